@@ -5,14 +5,13 @@ use Rattle.std.proofs.lemmas.List.Elements.{All-nil}
 use Rattle.std.specs.Global.{Vec}
 use Rattle.counted_io.specs.Streams.{Sink, HasWritten}
 use Rattle.counted_io.proofs.Streams.{written-none, faulted-more, written-failed_flush}
-use Rattle.properties_format.specs.Entries.{Content, comment, pair}
+use Rattle.properties_format.specs.Items.{Content, comment, pair}
 use Rattle.properties_format.specs.Writing.{Call, comment_call, pair_call, prefix_call, separator_call, flush_call, ascii_only_call, wrote, AreOfScalars}
 use Rattle.properties_format.specs.AsciiOnly.{AreAsciiOnly}
 use Rattle.properties_format.proofs.AsciiOnly.{wrote-ascii, AreItemsInBoth-wrote, begun-ascii, begun-line_ascii}
 use Rattle.java_properties.specs.PropertiesWriter.{Writing, WritesLine, Flushes, next_line}
 use Rattle.java_properties.specs.Calls.{HasMade, Fails, RunsCalls}
-use Rattle.java_properties.specs.ReadBack.{IsGoodWriter}
-use Rattle.java_properties.specs.AsciiOnly.{HasWrittenAscii, TakesAscii, WritesAscii}
+use Rattle.java_properties.specs.ReadBack.{IsGoodWriter, HasWrittenAscii, TakesAscii, WritesAscii}
 use Rattle.properties_items.specs.declared.error.PropertiesError.{PropertiesError}
 
 module _ {W : Type 0} {sink : Sink W} {old new : Writing W} where

@@ -9,9 +9,8 @@ use Rattle.std.proofs.lemmas.List.Elements.{All-nil, All-cons, All-head, All-tai
 use Rattle.std.proofs.lemmas.Str.{IsUtf8-between, encodes-chars}
 use Rattle.properties_format.specs.Text.{byte, scalar}
 use Rattle.properties_format.specs.Encoding.{windows_1252}
-use Rattle.properties_format.specs.Entries.{pair}
+use Rattle.properties_format.specs.Items.{pair, MeansPair, IsOutcome, given, broken}
 use Rattle.properties_format.specs.Escapes.{Means, means, IsMeaning, Spelling, spelling_character, spellings_before}
-use Rattle.properties_format.specs.Items.{MeansPair, IsOutcome, given, broken}
 use Rattle.properties_format.specs.Settings.{Settings}
 use Rattle.properties_format.specs.Split as split
 use Rattle.properties_format.specs.Split.{Logical, IsSplit}
@@ -19,16 +18,14 @@ use Rattle.properties_format.specs.Writing.{is_accepted, pair_call}
 use Rattle.properties_format.specs.Computed.Escapes.{meaning_of}
 use Rattle.properties_format.specs.Computed.Items.{outcome_of, split_outcome, comment_outcome, pair_outcome}
 use Rattle.properties_format.specs.Computed.Split.{split_of}
-use Rattle.properties_format.specs.Computed.Undecoded.{in_text}
 use Rattle.properties_format.proofs.Encodings.Characters.{pieces_of-scalar}
 use Rattle.properties_format.proofs.Escapes.Scalars.{means-scalars, rest-scalars}
 use Rattle.properties_format.proofs.Escapes.Unique.{meaning_of-empty, meaning_of-meets}
 use Rattle.properties_format.proofs.Items.Unique.{outcome_of-meets}
 use Rattle.properties_format.proofs.Split.Unique.{split_of-only}
-use Rattle.properties_format.proofs.Undecoded.{decodes, splits}
-use Rattle.properties_text.specs.Escaping.{malformed_in}
+use Rattle.properties_format.proofs.Undecoded.{decodes, splits, in_text}
+use Rattle.properties_text.specs.Escaping.{malformed_in, text_in, IsWell, Checks}
 use Rattle.properties_text.specs.Parsing.{bytes_in, spanned, in_characters, IsSpan, AreSpans, IsCommentAt, IsPairAt, AreInPlace, AreFoundInText}
-use Rattle.properties_text.specs.Spelt.{text_in, IsWell, Checks}
 use Rattle.properties_text.proofs.Spelt.Escapes.{no-text}
 use Rattle.properties_text.specs.declared.encoding.line.LineEncoding.{LineEncoding}
 use Rattle.properties_text.specs.declared.encoding.line.LineEncoding.TheVariants.{Windows1252, Utf8}
@@ -41,13 +38,13 @@ use Rattle.properties_text.specs.declared.parse.Span.{Span}
 use Rattle.properties_text.specs.PrintedTexts.{key_of, value_of}
 use Rattle.properties_text.specs.declared.print.Pair.{Pair}
 use Rattle.properties_items.specs.Errors.{IsUnresolvedError}
-use Rattle.properties_items.specs.FoundItems.{IsNoItem}
+use Rattle.properties_items.specs.BorrowedItems.{IsNoItem}
 use Rattle.properties_items.specs.declared.error.ErrorKind.{ErrorKind}
 use Rattle.properties_items.specs.declared.error.PropertiesError.{PropertiesError}
 use Rattle.properties_items.proofs.FoundItems.{blank-item}
 use Rattle.properties_items.proofs.Scalars.{chars-scalars}
 use Rattle.java_properties.specs.Copying.{HasScalars}
-use Rattle.java_properties.specs.Private.CopiedLines.{HasBuilt, IsNoPair, BuildsLine}
+use Rattle.java_properties.specs.Private.LineByLine.{HasBuilt, IsNoPair, BuildsLine}
 use Rattle.java_properties.specs.Private.Engine.{line_bytes, takes_span, BuildsPair, NumbersLine}
 use Rattle.java_properties.specs.declared.writer.engine.Engine.{Engine}
 

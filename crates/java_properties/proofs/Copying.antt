@@ -3,20 +3,19 @@ use Rattle.std.proofs.Common.{◌≡◌, ◌<◌, ◌^◌, ℕ, List, [], ◌++�
 use Rattle.std.specs.Prelude.{true, Option, None, Some, Result, Ok, Err}
 use Rattle.std.specs.declared.io.Error as io
 use Rattle.counted_io.specs.Streams.{Reader, Sink}
-use Rattle.properties_format.specs.Entries.{comment, pair}
-use Rattle.properties_format.specs.Items.{given}
+use Rattle.properties_format.specs.Items.{comment, pair, given}
 use Rattle.properties_format.specs.ItemsToCome.{ReaderState}
 use Rattle.properties_format.specs.Lines.{Line}
 use Rattle.properties_format.specs.Computed.Items.{outcome_of}
 use Rattle.properties_lines.specs.LineJoiner.{LineJoining, JoinsLine, JoinsNoLine}
 use Rattle.properties_lines.specs.declared.error.LineError.{LineError}
 use Rattle.properties_items.specs.Errors.{IsError, IsBareError, IsLineError, cause_of_write}
-use Rattle.properties_items.specs.FoundItems.{IsNoItem}
+use Rattle.properties_items.specs.BorrowedItems.{IsNoItem}
 use Rattle.properties_items.specs.declared.error.ErrorKind.{ErrorKind}
 use Rattle.properties_items.specs.declared.error.ErrorKind.TheVariants.{Io}
 use Rattle.properties_items.specs.declared.error.PropertiesError.{PropertiesError}
 use Rattle.java_properties.specs.Copying.{Copies, CopiesItem, HasScalars}
-use Rattle.java_properties.specs.Private.CopiedLines.{HasBuilt, IsNoPair}
+use Rattle.java_properties.specs.Private.LineByLine.{HasBuilt, IsNoPair}
 use Rattle.java_properties.specs.Private.Engine.{writing, SendsLine}
 use Rattle.java_properties.specs.PropertiesIter.{Iteration}
 use Rattle.java_properties.specs.PropertiesWriter.{Writing, WritesLine}

@@ -5,7 +5,7 @@ use Rattle.std.specs.declared.io.Error.{Error}
 use Rattle.counted_io.specs.Streams.{Sink, HasWritten, HasSentPart}
 use Rattle.std.specs.Str.{chars}
 use Rattle.properties_format.specs.Text.{line_ending_text, is_blanks}
-use Rattle.properties_format.specs.Entries.{Content, comment, pair}
+use Rattle.properties_format.specs.Items.{Content, comment, pair}
 use Rattle.properties_format.specs.Writing.{is_accepted}
 use Rattle.properties_format.specs.Printing.{encoded_text, printed_characters, printed_key, printed_value, written_value, in_prefix, in_comment, in_key_or_value}
 use Rattle.properties_format.proofs.Printing.Characters.{AreAscii, encoded_text-ascii, printed-comment, printed-pair}
@@ -18,7 +18,8 @@ use Rattle.properties_items.specs.declared.error.ErrorKind.TheVariants.{Io}
 use Rattle.properties_items.specs.declared.error.PropertiesError.{PropertiesError}
 use Rattle.java_properties.specs.Private.Engine.{writing, NumbersLine, SendsLine, repertoire_in, repertoire_of, line_bytes, comment_bytes, BuildsPair}
 use Rattle.properties_format.specs.Encoding.{Encoding, utf_8}
-use Rattle.properties_format.specs.Repertoire as meant
+use Rattle.properties_format.specs.Encoding as meant
+use Rattle.properties_format.specs.Settings.{repertoire_of as format_repertoire}
 use Rattle.properties_format.proofs.AsciiOnly.{printed_characters-ascii, printed_characters-same, printed_key-ascii, printed_key-same, printed_value-ascii, printed_value-same}
 use Rattle.properties_text.specs.Printing.{text_bytes, key_bytes, puts_of, value_bytes, place_of, in_format}
 use Rattle.properties_text.specs.PrintedTexts.{PrintsPair}
@@ -91,8 +92,8 @@ plain-chosen : (w : Engine) (value : List ℕ) → w.settings.readable ≡ false
 plain-chosen w value off =
     let e = line_of w.encoding in
     let s = w.settings in
-    let readable = printed_value (meant.repertoire_of e s) (is_blanks s.kv_separator) value in
-    let plain = printed_characters (meant.repertoire_of e s) in_key_or_value value in
+    let readable = printed_value (format_repertoire e s) (is_blanks s.kv_separator) value in
+    let plain = printed_characters (format_repertoire e s) in_key_or_value value in
     value-alike s.ascii_only w.encoding value ∙ ap (encoded_text e) (sym (cond-false s.readable readable plain off))
 
 -- and on
@@ -101,8 +102,8 @@ readable-chosen : (w : Engine) (value : List ℕ) → w.settings.readable ≡ tr
 readable-chosen w value on =
     let e = line_of w.encoding in
     let s = w.settings in
-    let readable = printed_value (meant.repertoire_of e s) (is_blanks s.kv_separator) value in
-    let plain = printed_characters (meant.repertoire_of e s) in_key_or_value value in
+    let readable = printed_value (format_repertoire e s) (is_blanks s.kv_separator) value in
+    let plain = printed_characters (format_repertoire e s) in_key_or_value value in
     readable-alike s.ascii_only w.encoding (is_blanks s.kv_separator) value ∙ ap (encoded_text e) (sym (cond-true s.readable readable plain on))
 
 -- ---- what is built in an empty buffer
@@ -112,8 +113,8 @@ pub comment-built : (w : Engine) (text cleared printed all ending : List ℕ) �
     → ending ≡ ending_bytes w → all ≡ printed ++ ending → all ≡ line_bytes w (comment text)
 comment-built w text cleared printed all ending h k m n =
     let e = line_of w.encoding in
-    let front = encoded_text e (printed_characters (meant.repertoire_of e w.settings) in_prefix w.settings.comment_prefix) in
-    let rest = encoded_text e (printed_characters (meant.repertoire_of e w.settings) in_comment text) in
+    let front = encoded_text e (printed_characters (format_repertoire e w.settings) in_prefix w.settings.comment_prefix) in
+    let rest = encoded_text e (printed_characters (format_repertoire e w.settings) in_comment text) in
     let prefix = text-alike w.settings.ascii_only w.encoding place.Prefix w.settings.comment_prefix in
     let body = text-alike w.settings.ascii_only w.encoding place.Comment text in
     rw (n, k, h, m, prefix, body, printed-comment e w.settings (w.lines == 0) text) (append_assoc front rest (ending_bytes w))

@@ -1,8 +1,7 @@
 -- Bytes have no more line endings than there are of them, so a slice never has as many lines as there are numbers.
 use Rattle.std.proofs.Common.{◌≡◌, ℕ, ◌+◌, ◌^◌, ◌≤◌, List, [], ◌∷◌, ◌++◌, length, refl, ap, inl, inr, append-nil, length-append, length-drop, arith}
 use Rattle.std.proofs.lemmas.Bool.{cases_Bool}
-use Rattle.properties_format.specs.Text.{LineEnding, lf, cr, crlf, line_ending_text}
-use Rattle.properties_format.specs.Pieces.{Piece, characters}
+use Rattle.properties_format.specs.Text.{LineEnding, lf, cr, crlf, line_ending_text, Piece, characters}
 use Rattle.properties_format.specs.Encoding.{Encoding, IsPieces, begins_with, byte_order_mark, utf_8, utf_8_bom, utf_16be_bom, utf_16le_bom}
 use Rattle.properties_format.specs.Lines.{Ended, Line, Lines, IsLines, fault, line_ends, numbered, put_together}
 use Rattle.properties_format.specs.Items.{last_entries}

@@ -6,8 +6,7 @@ use Rattle.std.proofs.lemmas.Str.{IsUtf8-nil, IsUtf8-from_is_utf8, is_utf8-from_
 use Rattle.properties_format.specs.Split.{IsSplit}
 use Rattle.properties_text.specs.Parsing.{in_characters, spanned}
 use Rattle.std.proofs.lemmas.Bool.{cases_Bool}
-use Rattle.properties_format.specs.Entries.{Content, item}
-use Rattle.properties_format.specs.Items.{Outcome, ignored, given, broken}
+use Rattle.properties_format.specs.Items.{Content, item, Outcome, ignored, given, broken}
 use Rattle.properties_format.specs.Computed.Items.{outcome_of, followed}
 use Rattle.counted_io.specs.Streams.{Reader, HasRead, has_ended}
 use Rattle.counted_io.proofs.Streams.{read-none, read-more, failed-more}
@@ -18,17 +17,15 @@ use Rattle.properties_format.proofs.ItemsToCome.Unique.{items_to_come-done}
 use Rattle.properties_format.proofs.ItemsToCome.Lines.{natural-done}
 use Rattle.properties_format.proofs.ItemsToCome.Divisions.{are_to_come, to_come_are, comes_first, lines_come_first, first_lines_come, natural_to_come-meets}
 use Rattle.properties_items.specs.Errors.{IsBareError, IsLineError}
-use Rattle.properties_items.specs.BorrowedItems.{found_entry, spans_of, IsFoundIn}
+use Rattle.properties_items.specs.BorrowedItems.{found_entry, spans_of, IsFoundIn, IsNoItem}
 use Rattle.properties_items.specs.declared.found.FoundContent.{FoundContent}
 use Rattle.properties_items.specs.declared.found.FoundContent.TheVariants as found
 use Rattle.properties_lines.specs.LineReader.{Passes}
 use Rattle.properties_lines.proofs.LineJoiner.{some-start, some-on, all-on, passes-on}
 use Rattle.properties_lines.specs.LineJoiner.{Joins, JoinsError, JoinsLine, Comes, LineState, LineJoining}
 use Rattle.properties_lines.specs.declared.error.LineError.{LineError}
-use Rattle.java_properties.specs.Borrowing.{ComeNext, IsSpelt}
+use Rattle.java_properties.specs.PropertiesIter.{ComeNext, IsSpelt, GivesItem, Gives, BreaksOff, GivesEntry, GivesNone, GivesError}
 use Rattle.java_properties.specs.Private.GivenItems.{as_text, in_utf_8, Owns}
-use Rattle.java_properties.specs.PropertiesIter.{GivesItem, Gives, BreaksOff, GivesEntry, GivesNone, GivesError}
-use Rattle.properties_items.specs.FoundItems.{IsNoItem}
 use Rattle.properties_items.specs.declared.error.ErrorKind.TheVariants.{Memory}
 use Rattle.properties_items.specs.declared.found.Found.{Found}
 use Rattle.properties_items.specs.declared.error.PropertiesError.{PropertiesError}

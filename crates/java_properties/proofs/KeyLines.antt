@@ -14,16 +14,14 @@ use Rattle.std.proofs.lemmas.List.{map-append}
 use Rattle.std.proofs.lemmas.Slice.Eq.{bytes_eq-Decides}
 use Rattle.counted_io.specs.Streams.{Reader}
 use Rattle.properties_format.specs.Encoding.{Encoding}
-use Rattle.properties_format.specs.Lines.{end, Line}
-use Rattle.properties_format.specs.Groups.{HasGroups, joined, first_number}
-use Rattle.properties_format.specs.Computed.Groups.{groups_in}
-use Rattle.properties_format.specs.Entries.{comment, pair}
+use Rattle.properties_format.specs.Lines.{end, Line, HasGroups, joined, first_number}
+use Rattle.properties_format.specs.Computed.Lines.{groups_in}
+use Rattle.properties_format.specs.Items.{comment, pair, Outcome, ignored, given, broken}
 use Rattle.properties_format.specs.Escapes as format
 use Rattle.properties_format.specs.Escapes.{not_enough_digits, not_hex, invalid_character}
-use Rattle.properties_format.specs.Items.{Outcome, ignored, given, broken}
 use Rattle.properties_format.specs.Computed.Items.{outcome_of}
 use Rattle.properties_format.specs.Computed.Found.{found_in}
-use Rattle.properties_format.specs.Computed.Parts.{outcome_key}
+use Rattle.properties_format.specs.Computed.Body.{outcome_key}
 use Rattle.properties_format.specs.ItemsToCome.{ReaderState, start}
 use Rattle.properties_format.proofs.Found.{found-in_groups, found-only, found_in-append}
 use Rattle.properties_format.proofs.Changed.Maps.{other-test}
@@ -34,12 +32,11 @@ use Rattle.properties_items.specs.declared.error.PropertiesError.{PropertiesErro
 use Rattle.properties_text.specs.Escaping.{malformed_in}
 use Rattle.properties_text.specs.declared.escape.Malformed.{Malformed}
 use Rattle.properties_text.specs.declared.escape.UnescapeError.TheVariants as unescape
-use Rattle.properties_items.specs.BorrowedItems.{found_content}
-use Rattle.properties_items.specs.FoundItems.{FindsIn, IsNoItem}
+use Rattle.properties_items.specs.BorrowedItems.{found_content, FindsIn, IsNoItem}
 use Rattle.properties_items.specs.declared.found.Found as found
 use Rattle.properties_items.proofs.FoundItems.{found-item}
 use Rattle.properties_items.proofs.TextMaps.Values.{at_chars-sorted, at_chars-updated}
-use Rattle.java_properties.specs.KeyLines.{KeyPlace, keys_from, HasNoKey, HasFirstNumber, KeyEntry, AreFirstsOf, AreKeyLines, key_line_entry, key_line_entries, FindsAllKeys}
+use Rattle.java_properties.specs.Findings.{KeyPlace, keys_from, HasNoKey, HasFirstNumber, KeyEntry, AreFirstsOf, AreKeyLines, key_line_entry, key_line_entries, FindsAllKeys}
 use Rattle.java_properties.specs.Private.LineByLine.{number_at, KeepsFirst, AddsKeyLine, AddsIfKey, PushesKey, Collected}
 use Rattle.properties_items.specs.declared.findings.KeyLine as code
 use Rattle.java_properties.proofs.MalformedEscapes.{collected-start, collected-next, collected-lines, collected-groups}
@@ -369,6 +366,8 @@ module _ {R Z : Type 0} {reader : Reader R} where
         bytes = bytes;
         read = h.collected.read;
         ended = h.collected.ended d;
-        are = subst (AreKeyLines e bytes) (sym h.entries) (groups-key_lines (collected-lines h.collected d));
-        only = λ others k. key_lines_of-only e bytes others k ∙ sym is;
+        has = record {
+          are = subst (AreKeyLines e bytes) (sym h.entries) (groups-key_lines (collected-lines h.collected d));
+          only = λ others k. key_lines_of-only e bytes others k ∙ sym is;
+        };
       })

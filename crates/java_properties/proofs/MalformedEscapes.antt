@@ -6,38 +6,33 @@ use Rattle.std.specs.Str.{chars}
 use Rattle.counted_io.specs.Streams.{Reader, has_ended}
 use Rattle.counted_io.proofs.Streams.{read-none, read-more, failed-more}
 use Rattle.properties_format.specs.Encoding.{Encoding}
-use Rattle.properties_format.specs.Lines.{InputEnd, end, fault, Line, line_ends, numbered_lines}
+use Rattle.properties_format.specs.Lines.{InputEnd, end, fault, Line, line_ends, numbered_lines, IsGroups, HasGroups, AreWhole, IsWhole, IsUnfinished, lines_in, joined, first_number}
 use Rattle.properties_format.specs.Computed.Encoding.{decoded_of}
-use Rattle.properties_format.specs.Computed.Lines.{lines_of}
-use Rattle.properties_format.specs.Groups.{IsGroups, HasGroups, AreWhole, IsWhole, IsUnfinished, lines_in, joined, first_number}
-use Rattle.properties_format.specs.Computed.Groups.{groups_of, groups_in}
+use Rattle.properties_format.specs.Computed.Lines.{lines_of, groups_of, groups_in}
 use Rattle.properties_format.specs.Escapes.{means}
 use Rattle.properties_format.specs.Split.{Logical, IsSplit}
 use Rattle.properties_format.specs.Computed.Escapes.{meaning_of}
 use Rattle.properties_format.specs.Computed.Split.{split_of}
 use Rattle.properties_format.proofs.Escapes.Laws.{meaning_of-plain}
 use Rattle.properties_format.proofs.Split.Unique.{split_of-meets, split_of-only}
-use Rattle.properties_format.specs.Items.{Outcome, ignored, given, broken}
-use Rattle.properties_format.specs.Entries.{Entry, read_fault}
+use Rattle.properties_format.specs.Items.{Outcome, ignored, given, broken, Entry, read_fault}
 use Rattle.properties_format.specs.Computed.Items.{comment_outcome, outcome_of, pair_outcome, split_outcome, followed, entries_of}
-use Rattle.properties_format.specs.ItemsToCome.{ReaderState, start}
+use Rattle.properties_format.specs.ItemsToCome.{ReaderState, IsLazyItems, start}
 use Rattle.properties_format.specs.Computed.ItemsToCome.{items_to_come, natural_to_come, last_to_come, text_to_come}
-use Rattle.properties_format.specs.MalformedEscapes as format
-use Rattle.properties_format.specs.MalformedEscapes.{escapes_from, AreMalformedEscapes}
-use Rattle.properties_format.specs.Computed.MalformedEscapes.{escapes_in, malformed_escapes_of}
-use Rattle.properties_format.specs.Found.{AreFound}
+use Rattle.properties_format.specs.Found as format
+use Rattle.properties_format.specs.Found.{escapes_from, AreMalformedEscapes, AreFound}
+use Rattle.properties_format.specs.Computed.Found.{escapes_in}
 use Rattle.properties_format.proofs.Groups.Meets.{groups_of-meets}
 use Rattle.properties_format.proofs.Groups.Input.{groups-of_lines, groups_in-only}
 use Rattle.properties_format.proofs.Found.{found-in_groups}
 use Rattle.properties_format.proofs.ItemsToCome.Lines.{natural-done}
-use Rattle.properties_format.proofs.MalformedEscapes.{malformed_escapes_of-meets, malformed_escapes_of-only, escapes_in-append, escapes_in-groups, natural-start, fault-last, cut-line}
+use Rattle.properties_format.proofs.MalformedEscapes.{malformed_escapes_of-meets, malformed_escapes_of-only, escapes_in-append, escapes_in-groups, natural-start, fault-last, cut-line, malformed_escapes_of}
 use Rattle.properties_lines.specs.LineReader.{Passes}
 use Rattle.properties_lines.specs.LineJoiner.{LineState, JoinsNext, JoinsError, JoinsFault, JoinsTooMany, JoinsNoRoom}
 use Rattle.properties_lines.specs.declared.error.LineError.{LineError}
 use Rattle.properties_lines.proofs.LineJoiner.{passes-start, passes-on, some-come, all-on}
-use Rattle.properties_text.specs.Escaping.{holds_backslash}
+use Rattle.properties_text.specs.Escaping.{holds_backslash, Checks}
 use Rattle.properties_text.specs.Parsing.{bytes_in, in_characters, spanned}
-use Rattle.properties_text.specs.Spelt.{Checks}
 use Rattle.properties_text.specs.declared.encoding.line.LineEncoding.TheVariants.{Utf8}
 use Rattle.properties_text.specs.declared.parse.ParsedSpans.{ParsedSpans}
 use Rattle.properties_text.specs.declared.parse.ParsedSpans.TheVariants as spans
@@ -45,11 +40,16 @@ use Rattle.properties_text.specs.declared.parse.Span.{Span}
 use Rattle.properties_text.proofs.Texts.Resolving.{holds-part, no_backslash}
 use Rattle.properties_text.specs.declared.escape.Malformed as escape
 use Rattle.properties_items.specs.Errors.{IsBareError, IsLineError}
-use Rattle.java_properties.specs.MalformedEscapes.{escape_record, escape_records, FindsAll, FailsToFind, StopsFinding, BeginsEscapes, FindsFirst, CompletesNone, FindsFirstMalformed}
+use Rattle.java_properties.specs.Findings.{escape_record, escape_records, FindsAll, FailsToFind, StopsFinding, BeginsEscapes, FindsFirst, CompletesNone, FindsFirstMalformed}
 use Rattle.java_properties.specs.Private.LineByLine.{ChecksLine, Collected, Found, FindsNextEscape}
 use Rattle.properties_items.specs.declared.error.ErrorKind.TheVariants as kind
 use Rattle.properties_items.specs.declared.error.PropertiesError.{PropertiesError}
 use Rattle.properties_items.specs.declared.findings.MalformedEscape.{MalformedEscape}
+
+-- Whatever was found before, no more was found.
+abbrev pub FindsNoMore : {R : Type 0} → Reader R → ReaderState → R → ReaderState → R → Type 0
+FindsNoMore {R} reader old from new to =
+    (e : Encoding) (begin : R) (found : List MalformedEscape) → Found reader e begin found old from → Found reader e begin found new to
 
 -- ---- groups
 
@@ -269,12 +269,14 @@ module _ {R : Type 0} {reader : Reader R} {e : Encoding} {from to : R} {s : Read
       let bytes = h.collected.bytes in
       rw same (record {
         bytes = bytes;
-        escapes = malformed_escapes_of e bytes;
         read = h.collected.read;
         ended = h.collected.ended d;
-        are = malformed_escapes_of-meets e bytes;
-        only = malformed_escapes_of-only e bytes;
-        is = h.escapes ∙ ap escape_records (escapes_in-groups e bytes h.groups (collected-lines h.collected d));
+        has = record {
+          escapes = malformed_escapes_of e bytes;
+          are = malformed_escapes_of-meets e bytes;
+          only = malformed_escapes_of-only e bytes;
+          is = h.escapes ∙ ap escape_records (escapes_in-groups e bytes h.groups (collected-lines h.collected d));
+        };
       })
 
   -- one escape came: it is the first one
@@ -300,7 +302,8 @@ module _ {R : Type 0} {reader : Reader R} {e : Encoding} {from to : R} {s : Read
 
   -- a read failed
   collected-fails : {next : R} {gs : List (List Line)} {why : LineError} {error : PropertiesError} → Collected reader e from gs s to → s.is_done ≡ false
-      → JoinsFault reader s to why next → IsLineError why error → FailsToFind reader e from error next
+      → JoinsFault reader (λ bytes ending entries. items_to_come s bytes ending ≡ entries) to why next → IsLineError why error
+      → FailsToFind reader e from error next
   collected-fails {gs = gs} h live f says = record {
     bytes = h.bytes ++ f.bytes;
     cause = f.error;
@@ -316,8 +319,9 @@ module _ {R : Type 0} {reader : Reader R} {e : Encoding} {from to : R} {s : Read
 
   -- there was no number for another line, or no memory
   collected-stops : {next : R} {gs : List (List Line)} {t : ReaderState} {why : LineError} {error : PropertiesError} → Collected reader e from gs s to
-      → s.is_done ≡ false → JoinsTooMany reader s to why t next ⊎ JoinsNoRoom reader s to why next → IsLineError why error
-      → StopsFinding reader e from error next
+      → s.is_done ≡ false
+      → JoinsTooMany reader (λ bytes. IsLazyItems s to bytes next) s to why t next ⊎ JoinsNoRoom reader (λ bytes. IsLazyItems s to bytes next) to why next
+      → IsLineError why error → StopsFinding reader e from error next
   collected-stops h live (inl f) says =
       record { bytes = h.bytes ++ f.bytes; read = read-more h.read f.read; is = inl (rw f.is at says, all-on (some-come h.passes live) f.passes) }
   collected-stops h live (inr f) says = record { bytes = h.bytes ++ f.bytes; read = read-more h.read f.read; is = inr (rw f.is at says) }

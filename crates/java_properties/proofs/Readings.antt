@@ -5,7 +5,7 @@ use Rattle.counted_io.specs.Streams.{Reader, HasRead, has_ended}
 use Rattle.counted_io.proofs.Streams.{read-none, read-more, failed-more}
 use Rattle.properties_format.specs.Encoding.{Encoding}
 use Rattle.properties_format.specs.Lines.{InputEnd, end, fault}
-use Rattle.properties_format.specs.Entries.{Entry}
+use Rattle.properties_format.specs.Items.{Entry}
 use Rattle.properties_format.specs.Computed.Items.{items_of}
 use Rattle.properties_format.specs.ItemsToCome.{ReaderState, start, PassesSome}
 use Rattle.properties_format.specs.Computed.ItemsToCome.{items_to_come}
@@ -18,7 +18,7 @@ use Rattle.properties_format.proofs.ItemsToCome.Unique.{items_to_come-start}
 use Rattle.properties_items.specs.Errors.{IsBareError}
 use Rattle.properties_lines.proofs.LineJoiner.{some-start, some-on, all-on}
 use Rattle.java_properties.specs.PropertiesIter.{entry_of, Gives, BreaksOff, GivesEntry, GivesNone, GivesError}
-use Rattle.java_properties.specs.ReadLines.{entries_in, IsReading, BeginsReading, ReadsWhole, ReadsUpTo, StopsEarly}
+use Rattle.java_properties.specs.ReadLines.{entries_in, IsReading, BeginsWith, ReadsWhole, ReadsUpTo, StopsEarly}
 use Rattle.properties_items.specs.declared.error.ErrorKind.TheVariants as kind
 use Rattle.properties_items.specs.declared.error.PropertiesError.{PropertiesError}
 use Rattle.properties_items.specs.declared.line.Line.{Line}
@@ -102,7 +102,7 @@ module _ {R : Type 0} {reader : Reader R} where
 
   -- what came before a line that was not read
   early : {e : Encoding} {from to : R} {r : List ℕ} {entries : List Entry} {s : ReaderState} → Collected reader e from r entries s to
-      → s.is_done ≡ false → (q : List ℕ) {at_end : Bool} → BeginsReading e (r ++ q) entries at_end
+      → s.is_done ≡ false → (q : List ℕ) {at_end : Bool} → BeginsWith (IsReading e) (r ++ q) entries at_end
   early {e} {s = s} h g q = inl (λ d ending. (items_to_come s (q ++ d) ending, reading-of e _ ending _ (live-after h g q d ending)))
 
   -- the items begin with those before a line that could not be kept

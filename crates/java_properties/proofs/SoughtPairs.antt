@@ -7,41 +7,37 @@ use Rattle.std.specs.Str.{chars}
 use Rattle.std.specs.declared.string.String.{String}
 use Rattle.counted_io.specs.Streams.{Reader, HasRead, has_ended}
 use Rattle.properties_format.specs.Encoding.{Encoding}
-use Rattle.properties_format.specs.Lines.{end, Line}
-use Rattle.properties_format.specs.Groups.{is_comment_line, lines_in, joined, first_number}
-use Rattle.properties_format.specs.Computed.Groups.{groups_of}
-use Rattle.properties_format.specs.Entries.{Content, comment, pair}
+use Rattle.properties_format.specs.Lines.{end, Line, is_comment_line, lines_in, joined, first_number}
+use Rattle.properties_format.specs.Computed.Lines.{groups_of}
+use Rattle.properties_format.specs.Items.{Content, comment, pair, Outcome, ignored, given, broken}
 use Rattle.properties_format.specs.Escapes.{Malformed, Meaning, means, breaks}
-use Rattle.properties_format.specs.Items.{Outcome, ignored, given, broken}
 use Rattle.properties_format.specs.Split.{Logical, IsSplit}
 use Rattle.properties_format.specs.Maps.{IsValue}
-use Rattle.properties_format.specs.MalformedEscapes as format
-use Rattle.properties_format.specs.MalformedEscapes.{escapes_from}
-use Rattle.properties_format.specs.EditedPairs.{AreInComments, EscapesAre, HasPairValue, IsFirstInPair, pair_from}
+use Rattle.properties_format.specs.Found as format
+use Rattle.properties_format.specs.Found.{escapes_from}
+use Rattle.properties_format.specs.Edits.{AreInComments, EscapesAre, HasPairValue, IsFirstInPair, pair_from}
 use Rattle.properties_format.specs.ItemsToCome.{ReaderState, start}
 use Rattle.properties_format.specs.Computed.Escapes.{meaning_of}
 use Rattle.properties_format.specs.Computed.Items.{comment_outcome, outcome_of, split_outcome}
 use Rattle.properties_format.specs.Computed.ItemsToCome.{natural_to_come}
-use Rattle.properties_format.specs.Computed.MalformedEscapes.{escapes_in}
-use Rattle.properties_format.specs.Computed.Maps.{first_value, value_in}
+use Rattle.properties_format.specs.Computed.Found.{escapes_in}
+use Rattle.properties_format.specs.Computed.Maps.{first_value}
 use Rattle.properties_format.specs.Computed.Split.{split_of}
 use Rattle.properties_format.proofs.Edits.PairValues.{pairs_in, pairs_in-push}
 use Rattle.properties_format.proofs.Found.{found-in_groups}
 use Rattle.properties_format.proofs.MalformedEscapes.{escapes_in-append, escapes-are}
-use Rattle.properties_format.proofs.Maps.{value_in-append, value_in-meets}
+use Rattle.properties_format.proofs.Maps.{value_in-append, value_in-meets, value_in}
 use Rattle.properties_format.proofs.Split.Unique.{split_of-meets}
 use Rattle.properties_format.proofs.Valued.Parts.{comment_line-no_pair}
 use Rattle.properties_lines.specs.LineReader.{Passes}
 use Rattle.properties_lines.specs.LineJoiner.{LineState, JoinsNext, JoinsError}
 use Rattle.properties_lines.specs.declared.error.LineError.{LineError}
 use Rattle.properties_items.specs.Errors.{IsLineError, IsMalformed}
-use Rattle.properties_items.specs.FoundItems.{IsNoItem}
+use Rattle.properties_items.specs.BorrowedItems.{IsNoItem}
 use Rattle.properties_items.specs.Texts.{characters}
 use Rattle.properties_items.specs.declared.error.PropertiesError.{PropertiesError}
-use Rattle.java_properties.specs.MalformedEscapes.{FailsToFind, StopsFinding}
-use Rattle.java_properties.specs.Values.{TellsPairValue}
-use Rattle.java_properties.specs.Private.LineByLine.{Collected}
-use Rattle.java_properties.specs.Private.SoughtValues.{TellsLineValue, value_after, value_through}
+use Rattle.java_properties.specs.Findings.{FailsToFind, StopsFinding, TellsPairValue}
+use Rattle.java_properties.specs.Private.LineByLine.{Collected, TellsLineValue, value_after, value_through}
 use Rattle.java_properties.proofs.MalformedEscapes.{collected-start, collected-next, collected-on, collected-lines, collected-error, collected-lost}
 use Rattle.java_properties.proofs.SliceReads.{collected-slice, slice_reader, slice-read, slice-whole, slice-faultless, slice-numbered}
 

@@ -8,23 +8,21 @@ use Rattle.std.specs.Io.KnownBytes.{Consumes}
 use Rattle.counted_io.specs.Streams.{Reader, has_ended}
 use Rattle.properties_format.specs.Edited.{IsFirstMalformed}
 use Rattle.properties_format.specs.Encoding.{Encoding}
-use Rattle.properties_format.specs.Entries.{Content, comment, pair, Entry, item, malformed, AreItems}
+use Rattle.properties_format.specs.Items.{Content, comment, pair, Entry, item, malformed, AreItems, IsItems}
 use Rattle.properties_format.specs.Escapes.{Malformed}
-use Rattle.properties_format.specs.Items.{IsItems}
 use Rattle.properties_format.specs.ItemsToCome.{ReaderState, start}
 use Rattle.properties_format.specs.Lines.{end}
 use Rattle.properties_format.specs.Maps.{HasValue, IsValue}
-use Rattle.properties_format.specs.Computed.Maps.{value_in}
-use Rattle.properties_format.proofs.Maps.{map-comment, map-meets, map-pair, value_in-only}
+use Rattle.properties_format.proofs.Maps.{map-comment, map-meets, map-pair, value_in-only, value_in}
 use Rattle.properties_items.specs.Errors.{IsBareError}
 use Rattle.properties_items.specs.Texts.{characters}
 use Rattle.properties_items.specs.declared.error.ErrorKind.TheVariants as kind
 use Rattle.properties_items.specs.declared.error.PropertiesError.{PropertiesError}
 use Rattle.java_properties.specs.Maps.{ReadsValue}
 use Rattle.java_properties.specs.ReadLines.{ReadsUpTo, StopsMalformed}
-use Rattle.java_properties.specs.Values.{TellsValue}
+use Rattle.java_properties.specs.Findings.{TellsValue}
 use Rattle.java_properties.specs.PropertiesIter.{GivesEntry, GivesNone, GivesError}
-use Rattle.java_properties.specs.Private.SoughtValues.{value_after}
+use Rattle.java_properties.specs.Private.LineByLine.{value_after}
 use Rattle.java_properties.proofs.Readings.{Collected, Comes, collected-start, collected-next, collected-none, collected-lost, collected-error}
 use Rattle.java_properties.proofs.SliceReads.{slice_of, slice_reader, slice-read, slice-whole, slice-faultless, slice-numbered}
 

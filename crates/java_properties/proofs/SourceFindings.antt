@@ -1,18 +1,15 @@
 -- What is found in a slice, which is read to its end and without a fault.
-use Rattle.std.proofs.Common.{ℕ, ◌+◌, ◌^◌, ◌<◌, List, length, sym, subst, inl, inr}
+use Rattle.std.proofs.Common.{ℕ, ◌+◌, ◌^◌, ◌<◌, List, length, subst, inl, inr}
 use Rattle.std.specs.Prelude.{◌⊎◌, Result, Ok, Err}
 use Rattle.std.specs.Borrow.{Bor}
 use Rattle.std.specs.declared.vec.Vec.{Vec}
 use Rattle.properties_format.specs.Encoding.{Encoding}
-use Rattle.properties_format.specs.MalformedEscapes.{AreMalformedEscapes}
 use Rattle.properties_items.specs.Errors.{IsBareError}
 use Rattle.properties_items.specs.declared.error.ErrorKind.TheVariants as kind
 use Rattle.properties_items.specs.declared.error.PropertiesError.{PropertiesError}
 use Rattle.properties_items.specs.declared.findings.KeyLine.{KeyLine}
 use Rattle.properties_items.specs.declared.findings.MalformedEscape.{MalformedEscape}
-use Rattle.java_properties.specs.KeyLines.{AreKeyLines, FindsKeys, key_line_entries}
-use Rattle.java_properties.specs.MalformedEscapes.{FailsToFind, FindsMalformed, StopsFinding}
-use Rattle.java_properties.specs.SourceFindings.{FindsKeysIn, FindsMalformedIn}
+use Rattle.java_properties.specs.Findings.{FindsKeys, FailsToFind, FindsMalformed, StopsFinding, FindsKeysIn, FindsMalformedIn, HasKeys, HasMalformed}
 use Rattle.java_properties.proofs.SliceReads.{slice_reader, slice-whole, slice-faultless, slice-numbered}
 
 -- It has a number for each of its lines, so an error can only be for want of memory.
@@ -28,22 +25,12 @@ slice-error e from to error small (inr h) = elim h.is [
 pub slice-malformed : {Z : Type 0} (e : Encoding) (from to : Bor (List ℕ)) (result : Result (Vec MalformedEscape Z) PropertiesError) → length from.now + 1 < 2 ^ 64
     → FindsMalformed slice_reader e from result to → FindsMalformedIn e from.now result
 slice-malformed e from to (Ok found) small h =
-    let same = slice-whole h.read h.ended in
-    record {
-      escapes = h.escapes;
-      are = subst (λ v. AreMalformedEscapes e v h.escapes) same h.are;
-      only = λ others k. h.only others (subst (λ v. AreMalformedEscapes e v others) (sym same) k);
-      is = h.is;
-    }
+    subst (λ v. HasMalformed e v found.items) (slice-whole h.read h.ended) h.has
 slice-malformed e from to (Err error) small h = slice-error e from to error small h
 
 -- And so are the keys.
 pub slice-keys : {Z : Type 0} (e : Encoding) (from to : Bor (List ℕ)) (result : Result (Vec KeyLine Z) PropertiesError) → length from.now + 1 < 2 ^ 64
     → FindsKeys slice_reader e from result to → FindsKeysIn e from.now result
 slice-keys e from to (Ok found) small h =
-    let same = slice-whole h.read h.ended in
-    record {
-      are = subst (λ v. AreKeyLines e v (key_line_entries found.items)) same h.are;
-      only = λ others k. h.only others (subst (λ v. AreKeyLines e v others) (sym same) k);
-    }
+    subst (λ v. HasKeys e v found.items) (slice-whole h.read h.ended) h.has
 slice-keys e from to (Err error) small h = slice-error e from to error small h

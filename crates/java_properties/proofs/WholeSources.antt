@@ -7,7 +7,7 @@ use Rattle.counted_io.specs.Faults.{HasRisen}
 use Rattle.counted_io.specs.Streams.{Reader, HasFailed}
 use Rattle.properties_format.specs.Encoding.{Encoding, InForce, byte_order_mark}
 use Rattle.properties_format.specs.Escapes.{Malformed, not_enough_digits, not_hex, invalid_character}
-use Rattle.properties_format.specs.Entries.{Entry}
+use Rattle.properties_format.specs.Items.{Entry}
 use Rattle.properties_format.specs.Lines as format
 use Rattle.properties_format.specs.Lines.{InputEnd}
 use Rattle.properties_format.specs.ItemsToCome.{ReaderState, start, in_force, AreLinesToCome, PassesAll}

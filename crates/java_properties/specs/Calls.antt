@@ -1,13 +1,13 @@
 -- Lists of a writer's calls, and the effect of making them.
-use Rattle.std.specs.Prelude.{◌≡◌, ◌⊎◌, Bool, true, false, if◌then◌else◌, List, [], ◌∷◌, ◌++◌, map, Result, Ok, Err, is_some, string_bytes, vec_items}
+use Rattle.std.specs.Prelude.{◌≡◌, ◌⊎◌, Bool, true, false, if◌then◌else◌, List, [], ◌∷◌, ◌++◌, map, Result, Ok, Err, is_some, string_bytes, vec_items, ℕ}
 use Rattle.std.specs.Global.{Vec}
 use Rattle.std.specs.Str.{chars}
-use Rattle.counted_io.specs.Streams.{Sink, HasWritten}
+use Rattle.counted_io.specs.Streams.{Sink, HasWritten, HasFaulted}
 use Rattle.properties_format.specs.Settings.{Settings}
-use Rattle.properties_format.specs.Entries.{comment, pair}
+use Rattle.properties_format.specs.Items.{comment, pair}
 use Rattle.properties_format.specs.Writing as format
 use Rattle.properties_items.specs.Errors.{kind_of, Refuses}
-use Rattle.properties_items.specs.LineEndings.{ending_of}
+use Rattle.properties_items.specs.Line.{ending_of}
 use Rattle.java_properties.specs.PropertiesWriter.{Writing, WritesLine, Flushes}
 use Rattle.properties_items.specs.declared.error.ErrorKind.{ErrorKind}
 use Rattle.properties_items.specs.declared.error.ErrorKind.TheVariants as kind
@@ -61,12 +61,8 @@ flushed_after s flushed (call ∷ calls) =
 abbrev pub MayMake : Bool → format.Call → Type 0
 MayMake failed (format.comment_call text) = failed ≡ false
 MayMake failed (format.pair_call key value) = failed ≡ false
-MayMake failed (format.prefix_call prefix) = Unit {0}
-MayMake failed (format.separator_call separator) = Unit {0}
-MayMake failed (format.ending_call ending) = Unit {0}
 MayMake failed format.flush_call = failed ≡ false
-MayMake failed (format.ascii_only_call on) = Unit {0}
-MayMake failed (format.readable_call on) = Unit {0}
+MayMake failed setting = Unit {0}
 
 abbrev pub MayMakeAll : Bool → List format.Call → Type 0
 MayMakeAll failed [] = Unit {0}
@@ -107,10 +103,8 @@ Fails sink old (format.comment_call text) error new = WritesLine sink old (comme
 Fails sink old (format.pair_call key value) error new = WritesLine sink old (pair key value) (Err error) new
 Fails sink old (format.prefix_call prefix) error new = Refuses kind.Memory old error new
 Fails sink old (format.separator_call separator) error new = Refuses kind.Memory old error new
-Fails sink old (format.ending_call ending) error new = ⊥
 Fails sink old format.flush_call error new = Flushes sink old (Err error) new
-Fails sink old (format.ascii_only_call on) error new = ⊥
-Fails sink old (format.readable_call on) error new = ⊥
+Fails sink old other error new = ⊥
 
 -- The call failed with an error other than those that mean that it was not accepted.
 pub record FailsInCall {W : Type 0} (sink : Sink W) (old : Writing W) (call : format.Call) (error : PropertiesError) (new : Writing W) : Type 0 where

@@ -2,7 +2,7 @@
 use Rattle.std.specs.Prelude.{◌≡◌, All, ℕ, true, false, List, Result, Ok, Err}
 use Rattle.counted_io.specs.Streams.{Reader, Sink}
 use Rattle.properties_format.specs.Text.{scalar}
-use Rattle.properties_format.specs.Entries.{Content, comment, pair, item}
+use Rattle.properties_format.specs.Items.{Content, comment, pair, item}
 use Rattle.java_properties.specs.PropertiesIter.{Iteration, GivesEntry, GivesNone, GivesError}
 use Rattle.java_properties.specs.PropertiesWriter.{Writing, WritesLine}
 use Rattle.properties_items.specs.declared.error.PropertiesError.{PropertiesError}

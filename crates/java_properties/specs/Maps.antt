@@ -1,5 +1,5 @@
 -- Maps of texts: the effects of reading and writing one. A map is seen as its entries, whatever its type.
-use Rattle.std.specs.Prelude.{◌≡◌, ◌⊎◌, ℕ, true, List, [], ◌∷◌, ◌++◌, map, Option, Result, Ok, Err, bytes_eq, string_bytes}
+use Rattle.std.specs.Prelude.{◌≡◌, ◌⊎◌, ℕ, List, [], ◌∷◌, ◌++◌, map, Option, Result, Ok, Err, bytes_eq, string_bytes, ◌+◌, length}
 use Rattle.std.specs.Str.{chars}
 use Rattle.std.specs.Borrow.{Bor}
 use Rattle.std.specs.HashMap.{HashMap}
@@ -11,18 +11,17 @@ use Rattle.std.specs.Cmp.Lexicographic.{slice_cmp}
 use Rattle.std.specs.declared.string.String.{String}
 use Rattle.counted_io.specs.Streams.{Reader, Sink, HasWritten}
 use Rattle.properties_format.specs.Encoding.{Encoding, windows_1252}
-use Rattle.properties_format.specs.Entries.{Entry}
+use Rattle.properties_format.specs.Items.{Entry, IsItems, pair}
 use Rattle.properties_format.specs.Lines.{end}
-use Rattle.properties_format.specs.Items.{IsItems}
 use Rattle.properties_format.specs.Maps.{HasValue, IsMap}
-use Rattle.properties_format.specs.Pairs.{Pair, items_after}
+use Rattle.properties_format.specs.Writing.{Pair, items_after, Call, pair_call, flush_call, wrote, AreAccepted, AreOfScalars}
 use Rattle.properties_format.specs.Settings.{default_settings}
-use Rattle.properties_format.specs.Writing.{Call, pair_call, flush_call, wrote}
-use Rattle.java_properties.specs.Calls.{StopsAtCall}
+use Rattle.java_properties.specs.Calls.{StopsAtCall, HasMade}
 use Rattle.properties_items.specs.Errors.{Refuses}
-use Rattle.java_properties.specs.PropertiesWriter.{Writing, new_writer}
-use Rattle.java_properties.specs.ReadBack.{IsReadBackBefore}
+use Rattle.java_properties.specs.PropertiesWriter.{Writing, new_writer, WritesLine}
+use Rattle.java_properties.specs.ReadBack.{IsReadBackBefore, IsGoodWriter, IsCleanWriting, IsReadBack}
 use Rattle.java_properties.specs.ReadLines.{entries_in, ReadsWhole, StopsReading}
+use Rattle.java_properties.specs.WholeSources.{PutsWhole}
 use Rattle.properties_items.specs.declared.error.ErrorKind.TheVariants as kind
 use Rattle.properties_items.specs.declared.error.PropertiesError.{PropertiesError}
 use Rattle.properties_items.specs.declared.line.Line.{Line}
@@ -87,37 +86,28 @@ call_for texts = pair_call (chars texts.0) (chars texts.1)
 abbrev pub calls_for : List Texts → List Call
 calls_for pairs = map call_for pairs
 
--- The lines of these pairs were written, in order, with the settings of a new writer, and the sink is flushed.
-pub record HasWrittenPairs {W : Type 0} (sink : Sink W) (a : Encoding) (pairs : List Texts) (old new : W) : Type 0 where
-  pub written : HasWritten sink old (wrote a default_settings 0 (calls_for pairs)) new
-  pub flushed : sink.is_flushed new ≡ true
-
 -- Writing stopped as it stops for a new writer that is asked to write these pairs in order and then to flush.
 pub record StopsInPairs {W : Type 0} (sink : Sink W) (a : Encoding) (pairs : List Texts) (old : W) (error : PropertiesError) (new : W) : Type 0 where
   pub writer : Writing W
   pub stops : StopsAtCall sink (new_writer a old) (calls_for pairs ++ (flush_call ∷ [])) error writer
   pub sink_after : new ≡ writer.sink
 
+-- The result of writing these pairs: their lines were written, in order, with the settings of a new writer, and the sink
+-- was flushed; or why that stopped.
 abbrev pub WritesPairs : {W : Type 0} → Sink W → Encoding → List Texts → W → Result Unit PropertiesError → W → Type 0
-WritesPairs sink a pairs old (Ok done) new = HasWrittenPairs sink a pairs old new
+WritesPairs sink a pairs old (Ok done) new = PutsWhole sink old (wrote a default_settings 0 (calls_for pairs)) new
 WritesPairs sink a pairs old (Err error) new = StopsInPairs sink a pairs old error new
 
--- The lines of the map's pairs were written, in the order of their keys.
-pub record HasWrittenMap {W Y Z : Type 0} (sink : Sink W) (a : Encoding) (entries : Entries Y Z) (old new : W) : Type 0 where
+-- The result of writing a map: its pairs were written, in the order of their keys, or why that stopped.
+pub record WritesEntries {W Y Z : Type 0} (sink : Sink W) (a : Encoding) (entries : Entries Y Z) (old : W) (result : Result Unit PropertiesError) (new : W) : Type 0 where
   pub pairs : List Texts
   pub in_order : AreInOrder entries pairs
-  pub writes : HasWrittenPairs sink a pairs old new
-
--- Writing the map's pairs stopped.
-pub record StopsInMap {W Y Z : Type 0} (sink : Sink W) (a : Encoding) (entries : Entries Y Z) (old : W) (error : PropertiesError) (new : W) : Type 0 where
-  pub pairs : List Texts
-  pub in_order : AreInOrder entries pairs
-  pub stops : StopsInPairs sink a pairs old error new
+  pub writes : WritesPairs sink a pairs old result new
 
 -- The effect of writing a map. If memory for sorting the pairs runs out, the sink is unchanged.
 abbrev pub WritesMap : {W Y Z : Type 0} → Sink W → Encoding → Entries Y Z → W → Result Unit PropertiesError → W → Type 0
-WritesMap sink a entries old (Ok done) new = HasWrittenMap sink a entries old new
-WritesMap sink a entries old (Err error) new = Refuses kind.Memory old error new ⊎ StopsInMap sink a entries old error new
+WritesMap sink a entries old (Ok done) new = WritesEntries sink a entries old (Ok done) new
+WritesMap sink a entries old (Err error) new = Refuses kind.Memory old error new ⊎ WritesEntries sink a entries old (Err error) new
 
 -- ---- reading what was written
 
@@ -156,3 +146,67 @@ pub record IsMapReadBackBefore {W Y Z : Type 0} (sink : Sink W) (a : Encoding) (
 abbrev pub MapReadsBack : {W Y Z : Type 0} → Sink W → Encoding → Entries Y Z → W → Result Unit PropertiesError → W → Type 0
 MapReadsBack sink a entries old (Ok done) new = IsMapReadBack sink a entries old new
 MapReadsBack sink a entries old (Err error) new = Refuses kind.Memory old error new ⊎ IsMapReadBackBefore sink a entries old error new
+
+-- ---- The lines of a map, which a writer with any settings writes after what it wrote before.
+
+-- Each of these pairs was accepted and written as one line, in order, and was counted. Nothing else changed.
+pub record HasWrittenLines {W : Type 0} (sink : Sink W) (old : Writing W) (pairs : List Texts) (new : Writing W) : Type 0 where
+  pub accepted : AreAccepted old.settings (map character_pair pairs)
+  pub made : HasMade sink old (calls_for pairs) new
+  pub after : new ≡ record old { sink = new.sink; lines = old.lines + length pairs }
+
+-- The line of one of the pairs was refused or failed, and those of the pairs before it were written.
+pub record StopsAtLine {W : Type 0} (sink : Sink W) (old : Writing W) (pairs : List Texts) (error : PropertiesError) (new : Writing W) : Type 0 where
+  pub before : List Texts
+  pub texts : Texts
+  pub others : List Texts
+  pub division : pairs ≡ before ++ (texts ∷ others)
+  pub middle : Writing W
+  pub written : HasWrittenLines sink old before middle
+  pub fails : WritesLine sink middle (pair (chars texts.0) (chars texts.1)) (Err error) new
+
+abbrev pub WritesLines : {W : Type 0} → Sink W → Writing W → List Texts → Result Unit PropertiesError → Writing W → Type 0
+WritesLines sink old pairs (Ok done) new = HasWrittenLines sink old pairs new
+WritesLines sink old pairs (Err error) new = StopsAtLine sink old pairs error new
+
+-- The effect of writing a map's pairs, in the order of their keys.
+pub record WritesMapLines {W Y Z : Type 0} (sink : Sink W) (old : Writing W) (entries : Entries Y Z) (result : Result Unit PropertiesError) (new : Writing W) : Type 0 where
+  pub pairs : List Texts
+  pub in_order : AreInOrder entries pairs
+  pub writes : WritesLines sink old pairs result new
+
+-- ---- reading what was written
+
+-- If no line was written before the map's, they read back as the map that was written.
+abbrev pub LinesReadBack : {W Y Z : Type 0} → Sink W → Writing W → Entries Y Z → Result Unit PropertiesError → Writing W → Type 0
+LinesReadBack sink old entries (Ok done) new = old.lines ≡ 0 → IsMapReadBack sink old.encoding entries old.sink new.sink
+LinesReadBack sink old entries (Err error) new = Unit {0}
+
+-- These calls made the one writer the other, and wrote cleanly.
+pub record IsWrittenCleanly {W : Type 0} (sink : Sink W) (first : Writing W) (calls : List Call) (old : Writing W) : Type 0 where
+  pub good : IsGoodWriter first
+  pub scalars : AreOfScalars calls
+  pub clean : IsCleanWriting first calls
+  pub made : HasMade sink first calls old
+
+-- What the calls wrote reads back, and after it the lines of the map's pairs.
+pub record AreAllReadBack {W Y Z : Type 0} (sink : Sink W) (first : Writing W) (calls : List Call) (entries : Entries Y Z) (new : Writing W) : Type 0 where
+  pub pairs : List Texts
+  pub in_order : AreInOrder entries pairs
+  pub read_back : IsReadBack sink first (calls ++ calls_for pairs) new
+
+-- The line of one of the map's pairs was refused or failed, and what was written before it reads back.
+pub record AreReadBackBefore {W Y Z : Type 0} (sink : Sink W) (first : Writing W) (calls : List Call) (entries : Entries Y Z) (error : PropertiesError) (new : Writing W) : Type 0 where
+  pub before : List Texts
+  pub texts : Texts
+  pub others : List Texts
+  pub in_order : AreInOrder entries (before ++ (texts ∷ others))
+  pub middle : Writing W
+  pub read_back : IsReadBack sink first (calls ++ calls_for before) middle
+  pub fails : WritesLine sink middle (pair (chars texts.0) (chars texts.1)) (Err error) new
+
+-- What was written before and what is written now read back together, one item a line, if all of it was written cleanly.
+abbrev pub LinesReadBackAfter : {W Y Z : Type 0} → Sink W → Writing W → Entries Y Z → Result Unit PropertiesError → Writing W → Type 0
+LinesReadBackAfter sink old entries (Ok done) new = (first : Writing _) (calls : List Call) → IsWrittenCleanly sink first calls old → AreAllReadBack sink first calls entries new
+LinesReadBackAfter sink old entries (Err error) new =
+    (first : Writing _) (calls : List Call) → IsWrittenCleanly sink first calls old → AreReadBackBefore sink first calls entries error new

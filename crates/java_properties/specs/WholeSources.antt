@@ -6,7 +6,7 @@ use Rattle.counted_io.specs.Streams.{Reader, HasRead, HasFailed, Sink, HasWritte
 use Rattle.properties_format.specs.Encoding.{Encoding}
 use Rattle.properties_format.specs.Lines.{InputEnd, fault}
 use Rattle.properties_format.specs.Escapes.{Malformed}
-use Rattle.properties_format.specs.Entries.{Entry, malformed, read_fault}
+use Rattle.properties_format.specs.Items.{Entry, malformed, read_fault}
 use Rattle.properties_format.specs.ItemsToCome.{start, PassesAll}
 use Rattle.properties_items.specs.Errors.{cause_of_write, IsError, IsBareError, IsMalformed, IsStreamError}
 use Rattle.java_properties.specs.ReadLines.{entries_in, IsReading, ReadsWhole, StopsReading}

@@ -3,9 +3,10 @@
 ghost use Rattle.std.specs.Prelude.{◌≡◌, true, None, All};
 ghost use Rattle.counted_io.specs.Streams.{IsSameReader, IsSameSink};
 ghost use Rattle.properties_format.specs.Text.{byte};
-ghost use Rattle.properties_text.specs.Spelt.{text_in, IsWell};
+ghost use Rattle.properties_text.specs.Escaping.{text_in, IsWell};
 ghost use Rattle.java_properties.specs.Copying.{error_in, Copies};
-ghost use Rattle.java_properties.specs.Private.CopiedLines.{iteration, BuildsLine};
+ghost use Rattle.java_properties.specs.Private.GivenItems.{as_text, iteration_of};
+ghost use Rattle.java_properties.specs.Private.LineByLine.{BuildsLine};
 ghost use Rattle.java_properties.specs.Private.Engine.{writing};
 
 use crate::iter::PropertiesIter;
@@ -93,9 +94,9 @@ fn copy_readable_lines<R: CountedRead, W: CountedWrite>(
 ) -> Result<(), CopyError>
     requires error { lines.old.error ≡ None }
     requires readable { engine.old.settings.readable ≡ true }
-    ensures copies { let start = iteration lines.old.at reader.old in
+    ensures copies { let start = iteration_of (as_text lines.old.at) reader.old in
         Copies R.CountedRead W.CountedWrite start (writing engine.old sink.old) result
-        (iteration lines.new.at reader.new) (writing engine.new sink.new) }
+        (iteration_of (as_text lines.new.at) reader.new) (writing engine.new sink.new) }
     ensures error { lines.new.error ≡ None }
     ensures same_reader { IsSameReader R.CountedRead reader.old reader.new }
     ensures same_sink { IsSameSink W.CountedWrite sink.old sink.new }
@@ -114,9 +115,9 @@ fn copy_lines<R: CountedRead, W: CountedWrite>(
 ) -> Result<(), CopyError>
     requires error { lines.old.error ≡ None }
     requires readable { engine.old.settings.readable ≡ readable }
-    ensures copies { let start = iteration lines.old.at reader.old in
+    ensures copies { let start = iteration_of (as_text lines.old.at) reader.old in
         Copies R.CountedRead W.CountedWrite start (writing engine.old sink.old) result
-        (iteration lines.new.at reader.new) (writing engine.new sink.new) }
+        (iteration_of (as_text lines.new.at) reader.new) (writing engine.new sink.new) }
     ensures error { lines.new.error ≡ None }
     ensures same_reader { IsSameReader R.CountedRead reader.old reader.new }
     ensures same_sink { IsSameSink W.CountedWrite sink.old sink.new }

@@ -8,8 +8,7 @@ ghost use Rattle.properties_format.specs.ItemsToCome.{start};
 ghost use Rattle.properties_text.specs.Encoding.{encoding_of};
 ghost use Rattle.properties_lines.specs.LineReader.{lines_left};
 ghost use Rattle.properties_items.specs.BorrowedItems.{borrowed_entry, found_entry, BorrowsPlain, IsFoundIn};
-ghost use Rattle.java_properties.specs.Borrowing.{AdvanceGives, NextRefGives};
-ghost use Rattle.java_properties.specs.PropertiesIter.{Iteration, NextGives};
+ghost use Rattle.java_properties.specs.PropertiesIter.{AdvanceGives, NextRefGives, Iteration, NextGives};
 
 mod escapes;
 pub(crate) mod items;

@@ -5,18 +5,14 @@
 //! [`run_calls`](crate::run_calls) state the same of a single run.
 
 ghost use Rattle.std.specs.Prelude.{ℕ, Bool, List};
-ghost use Rattle.properties_format.specs.Encoding.{Encoding, IsPieces, IsDecoded};
-ghost use Rattle.properties_format.specs.Repertoire.{Repertoire};
-ghost use Rattle.properties_format.specs.Lines.{InputEnd, Line, IsLines};
-ghost use Rattle.properties_format.specs.Groups.{IsGroups};
+ghost use Rattle.properties_format.specs.Encoding.{Encoding, IsPieces, IsDecoded, Repertoire};
+ghost use Rattle.properties_format.specs.Lines.{InputEnd, Line, IsLines, IsGroups};
 ghost use Rattle.properties_format.specs.Split.{IsSplit};
 ghost use Rattle.properties_format.specs.Escapes.{IsMeaning};
 ghost use Rattle.properties_format.specs.Settings.{Settings};
-ghost use Rattle.properties_format.specs.Writing.{Call};
-ghost use Rattle.properties_format.specs.Pairs.{Pair};
+ghost use Rattle.properties_format.specs.Writing.{Call, Pair};
 ghost use Rattle.properties_format.specs.Laws.{HasOne, HasOneReading, ReadingInvertsWriting, EqualBytesOfEqualPairs, WritingAnewChangesNothing, MapIsReadBack, SplittingCommutes, LineEndsSeparatePieces};
-ghost use Rattle.properties_format.specs.Converting.{ConvertingKeepsItems, ConvertingKeepsLogicalLines, ConvertingKeepsEndings, ConvertsToOne, ConvertingGivesAscii};
-ghost use Rattle.properties_format.specs.Converting.{ConvertingTwiceIsConvertingOnce, ReadableAnyway, KeptIsItself, AsciiIsItself};
+ghost use Rattle.properties_format.specs.Converting.{ConvertingKeepsItems, ConvertingKeepsLogicalLines, ConvertingKeepsEndings, ConvertsToOne, ConvertingGivesAscii, ConvertingTwiceIsConvertingOnce, ReadableAnyway, KeptIsItself, AsciiIsItself};
 ghost use Rattle.java_properties.specs.ReadBack.{IsGoodWriter};
 
 use crate::writer::PropertiesWriter;

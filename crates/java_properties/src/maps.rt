@@ -8,8 +8,7 @@ ghost use Rattle.counted_io.specs.Streams.{IsSameReader, IsSameSink};
 ghost use Rattle.properties_format.specs.Encoding.{output_encoding, windows_1252};
 ghost use Rattle.properties_text.specs.Encoding.{encoding_of, line_of};
 ghost use Rattle.properties_items.specs.Texts.{characters, Entries};
-ghost use Rattle.java_properties.specs.Maps.{texts_of, HasPut, ReadsEntries, ReadsMap, ReadsSorted, WritesPairs, WritesMap, MapReadsBack};
-ghost use Rattle.java_properties.specs.MapLines.{WritesMapLines, LinesReadBack, LinesReadBackAfter};
+ghost use Rattle.java_properties.specs.Maps.{texts_of, HasPut, ReadsEntries, ReadsMap, ReadsSorted, WritesPairs, WritesMap, MapReadsBack, WritesMapLines, LinesReadBack, LinesReadBackAfter};
 
 use crate::iter::items::ItemReader;
 use crate::laws;

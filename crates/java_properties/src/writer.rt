@@ -4,7 +4,7 @@ ghost use Rattle.std.specs.Prelude.{◌≡◌, IsOkAnd};
 ghost use Rattle.std.specs.Str.{chars};
 ghost use Rattle.counted_io.specs.Streams.{IsSameSink};
 ghost use Rattle.properties_format.specs.Encoding.{windows_1252, output_encoding};
-ghost use Rattle.properties_format.specs.Entries as entry;
+ghost use Rattle.properties_format.specs.Items as entry;
 ghost use Rattle.properties_text.specs.Encoding.{encoding_of};
 ghost use Rattle.java_properties.specs.PropertiesWriter.{new_writer, WritesLine, Flushes, SetsPrefix, SetsSeparator, SetsEnding, SetsAsciiOnly, SetsReadable};
 

@@ -1,6 +1,6 @@
 -- The items that logical lines are.
 use Rattle.std.proofs.Common.{◌≡◌, ◌==◌, ℕ, true, List, [], length, refl, sym, inl, inr}
-use Rattle.std.specs.Prelude.{Option, Some, None}
+use Rattle.std.specs.Prelude.{Option, Some, None, Ok}
 use Rattle.std.specs.Str.{chars}
 use Rattle.std.proofs.lemmas.Bool.{eqb-true}
 use Rattle.std.proofs.lemmas.List.{nil_from_length}
@@ -15,9 +15,8 @@ use Rattle.properties_text.specs.Escaping.{malformed_in, IsRefused}
 use Rattle.properties_text.specs.declared.escape.UnescapeError.{UnescapeError}
 use Rattle.properties_text.specs.declared.escape.UnescapeError.TheVariants as unescape
 use Rattle.properties_items.specs.Errors.{IsUnresolvedError}
-use Rattle.properties_items.specs.BorrowedItems.{found_content, spans_of, AreTextsIn, IsFoundIn}
+use Rattle.properties_items.specs.BorrowedItems.{found_content, spans_of, AreTextsIn, IsFoundIn, FindsIn, IsNoItem}
 use Rattle.properties_text.specs.Parsing.{spanned, in_characters}
-use Rattle.properties_items.specs.FoundItems.{FindsPlain, IsNoItem}
 use Rattle.properties_items.specs.declared.found.Found.{Found}
 use Rattle.properties_items.specs.declared.found.FoundContent.{FoundContent}
 use Rattle.properties_items.specs.declared.found.FoundContent.TheVariants as found
@@ -49,7 +48,7 @@ pub found-item : (line : List ℕ) (f : Found) → IsFoundIn line f → outcome_
 found-item line f h = content-item line f.content h.slices h.texts
 
 -- a line of which nothing plain was found is blank
-pub plain-blank : (line : List ℕ) (number : ℕ) (answer : Option Found) → FindsPlain line number answer → ((f : Found) → answer ≡ Some f → ⊥)
+pub plain-blank : (line : List ℕ) (number : ℕ) (answer : Option Found) → FindsIn line number (Ok answer) → ((f : Found) → answer ≡ Some f → ⊥)
     → outcome_of (chars line) ≡ ignored
 plain-blank line number (Some f) h k = absurd (k f refl)
 plain-blank line number None h k = h

@@ -1,35 +1,53 @@
 -- Borrowed items as contracts see them, and what is found of them before they are borrowed.
-use Rattle.std.specs.Prelude.{◌≡◌, ℕ, Bool, true, false, not, List, Option, Some, None, Result, Ok, Err}
-use Rattle.std.specs.Option.{is_some}
+use Rattle.std.specs.Prelude.{◌≡◌, ◌⊎◌, ℕ, List, Option, Some, None, Result, Ok, Err, Bool, true, false, not}
 use Rattle.std.specs.Str.{chars}
-use Rattle.std.specs.String.{string_bytes}
-use Rattle.std.specs.Cow.{cow_str_bytes}
-use Rattle.std.specs.declared.borrow.CowStr.{CowStr}
-use Rattle.std.specs.declared.borrow.CowStr.TheVariants.{Borrowed, Owned}
-use Rattle.std.specs.declared.string.String.{String}
-use Rattle.properties_format.specs.Entries as entry
-use Rattle.properties_format.specs.Entries.{Content, Entry, item}
-use Rattle.properties_format.specs.Escapes.{Means}
-use Rattle.properties_format.specs.Split as split
-use Rattle.properties_format.specs.Split.{IsSplit}
-use Rattle.properties_items.specs.Errors.{IsBareError}
-use Rattle.properties_text.specs.Escaping.{holds_backslash}
-use Rattle.properties_items.specs.Line.{number_of, content_of}
+use Rattle.properties_format.specs.Escapes.{Malformed, Means}
+use Rattle.properties_format.specs.Items.{ignored, broken, Outcome, given, comment, pair, Content, Entry, item}
+use Rattle.properties_format.specs.Computed.Items.{outcome_of}
+use Rattle.properties_items.specs.Errors.{IsBareError, IsMalformed, IsUnresolvedError}
+use Rattle.properties_text.specs.Escaping.{IsRefused, holds_backslash}
 use Rattle.properties_text.specs.Parsing.{bytes_in, spanned, in_characters, IsSpan}
+use Rattle.properties_text.specs.declared.escape.UnescapeError.{UnescapeError}
+use Rattle.properties_text.specs.declared.parse.ParsedSpans.{ParsedSpans}
+use Rattle.properties_text.specs.declared.parse.Span.{Span}
 use Rattle.properties_items.specs.declared.error.ErrorKind.TheVariants as kind
 use Rattle.properties_items.specs.declared.error.PropertiesError.{PropertiesError}
 use Rattle.properties_items.specs.declared.found.Found.{Found}
 use Rattle.properties_items.specs.declared.found.FoundContent.{FoundContent}
-use Rattle.properties_items.specs.declared.found.FoundContent.TheVariants as found
 use Rattle.properties_items.specs.declared.found.FoundText.{FoundText}
+use Rattle.std.specs.declared.string.String.{String}
+use Rattle.properties_items.specs.Texts.{characters}
+use Rattle.std.specs.Option.{is_some}
+use Rattle.std.specs.String.{string_bytes}
+use Rattle.std.specs.Cow.{cow_str_bytes}
+use Rattle.std.specs.declared.borrow.CowStr.{CowStr}
+use Rattle.std.specs.declared.borrow.CowStr.TheVariants.{Borrowed, Owned}
+use Rattle.properties_format.specs.Items as entry
+use Rattle.properties_format.specs.Split as split
+use Rattle.properties_format.specs.Split.{IsSplit}
+use Rattle.properties_items.specs.Line.{number_of, content_of}
+use Rattle.properties_items.specs.declared.found.FoundContent.TheVariants as found
 use Rattle.properties_items.specs.declared.borrowed.ContentRef.{ContentRef}
 use Rattle.properties_items.specs.declared.borrowed.ContentRef.TheVariants as borrowed
 use Rattle.properties_items.specs.declared.borrowed.LineRef.{LineRef}
 use Rattle.properties_items.specs.declared.line.Line.{Line}
 use Rattle.properties_items.specs.declared.line.LineContent.{LineContent}
 use Rattle.properties_items.specs.declared.line.LineContent.TheVariants as own
-use Rattle.properties_text.specs.declared.parse.ParsedSpans.{ParsedSpans}
 use Rattle.properties_text.specs.declared.parse.ParsedSpans.TheVariants as spans
+
+-- Why a logical line has no item: its escapes are malformed, or memory ran out.
+abbrev pub IsNoItem : ℕ → List ℕ → PropertiesError → Type 0
+IsNoItem number text e =
+    ((kind : Malformed) × (outcome_of text ≡ broken kind) × IsMalformed kind number e) ⊎ IsBareError kind.Memory e
+
+-- the pair that a logical line is, if it is one
+abbrev pub outcome_pair : Outcome → Option (List ℕ × List ℕ)
+outcome_pair (given (pair key value)) = Some (key, value)
+outcome_pair other = None
+
+-- the characters of a key and of its value
+abbrev pub pair_characters : {Y Z : Type 0} → String Y × String Z → List ℕ × List ℕ
+pair_characters p = (characters p.0, characters p.1)
 
 -- ---- borrowed items
 
@@ -55,10 +73,9 @@ BorrowsPlain line (borrowed.KVPair key value) =
 -- The texts of an item equal those of a borrowed item.
 abbrev pub IsCopyOf : ContentRef → LineContent → Type 0
 IsCopyOf (borrowed.Comment text) (own.Comment copy) = string_bytes copy ≡ cow_str_bytes text
-IsCopyOf (borrowed.Comment text) (own.KVPair key value) = ⊥
-IsCopyOf (borrowed.KVPair key value) (own.Comment copy) = ⊥
 IsCopyOf (borrowed.KVPair key value) (own.KVPair key_copy value_copy) =
     (string_bytes key_copy ≡ cow_str_bytes key) × (string_bytes value_copy ≡ cow_str_bytes value)
+IsCopyOf content other = ⊥
 
 -- The owned copy of a borrowed item; or memory ran out.
 abbrev pub IsLineOf : LineRef → Result Line PropertiesError → Type 0
@@ -105,3 +122,28 @@ AreTextsIn line (found.KVPair key value) = IsTextIn line key × IsTextIn line va
 pub record IsFoundIn (line : List ℕ) (found : Found) : Type 0 where
   pub slices : IsSplit (chars line) (in_characters (spanned line (Some (spans_of found.content))))
   pub texts : AreTextsIn line found.content
+
+-- ---- the result of finding it
+
+-- The text of this span of the line; or why it can't be resolved.
+abbrev pub FindsText : List ℕ → Span → Result FoundText UnescapeError → Type 0
+FindsText line span (Ok text) = (text.span ≡ span) × IsTextIn line text
+FindsText line span (Err e) = IsRefused (chars (bytes_in line span)) e
+
+-- The texts of these spans of the line; or why they can't be resolved, whatever the line's number. In a pair, a
+-- malformed key is reported before a malformed value.
+abbrev pub FindsContent : List ℕ → ParsedSpans → Result FoundContent UnescapeError → Type 0
+FindsContent line spans (Ok content) = (spans_of content ≡ spans) × AreTextsIn line content
+FindsContent line spans (Err e) = (number : ℕ) (error : PropertiesError) → IsUnresolvedError e number error → IsNoItem number (chars line) error
+
+-- What was found in a logical line, or `None` if it is blank; or why its texts can't be resolved, whatever its number.
+abbrev pub FindsIn : List ℕ → ℕ → Result (Option Found) UnescapeError → Type 0
+FindsIn line number (Ok None) = outcome_of (chars line) ≡ ignored
+FindsIn line number (Ok (Some found)) = (found.line_number ≡ number) × IsFoundIn line found
+FindsIn line number (Err e) = (number : ℕ) (error : PropertiesError) → IsUnresolvedError e number error → IsNoItem number (chars line) error
+
+-- What was found in a logical line, or `None` if it is blank; or the error of the line with this number.
+abbrev pub FindsItem : List ℕ → ℕ → Result (Option Found) PropertiesError → Type 0
+FindsItem line number (Ok None) = outcome_of (chars line) ≡ ignored
+FindsItem line number (Ok (Some found)) = IsFoundIn line found
+FindsItem line number (Err e) = IsNoItem number (chars line) e

@@ -46,16 +46,7 @@ IsReason e (reason.Kind kind) = (kind ≡ kind_of e) × (refused_of e ≡ None) 
 
 abbrev pub is_io : ErrorKind → Bool
 is_io kind.Io = true
-is_io kind.NotEnoughDigits = false
-is_io kind.NotHex = false
-is_io kind.InvalidCharacter = false
-is_io kind.BadCommentPrefix = false
-is_io kind.BadKvSeparator = false
-is_io kind.EmptyKey = false
-is_io kind.TooManyLines = false
-is_io kind.Failed = false
-is_io kind.Memory = false
-is_io kind.Unsupported = false
+is_io other = false
 
 -- the line of an error of this kind in messages
 abbrev pub line_of_kind : ErrorKind → Option ℕ → Option ℕ
@@ -94,9 +85,8 @@ cause_of_write (Option.Some source) = cause.Io source
 
 -- the same cause, but with this stream's error if the cause is a stream's error
 abbrev pub cause_by : Error → Cause → Cause
-cause_by source cause.None = cause.None
 cause_by source (cause.Io given) = cause.Io source
-cause_by source cause.NotHex = cause.NotHex
+cause_by source other = other
 
 -- the kind of error for a malformed escape, and its cause
 abbrev pub malformed_kind : Malformed → ErrorKind
@@ -105,9 +95,8 @@ malformed_kind not_hex = kind.NotHex
 malformed_kind invalid_character = kind.InvalidCharacter
 
 abbrev pub malformed_cause : Malformed → Cause
-malformed_cause not_enough_digits = cause.None
 malformed_cause not_hex = cause.NotHex
-malformed_cause invalid_character = cause.None
+malformed_cause other = cause.None
 
 -- An escape in this line is malformed in this way.
 abbrev pub IsMalformed : Malformed → ℕ → PropertiesError → Type 0

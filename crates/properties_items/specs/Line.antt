@@ -5,13 +5,14 @@ use Rattle.std.specs.String.{string_bytes}
 use Rattle.std.specs.Ordering.{nat_cmp, on, then_cmp}
 use Rattle.std.specs.declared.cmp.Ordering.{Ordering}
 use Rattle.std.specs.Cmp.Lexicographic.{slice_cmp}
-use Rattle.properties_format.specs.Entries as entry
-use Rattle.properties_format.specs.Entries.{Content, Entry, item}
+use Rattle.properties_format.specs.Items as entry
+use Rattle.properties_format.specs.Items.{Content, Entry, item}
 use Rattle.properties_items.specs.declared.line.LineContent.{LineContent}
 use Rattle.properties_items.specs.declared.line.LineContent.TheVariants.{Comment, KVPair}
 use Rattle.properties_items.specs.declared.line.Line.{Line}
 use Rattle.properties_items.specs.declared.line.LineEnding.{LineEnding}
 use Rattle.properties_items.specs.declared.line.LineEnding.TheVariants.{CR, LF, CRLF}
+use Rattle.properties_format.specs.Text as text
 
 -- the number of the line that the item begins in
 abbrev pub number_of : Line → ℕ
@@ -58,3 +59,11 @@ abbrev pub ending_place : LineEnding → ℕ
 ending_place CR = 0
 ending_place LF = 1
 ending_place CRLF = 2
+
+-- ---- Line endings.
+
+-- the line ending that the code's value represents
+abbrev pub ending_of : LineEnding → text.LineEnding
+ending_of CR = text.cr
+ending_of LF = text.lf
+ending_of CRLF = text.crlf

@@ -5,7 +5,7 @@ ghost use Rattle.std.specs.Str.{chars};
 ghost use Rattle.std.specs.String.{string_bytes};
 ghost use Rattle.properties_items.specs.Errors.{kind_of, line_of, cause_of, IsError, IsBareError, IsLineError, IsStreamError, RefusesText, IsReason, message_line, IsAt};
 ghost use Rattle.properties_items.specs.DisplayTexts.{at_display, description, cause_display, error_display, reason_display};
-ghost use Rattle.properties_items.specs.declared.error.ErrorKind.TheVariants.{Io, Memory};
+ghost use Rattle.properties_items.specs.declared.error.ErrorKind.TheVariants.{Memory};
 
 pub mod make;
 
@@ -192,14 +192,13 @@ impl PropertiesError {
         }
     }
 
-    // A stream failed, in the line with this number if one is given.
-    fn io(line_number: Option<usize>, cause: Cause) -> PropertiesError
-        ensures { IsError Io line_number cause result }
+    fn caused(kind: ErrorKind, line_number: Option<usize>, cause: Cause) -> PropertiesError
+        ensures { IsError kind line_number cause result }
     {
         PropertiesError {
             line_number,
             cause,
-            ..PropertiesError::bare(ErrorKind::Io)
+            ..PropertiesError::bare(kind)
         }
     }
 
@@ -228,12 +227,7 @@ impl From<io::Error> for PropertiesError {
     ghost from_gives = { λ error e. IsStreamError None error e };
 
     fn from(error: io::Error) -> PropertiesError {
-        PropertiesError {
-            kind: ErrorKind::Io,
-            line_number: None,
-            cause: Cause::Io(error),
-            refused: None,
-        }
+        PropertiesError::caused(ErrorKind::Io, None, Cause::Io(error))
     }
 }
 
@@ -243,7 +237,7 @@ impl From<LineError> for PropertiesError {
     fn from(error: LineError) -> PropertiesError {
         match error {
             LineError::Io(line_number, error) => {
-                PropertiesError::io(Some(line_number), Cause::Io(error))
+                PropertiesError::caused(ErrorKind::Io, Some(line_number), Cause::Io(error))
             }
             LineError::TooManyLines => PropertiesError::bare(ErrorKind::TooManyLines),
             LineError::Memory => PropertiesError::bare(ErrorKind::Memory),

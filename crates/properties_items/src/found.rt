@@ -1,18 +1,17 @@
 // Items that are found but not yet borrowed. A found item borrows nothing, so reading can continue while it is held.
 
-ghost use Rattle.std.specs.Prelude.{◌≡◌, Some, None, false, not, bytes_eq, IfOk};
+ghost use Rattle.std.specs.Prelude.{◌≡◌, Some, None, false, not, bytes_eq, IfOk, Ok};
 ghost use Rattle.std.specs.Option.{is_some, option_map};
 ghost use Rattle.std.specs.Str.{chars};
 ghost use Rattle.std.specs.Cow.{cow_str_bytes};
 ghost use Rattle.properties_text.specs.Parsing.{AreSpans, IsSpan, in_characters, spanned};
 ghost use Rattle.properties_format.specs.Items.{given};
-ghost use Rattle.properties_format.specs.Computed.Parts.{outcome_key};
+ghost use Rattle.properties_format.specs.Computed.Body.{outcome_key};
 ghost use Rattle.properties_items.specs.Line.{entry_of};
 ghost use Rattle.properties_items.specs.Texts.{characters};
-ghost use Rattle.properties_items.specs.FoundItems.{pair_characters, outcome_pair, FindsItem, FindsText, FindsContent, FindsIn, FindsPlain};
+ghost use Rattle.properties_items.specs.BorrowedItems.{pair_characters, outcome_pair, FindsItem, FindsText, FindsContent, FindsIn, borrowed_entry, borrowed_content, is_borrowed, BorrowsPlain, found_bytes, found_content, found_entry, AreTextsIn, spans_of, IsFoundIn, IsTextIn};
 ghost use Rattle.properties_format.specs.Split.{IsSplit};
 ghost use Rattle.properties_text.specs.Escaping.{holds_backslash};
-ghost use Rattle.properties_items.specs.BorrowedItems.{borrowed_entry, borrowed_content, is_borrowed, BorrowsPlain, found_bytes, found_content, found_entry, AreTextsIn, spans_of, IsFoundIn, IsTextIn};
 
 use crate::borrowed::{ContentRef, LineRef};
 use crate::error::{PropertiesError, make};
@@ -22,7 +21,7 @@ use properties_text::parse::{ParsedSpans, Span, parse_spans};
 use std::alloc::{AllocError, Global};
 use std::borrow::CowStr;
 
-/// An item as positions in the logical line that an iterator keeps. `get` borrows it.
+/// An item that was found in the logical line that an iterator keeps, to be passed to `get`.
 ///
 /// It borrows nothing. It holds the positions of the texts in the line that the iterator keeps, and the texts whose
 /// escapes had to be resolved.
@@ -91,7 +90,7 @@ pub fn find_escaped(
 #[inline(always)]
 pub fn find_plain(line_number: usize, line: &str) -> Option<Found>
     requires { holds_backslash (chars line.now) ≡ false }
-    ensures { FindsPlain line.now line_number result }
+    ensures { FindsIn line.now line_number (Ok result) }
 {
     if line.is_empty() {
         return None;

@@ -1,11 +1,10 @@
 // Comments and pairs with their line numbers, and what ends lines.
 
 ghost use Rattle.std.specs.Prelude.{◌≡◌};
-ghost use Rattle.properties_items.specs.Line.{number_of, content_of};
+ghost use Rattle.properties_items.specs.Line.{number_of, content_of, ending_of};
 ghost use Rattle.properties_items.specs.DisplayTexts.{content_display, line_display};
 ghost use Rattle.std.specs.Str.{chars};
 ghost use Rattle.properties_format.specs.Text.{line_ending_text};
-ghost use Rattle.properties_items.specs.LineEndings.{ending_of};
 
 use std::fmt;
 

@@ -1,24 +1,20 @@
 -- Calls that were made, one after another.
-use Rattle.std.proofs.Common.{◌≡◌, Bool, true, false, ℕ, List, [], ◌∷◌, ◌++◌, refl, ap, sym, ◌∙◌, append-nil, cond, subst, ◌+◌, ◌<◌, ◌≤◌, zero, suc}
-use Rattle.std.proofs.Common.{length, take, drop, get_or, add-one, arith, inl, inr}
+use Rattle.std.proofs.Common.{◌≡◌, Bool, true, false, ℕ, List, [], ◌∷◌, ◌++◌, refl, ap, sym, ◌∙◌, append-nil, cond, subst, ◌+◌, ◌<◌, ◌≤◌, zero, suc, length, take, drop, get_or, add-one, arith, inl, inr}
 use Rattle.std.specs.Prelude.{Some, None, is_some, map, Result, Ok, Err}
 use Rattle.counted_io.specs.Streams.{Sink}
 use Rattle.counted_io.proofs.Streams.{written-none, written-more}
-use Rattle.properties_format.specs.Entries.{Content, pair}
+use Rattle.properties_format.specs.Items.{Content, pair}
 use Rattle.properties_format.specs.Settings.{Settings}
-use Rattle.properties_format.specs.Writing.{Call, comment_call, pair_call, flush_call, is_accepted, settings_after_call, settings_after}
-use Rattle.properties_format.specs.Writing.{line_count_after, written_line, answers, prefix_call, separator_call}
+use Rattle.properties_format.specs.Writing.{Call, comment_call, pair_call, flush_call, is_accepted, settings_after_call, settings_after, line_count_after, written_line, answers, prefix_call, separator_call}
 use Rattle.properties_format.proofs.Writing.{settings_after-append, line_count_after-append, wrote-append, answers-append}
-use Rattle.java_properties.specs.PropertiesWriter.{Writing, HasWrittenLine, with_settings, SetsPrefix, SetsSeparator}
-use Rattle.java_properties.specs.Calls.{after_calls, flushed_after, MayMake, MayMakeAll, HasMade, HasMadeCall, FailsInCall, StopsAtCall}
-use Rattle.java_properties.specs.Calls.{is_not_accepted, IsAcceptedResult, Fails, MakesCall}
+use Rattle.java_properties.specs.PropertiesWriter.{Writing, HasWrittenLine, with_settings, SetsPrefix, SetsSeparator, with_prefix, with_separator}
+use Rattle.java_properties.specs.Calls.{after_calls, flushed_after, MayMake, MayMakeAll, HasMade, HasMadeCall, FailsInCall, StopsAtCall, is_not_accepted, IsAcceptedResult, Fails, MakesCall}
 use Rattle.std.proofs.lemmas.List.{take_all, length-map}
 use Rattle.properties_items.specs.declared.error.PropertiesError.{PropertiesError}
 use Rattle.std.proofs.lemmas.Bool.{false_from_ne_true}
 use Rattle.properties_format.specs.Computed.Settings.{is_good_prefix, is_good_separator}
 use Rattle.properties_format.proofs.Settings.Tests.{is_good_prefix-from, IsGoodPrefix-from_test, is_good_separator-from, IsGoodSeparator-from_test}
 use Rattle.properties_items.specs.Errors.{kind_of}
-use Rattle.java_properties.specs.Settings.{with_prefix, with_separator}
 
 -- calls that may be made, and others after them
 may-append : (failed : Bool) (xs ys : List Call) → MayMakeAll failed xs → MayMakeAll failed ys → MayMakeAll failed (xs ++ ys)

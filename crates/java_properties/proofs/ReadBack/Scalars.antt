@@ -5,7 +5,7 @@ use Rattle.properties_format.specs.Text.{scalar}
 use Rattle.properties_format.specs.Writing.{IsOfScalars, AreOfScalars, AreGoodSettings}
 use Rattle.properties_format.proofs.ReadBack.Law.{default_settings-good}
 use Rattle.properties_format.proofs.Settings.Tests.{IsGoodPrefix-from_test, IsGoodSeparator-from_test}
-use Rattle.java_properties.specs.Settings.{prefix_of, settings_of, AreGood}
+use Rattle.java_properties.specs.PropertiesWriter.{prefix_of, settings_of, AreGood}
 use Rattle.java_properties.specs.Calls.{call_in, calls_in}
 use Rattle.java_properties.specs.declared.writer.calls.Call.{Call}
 use Rattle.java_properties.specs.declared.writer.calls.Call.TheVariants.{Comment, Pair, Prefix, Separator}

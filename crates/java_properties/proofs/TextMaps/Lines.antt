@@ -4,12 +4,11 @@ use Rattle.std.specs.Prelude.{map}
 use Rattle.std.specs.Str.{chars}
 use Rattle.std.proofs.lemmas.List.{map-append, length-append}
 use Rattle.counted_io.specs.Streams.{Sink}
-use Rattle.properties_format.specs.Entries.{pair}
-use Rattle.properties_format.specs.Pairs.{AreAccepted}
+use Rattle.properties_format.specs.Items.{pair}
+use Rattle.properties_format.specs.Writing.{AreAccepted}
 use Rattle.properties_format.specs.Settings.{Settings}
 use Rattle.java_properties.specs.PropertiesWriter.{Writing, HasWrittenLine}
-use Rattle.java_properties.specs.Maps.{Texts, character_pair}
-use Rattle.java_properties.specs.MapLines.{HasWrittenLines}
+use Rattle.java_properties.specs.Maps.{Texts, character_pair, HasWrittenLines}
 use Rattle.java_properties.proofs.Calls.Made.{made-none, made-more, pair-made}
 
 accepted-append : (s : Settings) (xs ys : List Texts) → AreAccepted s (map character_pair xs) → AreAccepted s (map character_pair ys)

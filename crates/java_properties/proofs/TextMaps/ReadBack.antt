@@ -22,13 +22,11 @@ use Rattle.properties_format.specs.Encoding.{Encoding, output_encoding}
 use Rattle.properties_format.specs.Lines.{end}
 use Rattle.properties_format.specs.Items.{IsItems}
 use Rattle.properties_format.specs.Maps.{IsValue}
-use Rattle.properties_format.specs.Computed.Maps.{value_in}
 use Rattle.properties_format.specs.Settings.{Settings, default_settings}
-use Rattle.properties_format.specs.Writing.{Call, pair_call, flush_call, settings_after, wrote, ArePrefixesClean, AreOfScalars, AreGoodSettings}
-use Rattle.properties_format.specs.Pairs.{Pair, calls_of, items_after, AreAccepted, ArePairsOfScalars}
+use Rattle.properties_format.specs.Writing.{Call, pair_call, flush_call, settings_after, wrote, ArePrefixesClean, AreOfScalars, AreGoodSettings, Pair, calls_of, items_after, AreAccepted, ArePairsOfScalars}
 use Rattle.properties_format.specs.Laws.{HasPair, HasNoKey, AreDistinct}
 use Rattle.properties_format.proofs.Items.Unique.{items_of-meets, items_of-only}
-use Rattle.properties_format.proofs.Maps.{value_in-meets, value_in-only}
+use Rattle.properties_format.proofs.Maps.{value_in-meets, value_in-only, value_in}
 use Rattle.properties_format.proofs.Laws.{no-pair, value-among}
 use Rattle.properties_format.proofs.ReadBack.Law.{default_settings-good}
 use Rattle.properties_format.proofs.ReadBack.Lists.{items_of-pairs}
@@ -37,9 +35,7 @@ use Rattle.counted_io.proofs.Streams.{written-more}
 use Rattle.java_properties.specs.PropertiesWriter.{Writing}
 use Rattle.java_properties.specs.Calls.{HasMade}
 use Rattle.java_properties.specs.ReadBack.{IsGoodWriter, IsReadBack}
-use Rattle.java_properties.specs.MapLines.{WritesMapLines, LinesReadBack, IsWrittenCleanly, LinesReadBackAfter}
-use Rattle.java_properties.specs.Maps.{Texts, entry_texts, calls_for, character_pair, items_for, AreInOrder, IsMapReadBack, WritesPairs, WritesMap}
-use Rattle.java_properties.specs.Maps.{MapReadsBack}
+use Rattle.java_properties.specs.Maps.{WritesMapLines, LinesReadBack, IsWrittenCleanly, LinesReadBackAfter, Texts, entry_texts, calls_for, character_pair, items_for, AreInOrder, IsMapReadBack, WritesPairs, WritesMap, MapReadsBack}
 use Rattle.properties_items.specs.Texts.{Entries, characters, value_at}
 use Rattle.properties_items.specs.declared.error.PropertiesError.{PropertiesError}
 use Rattle.properties_items.proofs.Scalars.{string-scalars}
@@ -254,7 +250,7 @@ lines-read_back_after sink entries old new (Err error) h = λ first calls clean.
 pub writes-map : {W Y Z : Type 0} (sink : Sink W) (a : Encoding) (entries : Entries Y Z) (pairs : List Texts) (old new : W)
     (result : Result Unit PropertiesError) → AreInOrder entries pairs → WritesPairs sink a pairs old result new → WritesMap sink a entries old result new
 writes-map sink a entries pairs old new (Ok done) in_order h = record { pairs = pairs; in_order = in_order; writes = h }
-writes-map sink a entries pairs old new (Err error) in_order h = inr (record { pairs = pairs; in_order = in_order; stops = h })
+writes-map sink a entries pairs old new (Err error) in_order h = inr (record { pairs = pairs; in_order = in_order; writes = h })
 
 -- What writing a map says of reading it.
 pub writes-read_back : {W Y Z : Type 0} (sink : Sink W) (a : Encoding) (entries : Entries Y Z) (old new : W) (result : Result Unit PropertiesError)
@@ -264,13 +260,13 @@ writes-read_back sink a entries old new (Err error) own (inr h) =
     inr (record {
       pairs = h.pairs;
       in_order = h.in_order;
-      writer = h.stops.writer;
+      writer = h.writes.writer;
       stops = stops-read_back
           (record { encoding = own; settings = default_settings-good })
           (scalars-append (calls_for h.pairs) (flush_call ∷ []) (pairs-scalars h.pairs (map-texts entries h.pairs h.in_order)) (tt, tt))
-          h.stops.stops
+          h.writes.stops
           (record { first = refl; prefixes = pairs-clean default_settings h.pairs (flush_call ∷ []) tt });
-      sink_after = h.stops.sink_after;
+      sink_after = h.writes.sink_after;
     })
 writes-read_back sink a entries old new (Ok done) own h =
     written-map sink a default_settings entries h.pairs old new own default_settings-good h.in_order

@@ -4,7 +4,7 @@ use Rattle.std.specs.Prelude.{Option}
 use Rattle.counted_io.specs.Streams.{Reader}
 use Rattle.properties_format.specs.Encoding.{Encoding}
 use Rattle.properties_format.specs.ItemsToCome.{ReaderState, start}
-use Rattle.properties_format.specs.Entries.{Content, comment, pair, item, AreItems}
+use Rattle.properties_format.specs.Items.{Content, comment, pair, item, AreItems}
 use Rattle.properties_format.specs.Maps.{IsMap}
 use Rattle.properties_format.proofs.Maps.{map-none, map-comment, map-pair}
 use Rattle.properties_items.specs.Line.{number_of, content_of}

@@ -1,6 +1,5 @@
 -- A map that is written, pair after pair.
-use Rattle.std.proofs.Common.{◌≡◌, ℕ, ◌+◌, ◌<◌, ◌≤◌, true, false, List, [], ◌∷◌, ◌++◌, length, get_or, take, drop, refl, ap, ◌∙◌, inl, inr}
-use Rattle.std.proofs.Common.{append_assoc, arith, sym, subst}
+use Rattle.std.proofs.Common.{◌≡◌, ℕ, ◌+◌, ◌<◌, ◌≤◌, true, false, List, [], ◌∷◌, ◌++◌, length, get_or, take, drop, refl, ap, ◌∙◌, inl, inr, append_assoc, arith, sym, subst}
 use Rattle.std.specs.Prelude.{map, Result, Ok, Err, string_bytes, bytes_eq}
 use Rattle.std.specs.Borrow.{Bor}
 use Rattle.std.specs.Str.{chars}
@@ -10,7 +9,7 @@ use Rattle.std.proofs.lemmas.Simd.{map-map}
 use Rattle.counted_io.specs.Streams.{Sink}
 use Rattle.counted_io.proofs.Streams.{written-flushed}
 use Rattle.properties_format.specs.Encoding.{Encoding}
-use Rattle.properties_format.specs.Entries.{pair}
+use Rattle.properties_format.specs.Items.{pair}
 use Rattle.properties_format.specs.Settings.{default_settings}
 use Rattle.properties_format.specs.Writing.{pair_call, flush_call, is_accepted}
 use Rattle.properties_text.specs.Encoding.{line_of}
@@ -18,12 +17,11 @@ use Rattle.java_properties.specs.Private.Engine.{writing}
 use Rattle.properties_items.specs.Errors.{kind_of}
 use Rattle.java_properties.specs.PropertiesWriter.{Writing, new_writer, WritesLine, Flushes, HasWrittenLine, IsRefusedBy}
 use Rattle.java_properties.specs.Calls.{HasMade, is_not_accepted}
-use Rattle.java_properties.specs.Maps.{Texts, borrowed_texts, texts_of, call_for, calls_for, StopsInPairs, WritesPairs, entry_texts, AreInOrder}
+use Rattle.java_properties.specs.Maps.{Texts, borrowed_texts, texts_of, call_for, calls_for, StopsInPairs, WritesPairs, entry_texts, AreInOrder, HasWrittenLines}
 use Rattle.properties_items.specs.declared.error.ErrorKind.{ErrorKind}
 use Rattle.properties_items.specs.declared.error.ErrorKind.TheVariants as kind
 use Rattle.properties_items.specs.declared.error.PropertiesError.{PropertiesError}
 use Rattle.java_properties.specs.declared.writer.engine.Engine.{Engine}
-use Rattle.java_properties.specs.MapLines.{HasWrittenLines}
 use Rattle.java_properties.proofs.Calls.Made.{calls-cut, calls-take, calls-all}
 use Rattle.java_properties.proofs.TextMaps.Lines.{lines-none, lines-more}
 use Rattle.std.specs.Cmp.Lexicographic.{slice_cmp, nat_list_cmp_total}
@@ -37,8 +35,7 @@ use Rattle.std.specs.String.{string_cmp, string_eq}
 use Rattle.std.specs.declared.cmp.Ordering.{Ordering}
 use Rattle.std.specs.declared.cmp.Ordering.TheVariants.{Less, Equal, Greater}
 use Rattle.std.proofs.lemmas.List.Sorted.{IsPermutation-map, IsPermutation-refl}
-use Rattle.std.proofs.lemmas.Map.Keys.{IsDistinct-head, IsDistinct-tail, IsDistinct-cons, IsDistinct-from_apart, IsDistinct-IsPermutation}
-use Rattle.std.proofs.lemmas.Map.Keys.{apart_from_distinct, sorted_from_all_adjacent}
+use Rattle.std.proofs.lemmas.Map.Keys.{IsDistinct-head, IsDistinct-tail, IsDistinct-cons, IsDistinct-from_apart, IsDistinct-IsPermutation, apart_from_distinct, sorted_from_all_adjacent}
 use Rattle.std.proofs.lemmas.Map.Lookups.{exact_bytes}
 use Rattle.std.proofs.lemmas.Slice.Eq.{bytes_eq-Decides}
 use Rattle.properties_items.specs.Texts.{Entries}

@@ -3,7 +3,7 @@ use Rattle.std.specs.Prelude.{◌≡◌, ℕ, ◌+◌, ◌^◌, ◌==◌, ◌||�
 use Rattle.std.specs.Str.{chars}
 use Rattle.std.specs.declared.io.Error.{Error}
 use Rattle.counted_io.specs.Streams.{Sink, HasWritten, HasSentPart}
-use Rattle.properties_format.specs.Entries as format
+use Rattle.properties_format.specs.Items as format
 use Rattle.properties_format.specs.Text.{is_blanks}
 use Rattle.properties_format.specs.Printing.{printed}
 use Rattle.properties_format.specs.Escapes.{means}

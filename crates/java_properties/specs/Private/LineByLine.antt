@@ -1,29 +1,38 @@
--- What a logical line adds to the keys and the malformed escapes of an input, by its outcome as it is computed; and what
--- came of the input so far.
-use Rattle.std.specs.Prelude.{◌≡◌, ◌⊎◌, ℕ, true, false, List, [], ◌∷◌, ◌++◌, Option, Some, None, bytes_eq, Result, Ok, Err}
+-- What a logical line adds to what was found, sought or copied, by its outcome as it is computed.
+use Rattle.std.specs.Prelude.{◌≡◌, ◌⊎◌, ℕ, true, false, List, [], ◌∷◌, ◌++◌, Option, Some, None, bytes_eq, Result, Ok, Err, if◌then◌else◌}
 use Rattle.std.specs.Option.{option_map, unwrap_or}
 use Rattle.std.specs.Map.{lookup, update}
 use Rattle.std.specs.declared.string.String.{String}
 use Rattle.counted_io.specs.Streams.{Reader, HasRead, has_ended}
 use Rattle.properties_format.specs.Encoding.{Encoding}
-use Rattle.properties_format.specs.Lines.{end, Line}
-use Rattle.properties_format.specs.Groups.{IsGroups, AreWhole, lines_in}
-use Rattle.properties_format.specs.Items.{broken}
-use Rattle.properties_format.specs.MalformedEscapes.{escapes_from}
+use Rattle.properties_format.specs.Lines.{end, Line, IsGroups, AreWhole, lines_in, is_comment_line}
+use Rattle.properties_format.specs.Items.{broken, comment, pair, ignored, given, Content, Outcome}
+use Rattle.properties_format.specs.Found.{escapes_from}
 use Rattle.properties_format.specs.ItemsToCome.{ReaderState, start}
 use Rattle.properties_format.specs.Computed.Items.{outcome_of}
-use Rattle.properties_format.specs.Computed.MalformedEscapes.{escapes_in}
-use Rattle.properties_format.specs.Computed.Parts.{outcome_key}
+use Rattle.properties_format.specs.Computed.Found.{escapes_in}
+use Rattle.properties_format.specs.Computed.Body.{outcome_key}
 use Rattle.properties_lines.specs.LineReader.{Passes}
 use Rattle.properties_text.specs.Escaping.{malformed_in}
 use Rattle.properties_text.specs.declared.escape.Malformed.{Malformed}
 use Rattle.properties_items.specs.Errors.{IsBareError}
 use Rattle.properties_items.specs.Texts.{characters}
-use Rattle.java_properties.specs.MalformedEscapes.{escape_records, FindsAll, FailsToFind, StopsFinding, CompletesNone}
+use Rattle.java_properties.specs.Findings.{escape_records, FindsAll, FailsToFind, StopsFinding, CompletesNone}
 use Rattle.properties_items.specs.declared.error.ErrorKind.TheVariants as kind
 use Rattle.properties_items.specs.declared.error.PropertiesError.{PropertiesError}
 use Rattle.properties_items.specs.declared.findings.KeyLine as code
 use Rattle.properties_items.specs.declared.findings.MalformedEscape.{MalformedEscape}
+use Rattle.properties_format.specs.Writing.{is_accepted, pair_call}
+use Rattle.properties_text.specs.declared.escape.UnescapeError.{UnescapeError}
+use Rattle.properties_text.specs.declared.escape.UnescapeError.TheVariants as error
+use Rattle.properties_items.specs.declared.error.ErrorKind.{ErrorKind}
+use Rattle.java_properties.specs.Copying.{HasScalars}
+use Rattle.java_properties.specs.Private.Engine.{line_bytes, NumbersLine}
+use Rattle.java_properties.specs.declared.copy.Built.{Built}
+use Rattle.java_properties.specs.declared.copy.Built.TheVariants.{Nothing, Pair}
+use Rattle.java_properties.specs.declared.writer.engine.Engine.{Engine}
+use Rattle.properties_format.specs.Edits.{AreInComments}
+use Rattle.properties_items.specs.BorrowedItems.{IsNoItem}
 
 -- the key of a logical line, if it is a pair without a malformed escape; or memory ran out
 abbrev pub FindsLineKey : {Z : Type 0} → List ℕ → Result (Option (String Z)) PropertiesError → Type 0
@@ -82,11 +91,6 @@ pub record Found {R : Type 0} (reader : Reader R) (e : Encoding) (from : R) (fou
   pub collected : Collected reader e from groups state to
   pub escapes : found ≡ escape_records (escapes_in groups)
 
--- Whatever was found before, no more was found.
-abbrev pub FindsNoMore : {R : Type 0} → Reader R → ReaderState → R → ReaderState → R → Type 0
-FindsNoMore {R} reader old from new to =
-    (e : Encoding) (begin : R) (found : List MalformedEscape) → Found reader e begin found old from → Found reader e begin found new to
-
 -- The next malformed escape, after any others that were found before; or those were all; or no line came, and if none
 -- were found before, none came.
 abbrev pub FindsNextEscape : {R : Type 0} → Reader R → ReaderState → R → Result (Option MalformedEscape) PropertiesError → ReaderState → R → Type 0
@@ -97,3 +101,43 @@ FindsNextEscape {R} reader old from (Ok None) new to =
 FindsNextEscape {R} reader old from (Err error) new to =
     (e : Encoding) (begin : R) (found : List MalformedEscape) → Found reader e begin found old from
     → ((fails : FailsToFind reader e begin error to) × (found ≡ [] → CompletesNone e fails.bytes)) ⊎ StopsFinding reader e begin error to
+
+-- ---- What is built for a logical line that is copied.
+
+-- A line of this text is a pair. The engine built its line, and gives it this number, or refuses it.
+pub record HasBuilt (text : List ℕ) (number : Result ℕ ErrorKind) (w : Engine) : Type 0 where
+  pub key : List ℕ
+  pub value : List ℕ
+  pub outcome : outcome_of text ≡ given (pair key value)
+  pub scalars : HasScalars (pair key value)
+  pub numbers : NumbersLine w (is_accepted w.settings (pair_call key value)) number
+  pub built : w.line ≡ line_bytes w (pair key value)
+
+-- A line of this text is no pair: it is blank, or a comment.
+abbrev pub IsNoPair : List ℕ → Type 0
+IsNoPair text = (outcome_of text ≡ ignored) ⊎ ((raw : List ℕ) × (outcome_of text ≡ given (comment raw)))
+
+-- What the engine built for a line of this text; or how the line is malformed; or memory ran out.
+abbrev pub BuildsLine : List ℕ → Result Built UnescapeError → Engine → Type 0
+BuildsLine text (Ok Nothing) w = IsNoPair text
+BuildsLine text (Ok (Pair number)) w = HasBuilt text number w
+BuildsLine text (Err (error.Malformed malformed)) w = outcome_of text ≡ broken (malformed_in malformed)
+BuildsLine text (Err error.Memory) w = Unit {0}
+
+-- ---- How the value of a key is sought, item after item or logical line after logical line.
+
+-- the value of a key after an item, given that of the items before it
+abbrev pub value_after : List ℕ → Content → Option (List ℕ) → Option (List ℕ)
+value_after key (comment text) before = before
+value_after key (pair name value) before = if bytes_eq name key then Some value else before
+
+-- the value of a key after a logical line, by the outcome of the line
+abbrev pub value_through : List ℕ → Outcome → Option (List ℕ) → Option (List ℕ)
+value_through key (given content) before = value_after key content before
+value_through key other before = before
+
+-- The value after a logical line, which is no pair with a malformed escape; or it is one, or memory ran out.
+abbrev pub TellsLineValue : {Y Z : Type 0} → List ℕ → ℕ → List ℕ → Option (String Y) → Result (Option (String Z)) PropertiesError → Type 0
+TellsLineValue key number x before (Ok value) =
+    AreInComments (escapes_from number x (outcome_of x) []) × (option_map characters value ≡ value_through key (outcome_of x) (option_map characters before))
+TellsLineValue key number x before (Err error) = (is_comment_line x ≡ false) × IsNoItem number x error

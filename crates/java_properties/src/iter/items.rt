@@ -8,9 +8,8 @@ ghost use Rattle.properties_text.specs.Encoding.{encoding_of};
 ghost use Rattle.properties_lines.specs.LineReader.{lines_left};
 ghost use Rattle.properties_lines.specs.LineJoiner.{LineState};
 ghost use Rattle.properties_items.specs.BorrowedItems.{borrowed_entry, found_entry, BorrowsPlain, IsFoundIn};
-ghost use Rattle.java_properties.specs.Borrowing.{AdvancesTo};
+ghost use Rattle.java_properties.specs.PropertiesIter.{AdvancesTo, GivesItem};
 ghost use Rattle.java_properties.specs.Private.GivenItems.{as_text, iteration_of, Owns};
-ghost use Rattle.java_properties.specs.PropertiesIter.{GivesItem};
 
 use counted_io::CountedRead;
 use properties_items::borrowed::LineRef;

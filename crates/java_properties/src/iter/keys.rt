@@ -7,7 +7,7 @@ ghost use Rattle.std.specs.BTreeMap.{IsOrdered};
 ghost use Rattle.counted_io.specs.Streams.{IsSameReader};
 ghost use Rattle.properties_text.specs.Encoding.{encoding_of};
 ghost use Rattle.properties_items.specs.Texts.{characters};
-ghost use Rattle.java_properties.specs.KeyLines.{FindsKeys};
+ghost use Rattle.java_properties.specs.Findings.{FindsKeys};
 ghost use Rattle.java_properties.specs.Private.LineByLine.{AddsKeyLine, FindsLineKey, KeepsFirst, PushesKey};
 
 use counted_io::CountedRead;

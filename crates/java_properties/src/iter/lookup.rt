@@ -7,8 +7,8 @@ ghost use Rattle.std.specs.Str.{chars};
 ghost use Rattle.properties_text.specs.Encoding.{encoding_of};
 ghost use Rattle.properties_items.specs.BorrowedItems.{borrowed_content};
 ghost use Rattle.properties_items.specs.Texts.{characters};
-ghost use Rattle.java_properties.specs.Values.{TellsPairValue, TellsValue};
-ghost use Rattle.java_properties.specs.Private.SoughtValues.{TellsLineValue, value_after};
+ghost use Rattle.java_properties.specs.Findings.{TellsPairValue, TellsValue};
+ghost use Rattle.java_properties.specs.Private.LineByLine.{TellsLineValue, value_after};
 
 use crate::iter::items::ItemReader;
 use properties_items::borrowed::{ContentRef, LineRef};
@@ -71,8 +71,10 @@ pub fn value_among_pairs(
     while let Some(number) = lines.next_text(&mut input) {
         value = value_after_line(alloc, value, number, lines.line(), key)?;
     }
-    lines.finish()?;
-    Ok(value)
+    match lines.finish() {
+        Ok(()) => Ok(value),
+        Err(error) => Err(PropertiesError::from(error)),
+    }
 }
 
 // Returns the value of a logical line if it is a pair with this key, and otherwise the value of the lines before it.

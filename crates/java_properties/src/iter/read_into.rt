@@ -1,6 +1,6 @@
 // Passes the pairs of a reader to a closure.
 
-ghost use Rattle.java_properties.specs.ReadInto.{CallableOnPairs, ReadsInto};
+ghost use Rattle.java_properties.specs.ReadLines.{CallableOnPairs, ReadsInto};
 
 use crate::iter::PropertiesIter;
 use counted_io::CountedRead;

@@ -1,7 +1,7 @@
 // What is found in a source.
 
 ghost use Rattle.properties_text.specs.Encoding.{encoding_of};
-ghost use Rattle.java_properties.specs.SourceFindings.{FindsKeysIn, FindsMalformedIn};
+ghost use Rattle.java_properties.specs.Findings.{FindsKeysIn, FindsMalformedIn};
 
 use crate::iter::escapes::malformed_escapes;
 use crate::iter::keys::key_lines;

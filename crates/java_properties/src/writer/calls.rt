@@ -2,8 +2,7 @@
 
 ghost use Rattle.counted_io.specs.Streams.{IsSameSink};
 ghost use Rattle.java_properties.specs.Calls.{calls_in, call_in, IsAcceptedResult, MakesCall, RunsCalls, LeavesFailed};
-ghost use Rattle.java_properties.specs.ReadBack.{ReadsBack, WritesOnlyThese};
-ghost use Rattle.java_properties.specs.AsciiOnly.{WritesAscii};
+ghost use Rattle.java_properties.specs.ReadBack.{ReadsBack, WritesOnlyThese, WritesAscii};
 
 use crate::laws;
 use crate::writer::PropertiesWriter;

@@ -1,8 +1,8 @@
 // A writer without its sink.
 
-ghost use Rattle.std.specs.Prelude.{◌≡◌, ◌<◌, ◌^◌, true, false, None, Ok, Err, OnOk};
+ghost use Rattle.std.specs.Prelude.{◌≡◌, ◌<◌, ◌^◌, true, false, Ok, Err, OnOk};
 ghost use Rattle.std.specs.Str.{chars};
-ghost use Rattle.properties_format.specs.Entries as format;
+ghost use Rattle.properties_format.specs.Items as format;
 ghost use Rattle.properties_format.specs.Settings.{default_settings};
 ghost use Rattle.properties_format.specs.Writing.{is_accepted};
 ghost use Rattle.counted_io.specs.Streams.{IsSameSink};

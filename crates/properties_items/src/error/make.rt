@@ -1,6 +1,6 @@
 //! Makes errors, for the reader, the writer and the editor.
 //!
-//! `java_properties` doesn't hand this module on, so its callers don't see these functions.
+//! `java_properties` doesn't re-export this module, so its callers don't see these functions.
 
 ghost use Rattle.std.specs.Prelude.{◌≡◌, Some, None};
 ghost use Rattle.std.specs.Str.{chars};
@@ -22,7 +22,7 @@ pub fn write_fault(line_number: Option<usize>, error: Option<io::Error>) -> Prop
         Some(error) => Cause::Io(error),
         None => Cause::None,
     };
-    PropertiesError::io(line_number, cause)
+    PropertiesError::caused(ErrorKind::Io, line_number, cause)
 }
 
 /// Replaces the cause by this stream's error if the cause is a stream's error. Otherwise returns the error
@@ -57,20 +57,10 @@ fn malformed_escape(line_number: usize, malformed: Malformed) -> PropertiesError
         Malformed::NotHex => Cause::NotHex,
         Malformed::NotEnoughDigits | Malformed::InvalidCharacter => Cause::None,
     };
-    in_line(line_number, malformed_kind(malformed), cause)
+    PropertiesError::caused(malformed_kind(malformed), Some(line_number), cause)
 }
 
-fn in_line(line_number: usize, kind: ErrorKind, cause: Cause) -> PropertiesError
-    ensures { IsError kind (Some line_number) cause result }
-{
-    PropertiesError {
-        line_number: Some(line_number),
-        cause,
-        ..PropertiesError::bare(kind)
-    }
-}
-
-/// Something failed of which this kind says everything.
+/// An error of this kind, without a line, a cause or a text.
 // Kept out of line so that pairs that are copied take no longer.
 #[inline(never)]
 pub fn bare(kind: ErrorKind) -> PropertiesError

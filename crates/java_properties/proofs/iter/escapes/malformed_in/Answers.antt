@@ -1,9 +1,9 @@
 use Rattle.std.proofs.Common.{◌∙◌, ◌∷◌, [], ap, ap₂, sym}
 use Rattle.std.specs.Str.{chars}
-use Rattle.properties_format.specs.Groups.{is_comment_line}
-use Rattle.properties_format.specs.MalformedEscapes.{escapes_from}
+use Rattle.properties_format.specs.Lines.{is_comment_line}
+use Rattle.properties_format.specs.Found.{escapes_from}
 use Rattle.properties_text.proofs.Texts.Joins.{is_comment_line-text}
-use Rattle.java_properties.specs.MalformedEscapes.{escape_records}
+use Rattle.java_properties.specs.Findings.{escape_records}
 use Rattle.java_properties.proofs.iter.escapes.malformed_in.Goals as goal
 
 pub returns-in_default : goal.returns-in_default

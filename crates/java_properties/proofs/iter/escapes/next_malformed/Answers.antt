@@ -1,6 +1,6 @@
 use Rattle.std.proofs.Common.{◌≡◌, false, rules, ◌++◌, ◌∙◌, arith, ap, append-nil, sym}
 use Rattle.std.proofs.lemmas.Result.{err_from_is_err_and}
-use Rattle.java_properties.specs.MalformedEscapes.{escape_records}
+use Rattle.java_properties.specs.Findings.{escape_records}
 use Rattle.java_properties.proofs.MalformedEscapes.{found-next, found-all, found-stops, plain-none}
 use Rattle.java_properties.proofs.Items.{stopped, ended}
 use Rattle.java_properties.proofs.iter.escapes.next_malformed.Goals as goal

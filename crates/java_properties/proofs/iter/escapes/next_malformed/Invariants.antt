@@ -2,7 +2,7 @@ use Rattle.std.proofs.Common.{◌≡◌, ◌≤◌}
 use Rattle.std.specs.Prelude.{None}
 use Rattle.counted_io.specs.Streams.{reader, IsSameReader}
 use Rattle.properties_lines.specs.LineReader.{lines_left}
-use Rattle.java_properties.specs.Private.LineByLine.{FindsNoMore}
+use Rattle.java_properties.proofs.MalformedEscapes.{FindsNoMore}
 use Rattle.java_properties.proofs.iter.escapes.next_malformed.Given as goal
 
 abbrev pub invariant-loop-number : goal.invariant-loop-number

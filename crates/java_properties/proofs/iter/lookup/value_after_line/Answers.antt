@@ -1,7 +1,7 @@
 use Rattle.std.proofs.Common.{◌≡◌, ◌∙◌, ap, sym, inr, true, false, Bool, ℕ, List}
 use Rattle.std.specs.Str.{chars, IsUtf8}
 use Rattle.std.proofs.lemmas.Result.{err_from_is_err_and}
-use Rattle.properties_format.specs.Groups.{is_comment_line}
+use Rattle.properties_format.specs.Lines.{is_comment_line}
 use Rattle.properties_text.proofs.Texts.Joins.{is_comment_line-text}
 use Rattle.properties_items.specs.BorrowedItems.{borrowed_content, found_content}
 use Rattle.properties_items.proofs.FoundItems.{found-item}

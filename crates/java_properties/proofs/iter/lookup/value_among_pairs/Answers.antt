@@ -29,15 +29,14 @@ returns-in_err-value c =
     let refused = pairs-refused c.in-Some.number c.next_text.new.self.at (pairs-at refl c.loop-number.invariant.sought) c.in-Some.ensures.joins.0 told in
     rw (error.1, error.2) (slice-tells_pairs {Z = Global} (encoding_of c.args.encoding) (slice_of c.args.source.now) _ (chars c.args.key.now) (Err _) (omega arith) refused)
 
-pub returns-in_err-finish : goal.returns-in_err-finish
-returns-in_err-finish c =
-    let stop = stopped c.in_default.ensures.joins c.loop-number.invariant.error (sym c.in_err-finish.ensures.error) in
-    let error = err_from_is_err_and c.from_residual-in_err-finish.result c.from_residual-in_err-finish.ensures.1 in
-    let failed = pairs-error (pairs-at refl c.loop-number.invariant.sought) stop.0 stop.2 error.2 in
-    rw error.1 (slice-tells_pairs {Z = Global} (encoding_of c.args.encoding) (slice_of c.args.source.now) _ (chars c.args.key.now) (Err _) (omega arith) failed)
+pub returns-in-Ok : goal.returns-in-Ok
+returns-in-Ok c =
+    let end = ended c.in_default.ensures.joins (sym c.in-Ok.ensures.error) in
+    let all = pairs-all (pairs-at refl c.loop-number.invariant.sought) end.0 end.2 in
+    slice-tells_pairs (encoding_of c.args.encoding) (slice_of c.args.source.now) _ (chars c.args.key.now) (Ok _) (omega arith) all
 
 pub returns : goal.returns
 returns c =
-    let end = ended c.in_default.ensures.joins (sym c.in_ok-finish.ensures.error) in
-    let all = pairs-all (pairs-at refl c.loop-number.invariant.sought) end.0 end.2 in
-    slice-tells_pairs (encoding_of c.args.encoding) (slice_of c.args.source.now) _ (chars c.args.key.now) (Ok _) (omega arith) all
+    let stop = stopped c.in_default.ensures.joins c.loop-number.invariant.error (sym c.in-Err.ensures.error) in
+    let failed = pairs-error (pairs-at refl c.loop-number.invariant.sought) stop.0 stop.2 c.from.ensures in
+    slice-tells_pairs {Z = Global} (encoding_of c.args.encoding) (slice_of c.args.source.now) _ (chars c.args.key.now) (Err _) (omega arith) failed

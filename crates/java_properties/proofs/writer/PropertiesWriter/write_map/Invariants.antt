@@ -2,8 +2,7 @@ use Rattle.std.proofs.Common.{◌≡◌, ◌++◌, map}
 use Rattle.std.specs.Global.{Global}
 use Rattle.counted_io.specs.Streams.{sink, IsSameSink}
 use Rattle.properties_items.specs.Texts.{Entries}
-use Rattle.java_properties.specs.Maps.{entry_texts}
-use Rattle.java_properties.specs.MapLines.{HasWrittenLines}
+use Rattle.java_properties.specs.Maps.{entry_texts, HasWrittenLines}
 use Rattle.java_properties.proofs.writer.PropertiesWriter.write_map.Given as goal
 
 abbrev pub invariant-loop-key : goal.invariant-loop-key

@@ -1,7 +1,7 @@
 use Rattle.std.proofs.Common.{◌≡◌, ◌++◌, ◌∙◌, arith, sym, ap, subst, List, ℕ, [], refl}
 use Rattle.std.specs.Prelude.{Some, Ok}
 use Rattle.std.specs.Str.{chars}
-use Rattle.properties_format.specs.Entries as entry
+use Rattle.properties_format.specs.Items as entry
 use Rattle.properties_format.specs.Items.{ignored}
 use Rattle.properties_format.specs.Computed.Items.{outcome_of}
 use Rattle.counted_io.specs.Streams.{reader}
@@ -9,8 +9,7 @@ use Rattle.properties_format.specs.ItemsToCome.{ReaderState}
 use Rattle.properties_lines.specs.LineReader.{lines_left}
 use Rattle.properties_lines.specs.LineJoiner.{LineState, LineJoining, numbered_line}
 use Rattle.properties_items.specs.BorrowedItems.{found_content, IsFoundIn}
-use Rattle.java_properties.specs.Borrowing.{AdvancesTo, logical_line, IsSpelt}
-use Rattle.java_properties.specs.PropertiesIter.{GivesEntry}
+use Rattle.java_properties.specs.PropertiesIter.{AdvancesTo, logical_line, IsSpelt, GivesEntry}
 use Rattle.java_properties.specs.Private.GivenItems.{as_text, iteration_of}
 use Rattle.properties_items.specs.declared.found.Found.{Found}
 use Rattle.java_properties.proofs.Items.{kept-utf8, Passed, passed-start, passed-error, passed-no_item, passed-none, gives-spelt, passed-blank, stopped, ended}

@@ -1,0 +1,217 @@
+-- What is found in an input: malformed escapes and the lines of keys, and the reader afterwards; and in a source.
+use Rattle.std.specs.Prelude.{◌≡◌, ◌⊎◌, ℕ, true, List, [], ◌∷◌, ◌++◌, map, Option, Some, None, Result, Ok, Err, ◌≢◌}
+use Rattle.std.specs.declared.io.Error.{Error}
+use Rattle.std.specs.declared.vec.Vec.{Vec}
+use Rattle.counted_io.specs.Streams.{Reader, HasRead, HasFailed, has_ended}
+use Rattle.properties_format.specs.Encoding.{Encoding}
+use Rattle.properties_format.specs.Lines.{fault, end}
+use Rattle.properties_format.specs.Found.{AreFound, escapes_from, AreMalformedEscapes, IsCutLine}
+use Rattle.properties_format.specs.Found as format
+use Rattle.properties_format.specs.ItemsToCome.{start, PassesAll}
+use Rattle.properties_items.specs.Errors.{IsBareError, IsStreamError, malformed_kind, IsMalformed}
+use Rattle.properties_items.specs.declared.error.ErrorKind.TheVariants as kind
+use Rattle.properties_items.specs.declared.error.PropertiesError.{PropertiesError}
+use Rattle.properties_items.specs.declared.findings.MalformedEscape.{MalformedEscape}
+use Rattle.properties_format.specs.Items.{pair, Outcome, given}
+use Rattle.properties_items.specs.Texts.{characters}
+use Rattle.properties_items.specs.declared.findings.KeyLine as code
+use Rattle.std.specs.Option.{option_map}
+use Rattle.std.specs.declared.string.String.{String}
+use Rattle.properties_format.specs.Edited.{IsFirstMalformed, ItemsAre}
+use Rattle.properties_format.specs.Edits.{EscapesAre, HasPairValue, IsFirstInPair}
+use Rattle.properties_format.specs.Escapes.{Malformed}
+use Rattle.properties_format.specs.Maps.{HasValue}
+
+-- ---- The malformed escapes of an input, all of them or the first one.
+
+-- an escape of the format, as the code represents it
+abbrev pub escape_record : format.MalformedEscape → MalformedEscape
+escape_record escape = record { line_number = escape.number; kind = malformed_kind escape.kind; in_comment = escape.in_comment }
+
+abbrev pub escape_records : List format.MalformedEscape → List MalformedEscape
+escape_records escapes = map escape_record escapes
+
+-- These are the malformed escapes of a source, and the only ones.
+pub record HasMalformed (e : Encoding) (source : List ℕ) (found : List MalformedEscape) : Type 0 where
+  pub escapes : List format.MalformedEscape
+  pub are : AreMalformedEscapes e source escapes
+  pub only : (others : List format.MalformedEscape) → AreMalformedEscapes e source others → others ≡ escapes
+  pub is : found ≡ escape_records escapes
+
+-- The reader was read to its end, and these are the malformed escapes of its bytes.
+pub record FindsAll {R : Type 0} (reader : Reader R) (e : Encoding) (from : R) (found : List MalformedEscape) (to : R) : Type 0 where
+  pub bytes : List ℕ
+  pub read : HasRead reader from bytes to
+  pub ended : has_ended reader to ≡ true
+  pub has : HasMalformed e bytes found
+
+-- A read failed in the line with this number, with the reader's own error.
+pub record FailsToFind {R : Type 0} (reader : Reader R) (e : Encoding) (from : R) (error : PropertiesError) (to : R) : Type 0 where
+  pub bytes : List ℕ
+  pub cause : Error
+  pub number : ℕ
+  pub failed : HasFailed reader from bytes cause to
+  pub is : IsStreamError (Some number) cause error
+  pub cut : IsCutLine e bytes number
+
+-- There was no number for another line after those that were read, or memory ran out.
+pub record StopsFinding {R : Type 0} (reader : Reader R) (e : Encoding) (from : R) (error : PropertiesError) (to : R) : Type 0 where
+  pub bytes : List ℕ
+  pub read : HasRead reader from bytes to
+  pub is : IsBareError kind.TooManyLines error × PassesAll (start e) bytes ⊎ IsBareError kind.Memory error
+
+-- The result of searching for malformed escapes. Ok is returned only at the reader's own end.
+abbrev pub FindsMalformed : {R Z : Type 0} → Reader R → Encoding → R → Result (Vec MalformedEscape Z) PropertiesError → R → Type 0
+FindsMalformed reader e from (Ok found) to = FindsAll reader e from found.items to
+FindsMalformed reader e from (Err error) to = FailsToFind reader e from error to ⊎ StopsFinding reader e from error to
+
+-- ---- the first one
+
+-- The malformed escapes of these bytes begin with this one, and no other list of them is right.
+pub record BeginsEscapes (e : Encoding) (bytes : List ℕ) (escape : format.MalformedEscape) : Type 0 where
+  pub others : List format.MalformedEscape
+  pub are : AreMalformedEscapes e bytes (escape ∷ others)
+  pub only : (all : List format.MalformedEscape) → AreMalformedEscapes e bytes all → all ≡ escape ∷ others
+
+-- This is the first malformed escape of the bytes that were read, whatever comes after them; or of the whole input, if
+-- the reader is at its end.
+pub record FindsFirst {R : Type 0} (reader : Reader R) (e : Encoding) (from : R) (found : MalformedEscape) (to : R) : Type 0 where
+  pub bytes : List ℕ
+  pub escape : format.MalformedEscape
+  pub read : HasRead reader from bytes to
+  pub begins : ((d : List ℕ) → BeginsEscapes e (bytes ++ d) escape) ⊎ (has_ended reader to ≡ true) × BeginsEscapes e bytes escape
+  pub is : found ≡ escape_record escape
+
+-- The logical lines that end within these bytes have no malformed escape.
+abbrev pub CompletesNone : Encoding → List ℕ → Type 0
+CompletesNone e bytes = AreFound escapes_from e bytes fault []
+
+-- A read failed, and no malformed escape came before.
+pub record FailsBeforeFirst {R : Type 0} (reader : Reader R) (e : Encoding) (from : R) (error : PropertiesError) (to : R) : Type 0 where
+  pub fails : FailsToFind reader e from error to
+  pub none : CompletesNone e fails.bytes
+
+-- The result of searching for the first malformed escape. None is returned only at the reader's own end, and if there
+-- is none.
+abbrev pub FindsFirstMalformed : {R : Type 0} → Reader R → Encoding → R → Result (Option MalformedEscape) PropertiesError → R → Type 0
+FindsFirstMalformed reader e from (Ok (Some escape)) to = FindsFirst reader e from escape to
+FindsFirstMalformed reader e from (Ok None) to = FindsAll reader e from [] to
+FindsFirstMalformed reader e from (Err error) to = FailsBeforeFirst reader e from error to ⊎ StopsFinding reader e from error to
+
+-- ---- The keys of an input, each with its line and the line where the key comes first.
+-- Source: java.util.Properties of Java SE 7, load.
+
+-- the key of a pair, and the number of the pair's first line
+pub record KeyPlace : Type 0 where
+  pub number : ℕ
+  pub key : List ℕ
+
+-- the keys of a logical line with this number and outcome, followed by those of the lines after it: a pair has one,
+-- unless one of its escapes is malformed
+abbrev pub keys_from : ℕ → Outcome → List KeyPlace → List KeyPlace
+keys_from number (given (pair key value)) rest = record { number = number; key = key } ∷ rest
+keys_from number other rest = rest
+
+-- These are the keys of an input in an encoding.
+abbrev pub AreKeys : Encoding → List ℕ → List KeyPlace → Type 0
+AreKeys e bytes keys = AreFound (λ number x. keys_from number) e bytes end keys
+
+-- ---- where a key comes first
+
+-- None of the places has this key.
+abbrev pub HasNoKey : List ℕ → List KeyPlace → Type 0
+HasNoKey key [] = Unit {0}
+HasNoKey key (k ∷ ks) = (k.key ≢ key) × HasNoKey key ks
+
+-- The first of these places with this key has this number.
+pub record HasFirstNumber (keys : List KeyPlace) (key : List ℕ) (number : ℕ) : Type 0 where
+  pub before : List KeyPlace
+  pub after : List KeyPlace
+  pub division : keys ≡ before ++ (record { number = number; key = key } ∷ after)
+  pub none : HasNoKey key before
+
+-- a key, the number of its pair's first line, and the number of the first pair with this key
+pub record KeyEntry : Type 0 where
+  pub number : ℕ
+  pub key : List ℕ
+  pub first : ℕ
+
+-- These are the keys at some of the places, each with the number of the first place with that key.
+abbrev pub AreFirstsOf : List KeyPlace → List KeyPlace → List KeyEntry → Type 0
+AreFirstsOf keys [] lines = lines ≡ []
+AreFirstsOf keys (k ∷ ks) lines =
+    (first : ℕ) × (rest : List KeyEntry) × HasFirstNumber keys k.key first
+    × (lines ≡ record { number = k.number; key = k.key; first = first } ∷ rest) × AreFirstsOf keys ks rest
+
+-- The keys of an input, each with its line number and the number of the line where it comes first.
+pub record AreKeyLines (e : Encoding) (bytes : List ℕ) (lines : List KeyEntry) : Type 0 where
+  pub keys : List KeyPlace
+  pub are_keys : AreKeys e bytes keys
+  pub are_firsts : AreFirstsOf keys keys lines
+
+-- ---- the result of finding them
+
+-- the entry of the code's record, whose key is a text
+abbrev pub key_line_entry : code.KeyLine → KeyEntry
+key_line_entry line = record { number = line.line_number; key = characters line.key; first = line.first_line_number }
+
+abbrev pub key_line_entries : List code.KeyLine → List KeyEntry
+key_line_entries lines = map key_line_entry lines
+
+-- These are the keys of a source, each with its line and the line in which it comes first, and the only ones.
+pub record HasKeys (e : Encoding) (source : List ℕ) (found : List code.KeyLine) : Type 0 where
+  pub are : AreKeyLines e source (key_line_entries found)
+  pub only : (others : List KeyEntry) → AreKeyLines e source others → others ≡ key_line_entries found
+
+-- The reader was read to its end, and these are the keys of its bytes.
+pub record FindsAllKeys {R : Type 0} (reader : Reader R) (e : Encoding) (from : R) (found : List code.KeyLine) (to : R) : Type 0 where
+  pub bytes : List ℕ
+  pub read : HasRead reader from bytes to
+  pub ended : has_ended reader to ≡ true
+  pub has : HasKeys e bytes found
+
+-- The result of finding the keys. Ok is returned only at the reader's own end.
+abbrev pub FindsKeys : {R Z : Type 0} → Reader R → Encoding → R → Result (Vec code.KeyLine Z) PropertiesError → R → Type 0
+FindsKeys reader e from (Ok found) to = FindsAllKeys reader e from found.items to
+FindsKeys reader e from (Err error) to = FailsToFind reader e from error to ⊎ StopsFinding reader e from error to
+
+-- ---- The malformed escapes and the keys of a source. Finding them fails only if memory runs out.
+
+abbrev pub FindsMalformedIn : {Z : Type 0} → Encoding → List ℕ → Result (Vec MalformedEscape Z) PropertiesError → Type 0
+FindsMalformedIn e source (Ok found) = HasMalformed e source found.items
+FindsMalformedIn e source (Err error) = IsBareError kind.Memory error
+
+abbrev pub FindsKeysIn : {Z : Type 0} → Encoding → List ℕ → Result (Vec code.KeyLine Z) PropertiesError → Type 0
+FindsKeysIn e source (Ok found) = HasKeys e source found.items
+FindsKeysIn e source (Err error) = IsBareError kind.Memory error
+
+-- ---- The value of a key in a source.
+
+-- The error is that of a malformed escape which is the first in this way, with the line in which its logical line
+-- begins.
+pub record IsErrorOfFirst (IsFirst : Malformed → ℕ → Type 0) (error : PropertiesError) : Type 0 where
+  pub how : Malformed
+  pub number : ℕ
+  pub first : IsFirst how number
+  pub is : IsMalformed how number error
+
+-- The source has a malformed escape, and this is the error of the first.
+abbrev pub IsFirstError : Encoding → List ℕ → PropertiesError → Type 0
+IsFirstError e source = IsErrorOfFirst (λ how number. ItemsAre e source (IsFirstMalformed how number))
+
+-- No escape of the source is malformed, and this is the value of the key: that of the last pair with it, or none if no
+-- pair has it. Otherwise an escape is malformed, or memory ran out.
+abbrev pub TellsValue : {Z : Type 0} → Encoding → List ℕ → List ℕ → Result (Option (String Z)) PropertiesError → Type 0
+TellsValue e source key (Ok value) = HasValue e source key (option_map characters value)
+TellsValue e source key (Err error) = IsFirstError e source error ⊎ IsBareError kind.Memory error
+
+-- ---- where comments are passed over
+
+-- A pair of the source has a malformed escape, and this is the error of the first.
+abbrev pub IsFirstPairError : Encoding → List ℕ → PropertiesError → Type 0
+IsFirstPairError e source = IsErrorOfFirst (λ how number. EscapesAre e source (IsFirstInPair how number))
+
+-- No escape of a pair is malformed, and this is the value of the key. Otherwise one is, or memory ran out.
+abbrev pub TellsPairValue : {Z : Type 0} → Encoding → List ℕ → List ℕ → Result (Option (String Z)) PropertiesError → Type 0
+TellsPairValue e source key (Ok value) = HasPairValue e source key (option_map characters value)
+TellsPairValue e source key (Err error) = IsFirstPairError e source error ⊎ IsBareError kind.Memory error
