@@ -5,40 +5,35 @@ use Rattle.std.specs.Borrow.{Bor}
 use Rattle.std.specs.Global.{Vec}
 use Rattle.std.specs.List.{cons_option}
 use Rattle.std.specs.Option.{is_some, option_map}
-use Rattle.properties_format.specs.Encoding.{Encoding, InForce}
-use Rattle.properties_format.specs.Repertoire.{Repertoire, all_of}
+use Rattle.properties_format.specs.Encoding.{Encoding, InForce, Repertoire, all_of}
 use Rattle.properties_format.specs.Lines.{end}
 use Rattle.properties_format.specs.Text.{scalar}
-use Rattle.properties_format.specs.Entries.{Content, comment, pair, AreItems}
-use Rattle.properties_format.specs.Items.{IsItems, Outcome, ignored, given, broken}
+use Rattle.properties_format.specs.Items.{Content, comment, pair, AreItems, IsItems, Outcome, ignored, given, broken}
 use Rattle.properties_format.specs.Maps.{IsValue}
 use Rattle.properties_format.specs.Body.{HeldLine, group_bytes}
 use Rattle.properties_format.specs.Edited.{IsKeySet, IsKeyRemoved, edited}
 use Rattle.properties_format.specs.Edits.{AreEdited, Edit, put, remove, set_value, IsEditAllResult}
 use Rattle.properties_format.specs.Changed.{ReadsAfter}
 use Rattle.properties_format.specs.Valued.{IsValueSet}
-use Rattle.properties_format.specs.Computed.Body.{entries_in, held_groups_of}
+use Rattle.properties_format.specs.Computed.Body.{held_groups_of, outcome_key}
 use Rattle.properties_format.specs.Computed.Edited.{IsSound}
 use Rattle.properties_editing.specs.Private.Sound.{AreSoundFor, IsResult}
 use Rattle.properties_editing.specs.declared.source.Comments.TheVariants.{Read}
 use Rattle.properties_format.specs.Computed.Items.{followed, items_of}
-use Rattle.properties_format.specs.Computed.Maps.{first_value, value_in}
-use Rattle.properties_format.specs.Computed.Parts.{outcome_key}
-use Rattle.properties_format.proofs.Body.Numbers.{items_of-groups}
+use Rattle.properties_format.specs.Computed.Maps.{first_value}
+use Rattle.properties_format.proofs.Body.Numbers.{items_of-groups, entries_in}
 use Rattle.properties_format.proofs.Items.Unique.{items_of-meets}
 use Rattle.properties_format.proofs.Keys.{are-keys, pair_keys}
-use Rattle.properties_format.proofs.Maps.{first-none, value_in-meets}
+use Rattle.properties_format.proofs.Maps.{first-none, value_in-meets, value_in}
+use Rattle.properties_editing.specs.Private.Sources.{HasKeysOf, IsEditMade, IsOpenedAs, MakesEdit, OpenSource, groups_of, value_of, IsInForce}
 use Rattle.properties_editing.specs.Private.BodyDocuments.{IsDocument, open_document}
-use Rattle.properties_editing.specs.Private.BodyIndex.{PairAt, last_value, outcome, paired, pairs_from, span_of}
-use Rattle.properties_editing.specs.Private.BodyIndex.Keys.{group_keys}
+use Rattle.properties_editing.specs.Private.BodyIndex.{PairAt, last_value, outcome, paired, pairs_from, span_of, group_keys}
 use Rattle.properties_editing.specs.Documents.{OpenDocument, HasValueAt, HasKeysInOrder, ChecksHasKey, PutsInto, SetsValueIn, RemovesFrom, characters_of}
 use Rattle.properties_editing.specs.Editing.{AreMade}
-use Rattle.properties_items.specs.FoundItems.{outcome_pair}
-use Rattle.properties_editing.specs.Private.SourceChanges.{HasKeysOf, IsEditMade, IsOpenedAs, MakesEdit, OpenSource, groups_of, value_of}
-use Rattle.properties_editing.specs.Private.Sources.{IsInForce}
+use Rattle.properties_items.specs.BorrowedItems.{outcome_pair}
 use Rattle.properties_editing.specs.declared.document.Document.TheInside.{Inside}
 use Rattle.properties_editing.specs.declared.find.BodySpan.{BodySpan}
-use Rattle.properties_editing.proofs.Comments.{read-line}
+use Rattle.properties_editing.proofs.Comments.{read-line, items-sound}
 use Rattle.properties_editing.proofs.Editing.{made-result, removed-edits, set-edits}
 use Rattle.properties_editing.proofs.EditsInTurn.{result-made}
 use Rattle.properties_editing.proofs.SetValues.{value-edits}
@@ -59,17 +54,7 @@ value-entries n m (g ∷ gs) key s =
     by span ps (given (pair k v)) s h = ap (λ r. first_value r (if bytes_eq k key then Some v else None)) h
     by span ps (broken kind) s h = absurd s
 
--- The entries of groups without malformed escapes are items.
-items-sound : (n : ℕ) (gs : List (List HeldLine)) → AreSoundFor Read gs → AreItems (entries_in n gs)
-items-sound n [] s = tt
-items-sound n (g ∷ gs) s = of-outcome (outcome g) (read-line _ s.0) (items-sound (n + length g) gs s.1)
-  where
-    of-outcome : (o : Outcome) → IsSound o → AreItems (entries_in (n + length g) gs) → AreItems (followed n o (entries_in (n + length g) gs))
-    of-outcome ignored s h = h
-    of-outcome (given content) s h = h
-    of-outcome (broken kind) s h = absurd s
-
--- Where they are items, nothing is malformed.
+-- Where the entries of groups are items, nothing is malformed.
 sound-items : (n : ℕ) (gs : List (List HeldLine)) → AreItems (entries_in n gs) → AreSoundFor Read gs
 sound-items n [] h = tt
 sound-items n (g ∷ gs) h = let m = of-outcome (outcome g) h in (inl m.0, sound-items (n + length g) gs m.1)

@@ -2,19 +2,17 @@
 use Rattle.std.proofs.Common.{◌≡◌, ◌==◌, ℕ, ◌+◌, ◌-◌, ◌≤◌, List, [], ◌∷◌, ◌++◌, length, take, drop, refl, ap, ap₂, sym, ◌∙◌, subst, inl, inr, arith, append-nil, length-append, length-drop}
 use Rattle.std.specs.Prelude.{◌⊎◌, ◌&&◌, ◌||◌, not, Bool, true, false, Option, Some, None, Ok}
 use Rattle.std.proofs.lemmas.Bool.{cases_Bool}
-use Rattle.std.proofs.Math.Seq.{drop-append_seam, take-length}
-use Rattle.std.proofs.lemmas.List.{length-take-le, drop-drop, take-append-le}
+use Rattle.std.proofs.Math.Seq.{drop-append_seam, take-append_seam}
+use Rattle.std.proofs.lemmas.List.{length-take-le, drop-drop}
 use Rattle.properties_format.specs.Text as text
 use Rattle.properties_format.specs.Encoding.{Encoding, windows_1252, utf_8, utf_16le, utf_16be}
-use Rattle.properties_format.specs.Lines.{Line}
+use Rattle.properties_format.specs.Lines.{Line, is_comment_line, is_open, joined, addition}
 use Rattle.properties_format.specs.Text.{is_empty}
 use Rattle.std.proofs.lemmas.Bool.Decides.{nat_tests}
-use Rattle.properties_format.specs.Groups.{is_comment_line, is_open, joined, addition}
-use Rattle.properties_format.specs.Computed.Groups.{closes}
+use Rattle.properties_format.specs.Computed.Lines.{closes}
 use Rattle.properties_format.specs.Computed.Cut.{decoded_line}
 use Rattle.properties_format.specs.Body.{HeldLine, as_lines, ending_bytes, group_bytes}
-use Rattle.properties_format.specs.Computed.Body.{held_groups_after, held_groups_of}
-use Rattle.properties_format.specs.Computed.Parts.{unended_bytes}
+use Rattle.properties_format.specs.Computed.Body.{held_groups_after, held_groups_of, unended_bytes}
 use Rattle.properties_format.proofs.Body.Groups.{as_lines-append, groups-close, groups-leave, group_bytes-append}
 use Rattle.properties_format.proofs.Cut.Only.{ending-windows_1252, ending-utf_8}
 use Rattle.properties_format.proofs.Edited.Steps.{is_left_open-push, is_empty_line-push}
@@ -30,16 +28,11 @@ use Rattle.properties_lines.specs.declared.scanner.RawLine.{RawLine}
 use Rattle.properties_lines.specs.declared.logical.LogicalLine.{LogicalLine}
 use Rattle.properties_lines.specs.declared.scanner.Scanner.{Scanner}
 use Rattle.properties_lines.proofs.Tested.{ascii-line}
-use Rattle.properties_text.specs.Spelt.{text_in}
+use Rattle.properties_text.specs.Escaping.{text_in}
 use Rattle.properties_lines.proofs.HeldLines.{body-next, body-after, body-lines_left}
 use Rattle.properties_editing.specs.Private.BodyGroups.{IsWithin, groups_left, IsBegun, TakesLine, IsSpanOf, TakesGroup, groups_from, ReadsGroup, bytes_at}
 use Rattle.properties_editing.specs.declared.groups.Group.{Group}
 use Rattle.properties_editing.specs.declared.groups.GroupReader.{GroupReader}
-
--- ---- parts of bytes
-
-pub front-of : (x y : List ℕ) → take (length x) (x ++ y) ≡ x
-front-of x y = take-append-le (length x) x y (omega arith) ∙ take-length x
 
 -- ---- the groups that are left
 
@@ -67,9 +60,9 @@ between d x y z start stop next h rest ordered placed within size =
     let all : length d - stop ≡ length y + (length d - next) =
     sym (length-drop stop d) ∙ ap length left ∙ length-append y z ∙ ap (λ n. length y + n) (ap length rest ∙ length-drop next d) in
     let much : next - stop ≡ length y = omega arith in
-    ap₂ take much left ∙ front-of y z
+    ap₂ take much left ∙ take-append_seam y z
 
-line_size : (body : List ℕ) (start stop : ℕ) → start ≤ stop → stop ≤ length body → length (take (stop - start) (drop start body)) ≡ stop - start
+pub line_size : (body : List ℕ) (start stop : ℕ) → start ≤ stop → stop ≤ length body → length (take (stop - start) (drop start body)) ≡ stop - start
 line_size body start stop h k =
     let left : length (drop start body) ≡ length body - start = length-drop start body in
     length-take-le (stop - start) (drop start body) (omega arith)

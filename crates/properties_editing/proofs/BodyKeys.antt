@@ -1,15 +1,15 @@
 -- How a key is looked for in a body, group by group.
 use Rattle.std.proofs.lemmas.Bool.Decides.{nat_tests}
 use Rattle.properties_format.specs.Text.{carriage_return}
-use Rattle.properties_format.specs.Computed.Lines.{ends_in_cr}
+use Rattle.properties_format.specs.Computed.Lines.{ends_in_cr, closes}
 use Rattle.std.proofs.Common.{take-add, get_or, ◌==◌, ◌≡◌, ℕ, ◌+◌, ◌-◌, ◌≤◌, ◌<◌, zero, suc, List, [], ◌∷◌, ◌++◌, length, take, drop, refl, ap, ap₂, sym, ◌∙◌, subst, inl, inr, append-nil, append_assoc, length-append, arith}
 use Rattle.std.specs.Prelude.{◌⊎◌, Bool, true, false, if◌then◌else◌, Option, Some, None, unwrap_or}
 use Rattle.std.specs.Option.{is_some}
-use Rattle.properties_format.specs.Entries as content
+use Rattle.properties_format.specs.Items as content
 use Rattle.std.proofs.lemmas.Bool.{cases_Bool, cond-true, cond-false}
 use Rattle.std.proofs.lemmas.List.{drop-drop, take_more}
-use Rattle.std.proofs.Math.Seq.{drop-append_seam}
-use Rattle.properties_format.specs.Edited.{is_editable, final_group, is_empty_line, is_left_open}
+use Rattle.std.proofs.Math.Seq.{drop-append_seam, take-append_seam}
+use Rattle.properties_format.specs.Edited.{is_editable, final_group, is_empty_line, is_left_open, separation_by}
 use Rattle.properties_format.specs.Computed.Edited.{without}
 use Rattle.properties_editing.specs.Private.Sound.{AreSoundFor, IsSoundFor}
 use Rattle.properties_editing.specs.declared.source.Comments.{Comments}
@@ -17,32 +17,27 @@ use Rattle.properties_editing.proofs.Comments.{line-weaker, sound-join}
 use Rattle.properties_format.proofs.Body.Groups.{held-body, held_groups_of-meets, groups_bytes-append, groups-close, groups-leave}
 use Rattle.properties_format.proofs.Edited.Steps.{without-append, last_place-new, last_place-other, with_after, final_group-push}
 use Rattle.properties_editing.specs.Private.BodyKeys.{spans_bytes, AreWithin, AreOthersFound, IsErrorOfGroups, IsFault, IsPlace, closing_of, closing_bytes, IsKeyFound, places_with, key_told}
-use Rattle.properties_editing.specs.Private.BodyIndex.{is_pair}
 use Rattle.properties_editing.specs.Private.BodyValues.{IsLastPair, FindsLastPair}
 use Rattle.properties_editing.proofs.LastPairs.{last-after}
 use Rattle.std.specs.Str.{chars}
 use Rattle.properties_format.specs.Encoding.{Encoding, windows_1252, utf_8, utf_16le, utf_16be}
 use Rattle.properties_lines.specs.LineSearch.{unit_size}
-use Rattle.properties_format.specs.Lines.{Ended}
-use Rattle.properties_format.specs.Groups.{joined}
-use Rattle.properties_format.specs.Computed.Groups.{closes}
+use Rattle.properties_format.specs.Lines.{Ended, joined}
 use Rattle.properties_format.specs.Computed.Cut.{cut_of}
 use Rattle.properties_format.specs.Body.{HeldLine, as_lines, held_in, group_bytes, groups_bytes}
-use Rattle.properties_format.specs.Valued.{separation_by}
 use Rattle.properties_format.specs.Items.{Outcome, ignored, given, broken}
 use Rattle.properties_format.specs.Computed.Items.{outcome_of}
-use Rattle.properties_format.specs.Computed.Body.{is_pair_with, has_key, held_of, held_lines_of, held_groups_after, held_groups_of}
-use Rattle.properties_format.specs.Computed.Parts.{unended_bytes}
+use Rattle.properties_format.specs.Computed.Body.{is_pair_with, has_key, held_of, held_lines_of, held_groups_after, held_groups_of, unended_bytes}
 use Rattle.properties_format.proofs.Edited.Made.{has_key-true}
 use Rattle.properties_format.proofs.Valued.Lined.{held_in-append}
 use Rattle.properties_text.specs.Encoding.{encoding_of}
-use Rattle.properties_editing.proofs.BodyGroups.{front-of}
 use Rattle.properties_editing.specs.Private.BodyGroups.{IsWithin, groups_left, text_of, TakesGroup}
 use Rattle.properties_editing.specs.declared.groups.Group.{Group}
 use Rattle.properties_editing.specs.declared.groups.GroupReader.{GroupReader}
 use Rattle.properties_editing.specs.declared.find.BodySpan.{BodySpan}
 use Rattle.properties_editing.specs.declared.find.PairPlaces.{PairPlaces}
 use Rattle.properties_items.specs.declared.error.PropertiesError.{PropertiesError}
+use Rattle.properties_items.specs.BorrowedItems.{outcome_pair}
 
 -- ---- the groups that were read
 
@@ -154,7 +149,7 @@ told-with key (given (content.comment text)) = refl
 told-with key (given (content.pair k v)) = refl
 told-with key (broken kind) = refl
 
-told-pair : (key : List ℕ) (o : Outcome) → is_some (key_told key o) ≡ is_pair o
+told-pair : (key : List ℕ) (o : Outcome) → is_some (key_told key o) ≡ is_some (outcome_pair o)
 told-pair key ignored = refl
 told-pair key (given (content.comment text)) = refl
 told-pair key (given (content.pair k v)) = refl
@@ -171,7 +166,8 @@ looked-more {comments} {e} {body} {key} {s} {t} {found} {group} told h k sound i
       (ap (λ v. unwrap_or v false) is ∙ told-with key (outcome_of (chars (text_of body t group))) ∙ ap (λ v. is_pair_with key (outcome_of v)) k.text) (k.starts ∙ h.read.placed)
       k.span.unended;
   last = last-after h.groups k.held (record { start = group.start; end = group.end }) (is_some told) found.last h.last (line-weaker comments (joined (as_lines k.held)) (subst (IsSoundFor comments) k.text sound))
-      (ap is_some is ∙ told-pair key (outcome_of (chars (text_of body t group))) ∙ ap (λ v. is_pair (outcome_of v)) k.text) (k.starts ∙ h.read.placed) k.span.unended;
+      (ap is_some is ∙ told-pair key (outcome_of (chars (text_of body t group))) ∙ ap (λ v. is_some (outcome_pair (outcome_of v))) k.text)
+      (k.starts ∙ h.read.placed) k.span.unended;
   closing = inr (λ ending. ap (separation_by ending) (final_group-push h.groups k.held)
       ∙ separated ending (is_empty_line k.held) (is_left_open k.held)
       ∙ ap₂ (λ a b. closing_bytes ending (closing_of a b)) (sym k.span.empty) (sym k.span.opens));
@@ -262,9 +258,6 @@ one-span : (body : List ℕ) (xs : List BodySpan) (start after : ℕ)
 one-span body xs start after =
     spans-append body xs (record { start = start; end = after } ∷ []) ∙ ap (λ v. spans_bytes body xs ++ v) (append-nil (take (after - start) (drop start body)))
 
-no-part : (n : ℕ) (d : List ℕ) → take (n - n) d ≡ []
-no-part n d = ap (λ m. take m d) (let z : n - n ≡ 0 = omega arith in z)
-
 without-push : (key : List ℕ) (groups : List (List HeldLine)) (g : List HeldLine) → without key (groups ++ g ∷ []) ≡ without key groups ++ without key (g ∷ [])
 without-push key groups g = without-append key groups (g ∷ [])
 
@@ -289,7 +282,8 @@ kept-removed {comments} {e} {body} {key} {s} {t} {others} {start} {group} more h
       read = read-more h.read k sound;
       ordered = omega arith;
       within = subst (AreWithin body) (sym pushed) within;
-      bytes = ap₂ (λ v w. spans_bytes body v ++ w) pushed (no-part t.scanner.at (drop t.scanner.at body))
+      bytes = ap₂ (λ v w. spans_bytes body v ++ w) pushed
+          (ap (λ m. take m (drop t.scanner.at body)) (let none : t.scanner.at - t.scanner.at ≡ 0 = omega arith in none))
           ∙ append-nil (spans_bytes body (others ++ record { start = start; end = group.start } ∷ []))
           ∙ one-span body others start group.start
           ∙ ap (λ n. spans_bytes body others ++ take (n - start) (drop start body)) starts
@@ -316,7 +310,7 @@ group-part {comments} {e} {body} {groups} {s} {t} {group} ok h k =
     let whole = group-whole ok h k in
     let placed = h.placed in
     let size : t.scanner.at - s.scanner.at ≡ length g = omega arith in (
-      ap₂ (λ n d. take n d) size (ap₂ drop placed whole ∙ drop-append_seam front (g ++ rest)) ∙ front-of g rest,
+      ap₂ (λ n d. take n d) size (ap₂ drop placed whole ∙ drop-append_seam front (g ++ rest)) ∙ take-append_seam g rest,
       (omega arith),
     )
 

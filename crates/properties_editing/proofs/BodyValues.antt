@@ -2,19 +2,17 @@
 use Rattle.std.proofs.Common.{◌≡◌, ◌<◌, ◌≤◌, ℕ, zero, suc, ◌+◌, ◌-◌, Bool, true, false, List, [], ◌∷◌, ◌++◌, length, take, drop, get_or, refl, inl, inr, ap, ap₂, sym, ◌∙◌, subst, arith, append-nil, append_assoc, length-append, take-add}
 use Rattle.std.specs.Prelude.{if◌then◌else◌, nat_lt, Some, None, bytes_eq, nat_le}
 use Rattle.std.proofs.lemmas.Bool.{cases_Bool, cond-true, cond-false}
-use Rattle.std.proofs.lemmas.List.{drop_more, take_more, drop_all, length-drop, length-take-le, length-take, take_rest, take-append-drop}
+use Rattle.std.proofs.lemmas.List.{drop_more, take_more, drop_all, length-drop, length-take-le, length-take, take_rest, take-append-drop, take-take}
 use Rattle.std.proofs.lemmas.Str.{chars-nil, chars-append, IsUtf8-take, IsUtf8-between}
 use Rattle.properties_editing.specs.Private.BodyGroups.{TakesGroup, IsFirstGroup, IsWithin, TakesLine, text_of}
 use Rattle.properties_editing.specs.declared.groups.Group.{Group}
 use Rattle.properties_editing.specs.declared.groups.GroupReader.{GroupReader}
-use Rattle.properties_format.specs.Encoding.{Encoding}
-use Rattle.properties_format.specs.Repertoire.{Repertoire}
-use Rattle.properties_format.specs.Lines.{Lines}
-use Rattle.properties_format.specs.Groups.{is_open, joined}
+use Rattle.properties_format.specs.Encoding.{Encoding, Repertoire}
+use Rattle.properties_format.specs.Lines.{Lines, is_open, joined}
 use Rattle.properties_format.specs.Body.{HeldLine, as_lines, held_in, ending_bytes, AreGroupsOf, group_bytes, last_ending}
 use Rattle.properties_format.specs.Edited.{is_editable}
 use Rattle.properties_format.specs.Computed.Cut.{decoded_line}
-use Rattle.properties_format.specs.Computed.Body.{held_of, held_lines_of, held_groups_of}
+use Rattle.properties_format.specs.Computed.Body.{held_of, held_lines_of, held_groups_of, unended_bytes}
 use Rattle.properties_format.specs.Computed.Valued.{added_by, without_indent, front_in, front_of, last_between, between_of, is_pair_to, has_value, ascii_count, after_ascii, after_key, written_value, between_in, before_value, between_if_pair, without_end}
 use Rattle.properties_format.proofs.Body.Groups.{held_groups_of-meets, held_of-only, held-body}
 use Rattle.properties_format.proofs.Cut.Only.{cut_of-only}
@@ -34,7 +32,6 @@ use Rattle.properties_format.specs.Computed.Escapes.{meaning_of}
 use Rattle.properties_format.specs.Computed.Items.{outcome_of, pair_outcome, split_outcome}
 use Rattle.properties_format.specs.Computed.Edited.{IsSound}
 use Rattle.properties_format.proofs.Escapes.Unique.{means-only, meaning_of-only}
-use Rattle.properties_format.specs.Computed.Parts.{unended_bytes}
 use Rattle.properties_format.proofs.InTurn.Lines.{bytes-unended}
 use Rattle.properties_format.proofs.Valued.Read.{front-unended}
 use Rattle.properties_editing.specs.Private.BodyValues.{IsBeforeValue, IsFrontSize, IsPairAlone, IsNewValue, IsGroupAlone, revalued_in, IsBetweenAt}
@@ -52,6 +49,7 @@ use Rattle.properties_format.proofs.Valued.Parts.{without_end-append, written_va
 use Rattle.properties_text.specs.Parsing.{bytes_in, IsSpan, IsPairAt}
 use Rattle.properties_text.specs.declared.parse.Span.{Span}
 use Rattle.properties_text.proofs.Texts.Split.{rest_of, rest_of-part, without_leading_blanks-part}
+use Rattle.properties_editing.proofs.BodyGroups.{line_size}
 
 -- ---- ASCII among bytes
 
@@ -369,9 +367,10 @@ walking-on {e} {body} {old} {new} {first} {left} text added w k t l =
     let on = walk-on e first h hs w.rest w.value is_before (omega arith) in
     let later = front_size-later e first h hs w.rest on.next on.whole on.is_before.some in
     let inside = k.within.within_body.fits.within in
-    let line_size : length bytes ≡ new.scanner.line.end - new.scanner.line.start = length-slice body new.scanner.line.start new.scanner.line.end (omega arith) in
+    let bytes_size : length bytes ≡ new.scanner.line.end - new.scanner.line.start =
+    line_size body new.scanner.line.start new.scanner.line.end k.ordered (omega arith) in
     let ending_size : length (ending_bytes k.ending) ≡ new.scanner.at - new.scanner.line.end =
-    ap length (sym k.ends) ∙ length-slice body new.scanner.line.end new.scanner.at inside in
+    ap length (sym k.ends) ∙ line_size body new.scanner.line.end new.scanner.at k.placed inside in
     let front : length (front_of e w.group) ≡ old.scanner.at + length (front_in e first w.rest (h ∷ hs)) =
     w.front ∙ ap (λ v. old.scanner.at + length (front_in e first w.rest v)) lines in
     record {
@@ -385,11 +384,6 @@ walking-on {e} {body} {old} {new} {first} {left} text added w k t l =
       within = k.within;
       encoding = k.encoding ∙ w.encoding;
     }
-  where
-    length-slice : (d : List ℕ) (start end : ℕ) → end ≤ length d → length (take (end - start) (drop start d)) ≡ end - start
-    length-slice d start end h =
-        let left = length-drop start d in
-        length-take-le (end - start) (drop start d) (omega arith)
 
 -- ---- whether a pair has a value
 
@@ -503,7 +497,7 @@ pub revalued-made : (r : Repertoire) (source : List ℕ) (start end : ℕ) (valu
     → bytes ≡ take (start + new.front_size) source ++ (new.bytes ++ drop end source) → bytes ≡ revalued_in r source start end value n.group
 revalued-made r source start end value bytes new n made =
     let part = drop start source in
-    let sized : length (take (end - start) part) ≤ end - start = length-take-most (end - start) part in
+    let sized : length (take (end - start) part) ≤ end - start = (let l = length-take (end - start) part in omega arith) in
     let short : take new.front_size part ≡ front_of r.encoding n.group =
     sym (take-take new.front_size (end - start) part (omega arith)) ∙ n.front in
     let front : take (start + new.front_size) source ≡ take start source ++ front_of r.encoding n.group = take-add start new.front_size source ∙ ap (λ v. take start source ++ v) short in
@@ -511,12 +505,3 @@ revalued-made r source start end value bytes new n made =
     ∙ ap₂ (λ v w. v ++ (w ++ drop end source)) front n.bytes_are
     ∙ append_assoc (take start source) (front_of r.encoding n.group) (encoded_text r.encoding (value_text r (between_of n.group) value) ++ drop end source)
     ∙ sym (cond-false (has_value value n.group) source _ n.other)
-  where
-    length-take-most : (n : ℕ) (d : List ℕ) → length (take n d) ≤ n
-    length-take-most n d = let l = length-take n d in omega arith
-
-    take-take : (n m : ℕ) (d : List ℕ) → n ≤ m → take n (take m d) ≡ take n d
-    take-take zero m d h = refl
-    take-take (suc n) zero d h = absurd (omega arith)
-    take-take (suc n) (suc m) [] h = refl
-    take-take (suc n) (suc m) (b ∷ d) h = ap (λ v. b ∷ v) (take-take n m d (omega arith))

@@ -3,29 +3,26 @@ use Rattle.std.proofs.Common.{◌≡◌, ℕ, ◌+◌, true, false, List, [], �
 use Rattle.std.specs.Prelude.{None}
 use Rattle.std.proofs.lemmas.Bool.{cond-true, cond-false}
 use Rattle.properties_format.specs.Encoding.{Encoding, byte_order_mark}
-use Rattle.properties_format.specs.Groups.{is_comment_line, joined}
+use Rattle.properties_format.specs.Lines.{is_comment_line, joined}
 use Rattle.properties_format.specs.Escapes.{Malformed, Meaning, means, breaks}
-use Rattle.properties_format.specs.Items.{Outcome, ignored, given, broken}
+use Rattle.properties_format.specs.Items.{Outcome, ignored, given, broken, AreItems}
 use Rattle.properties_format.specs.Split.{Logical, IsSplit}
 use Rattle.properties_format.specs.Body.{HeldLine, as_lines, held_in}
-use Rattle.properties_format.specs.MalformedEscapes.{MalformedEscape, escapes_from}
+use Rattle.properties_format.specs.Found.{MalformedEscape, escapes_from}
 use Rattle.properties_format.specs.Edited.{EditResult, edited, unsupported, unreadable, is_editable, IsEditResult}
-use Rattle.properties_format.specs.EditedPairs.{IsPairsResult}
+use Rattle.properties_format.specs.Edits.{IsPairsResult}
 use Rattle.properties_format.specs.Computed.Items.{comment_outcome, followed, outcome_of, split_outcome}
 use Rattle.properties_format.specs.Computed.Escapes.{meaning_of}
 use Rattle.properties_format.specs.Computed.Split.{split_of}
-use Rattle.properties_format.specs.Computed.Body.{entries_in, held_groups_of}
-use Rattle.properties_format.specs.Computed.Edited.{IsSound, result_by, result_of}
-use Rattle.properties_format.specs.Computed.Edited as format
-use Rattle.properties_format.specs.Computed.Parts.{outcome_key}
-use Rattle.properties_format.proofs.Body.Numbers.{items_of-groups}
-use Rattle.properties_format.proofs.Edited.Results.{result_of-meets, result-editable}
-use Rattle.properties_format.proofs.Edited.Steps.{result-after}
+use Rattle.properties_format.specs.Computed.Body.{held_groups_of, outcome_key}
+use Rattle.properties_format.specs.Computed.Edited.{IsSound}
+use Rattle.properties_format.proofs.Body.Numbers.{items_of-groups, entries_in}
+use Rattle.properties_format.proofs.Edited.Results.{result_of-meets, result-editable, result_by, result_of, result-after}
 use Rattle.properties_format.proofs.Edits.Escapes.{escapes_of_body, malformed_escapes_of-groups}
 use Rattle.properties_format.proofs.Edits.PairResults.{pairs_result_of, pairs_result_of-meets, pairs_result-editable, result_by_pairs}
 use Rattle.properties_format.proofs.Split.Unique.{split_of-meets}
 use Rattle.properties_format.proofs.Valued.Parts.{comment_line-no_pair}
-use Rattle.properties_items.specs.FoundItems.{outcome_pair}
+use Rattle.properties_items.specs.BorrowedItems.{outcome_pair}
 use Rattle.properties_editing.specs.Private.Sound.{AreSound, AreSoundFor, IsResult, IsSoundFor, passes_over}
 use Rattle.properties_editing.specs.declared.source.Comments.{Comments}
 use Rattle.properties_editing.specs.declared.source.Comments.TheVariants.{Read, PassedOver}
@@ -72,9 +69,15 @@ pub sound-join : (comments : Comments) (gs hs : List (List HeldLine)) → AreSou
 sound-join comments [] hs h k = k
 sound-join comments (g ∷ gs) hs h k = (h.0, sound-join comments gs hs h.1 k)
 
-all-read : (gs : List (List HeldLine)) → AreSoundFor Read gs → format.AreSound gs
-all-read [] h = tt
-all-read (g ∷ gs) h = (read-line (joined (as_lines g)) h.0, all-read gs h.1)
+-- The entries of groups without malformed escapes are items.
+pub items-sound : (n : ℕ) (gs : List (List HeldLine)) → AreSoundFor Read gs → AreItems (entries_in n gs)
+items-sound n [] s = tt
+items-sound n (g ∷ gs) s = of-outcome (outcome_of (joined (as_lines g))) (read-line _ s.0) (items-sound (n + length g) gs s.1)
+  where
+    of-outcome : (o : Outcome) → IsSound o → AreItems (entries_in (n + length g) gs) → AreItems (followed n o (entries_in (n + length g) gs))
+    of-outcome ignored s h = h
+    of-outcome (given content) s h = h
+    of-outcome (broken kind) s h = absurd s
 
 -- ---- the first malformed escape that isn't passed over
 
@@ -108,7 +111,7 @@ pairs-after n (g ∷ gs) hs made h =
 -- After sound groups, the result is that of the groups that follow.
 pub from-after : (comments : Comments) (n : ℕ) (gs hs : List (List HeldLine)) (made : List ℕ) → AreSoundFor comments gs
     → result_from comments n (gs ++ hs) made ≡ result_from comments (n + length (held_in gs)) hs made
-from-after Read n gs hs made h = result-after n gs hs made (all-read gs h)
+from-after Read n gs hs made h = result-after n gs hs made (items-sound n gs h)
 from-after PassedOver n gs hs made h = pairs-after n gs hs made h
 
 -- A group with a malformed escape that isn't passed over.

@@ -2,19 +2,18 @@
 use Rattle.std.proofs.Common.{◌≡◌, ◌==◌, ℕ, ◌+◌, ◌-◌, ◌≤◌, List, [], ◌∷◌, ◌++◌, All, length, take, drop, refl, ap, ap₂, sym, ◌∙◌, subst, inl, inr, append-nil, append_assoc, length-append, length-drop, arith, lit<, take-add, ◌<◌, get_or}
 use Rattle.std.specs.Prelude.{Bool, true, false, if◌then◌else◌, Some, None, Result, Ok, Err, IsErrAnd, not, ◌&&◌, unwrap_or}
 use Rattle.std.specs.Global.{Vec}
-use Rattle.std.proofs.Math.Seq.{drop-append_seam}
+use Rattle.std.proofs.Math.Seq.{drop-append_seam, take-append_seam}
 use Rattle.std.proofs.lemmas.List.{length-take-le, drop-drop, take_rest, take_more, map-append}
 use Rattle.std.proofs.lemmas.Result.{err_from_is_err_and}
 use Rattle.std.proofs.lemmas.Bool.{cases_Bool}
 use Rattle.properties_format.specs.Text.{LineEnding, lf, cr, crlf, line_ending_text, scalar, line_feed, equals_sign, is_empty}
 use Rattle.properties_format.specs.Printing.{in_key_or_value, printed_key, printed_characters, encoded_text}
 use Rattle.properties_format.proofs.Printing.Characters.{encoded-ascii, encoded_text-append}
-use Rattle.properties_format.specs.Encoding.{Encoding, InForce, byte_order_mark, begins_with, begins_like_bom, utf_8_bom, utf_16be_bom, utf_16le_bom}
-use Rattle.properties_format.specs.Repertoire.{Repertoire, repertoire, in_encoding}
+use Rattle.properties_format.specs.Encoding.{Encoding, InForce, byte_order_mark, begins_with, begins_like_bom, utf_8_bom, utf_16be_bom, utf_16le_bom, Repertoire, repertoire, in_encoding}
 use Rattle.properties_format.specs.Body.{ending_bytes, groups_bytes, held_in, last_ending}
-use Rattle.properties_format.specs.Edited.{bom_of, pair_bytes, separation, added_ending, is_editable, edited, IsKeySet, IsKeyRemoved, IsSetKeyResult, IsRemoveKeyResult}
+use Rattle.properties_format.specs.Edited.{bom_of, pair_bytes, added_ending, is_editable, edited, IsKeySet, IsKeyRemoved, IsSetKeyResult, IsRemoveKeyResult}
 use Rattle.properties_format.specs.Computed.Body.{held_groups_of}
-use Rattle.properties_format.specs.Computed.Edited.{without, key_removed, key_removed_in, key_set, key_set_in, set_at, last_place}
+use Rattle.properties_format.specs.Computed.Edited.{without, last_place}
 use Rattle.properties_editing.specs.Private.Sound.{AreSoundFor, IsResult, Returns}
 use Rattle.properties_editing.specs.declared.source.Comments.{Comments}
 use Rattle.properties_editing.specs.declared.source.Comments.TheVariants.{Read}
@@ -22,7 +21,7 @@ use Rattle.properties_editing.proofs.Comments.{from-after, from-fault, from-soun
 use Rattle.properties_format.proofs.Body.Groups.{held_groups_of-meets, held-body}
 use Rattle.properties_format.proofs.Edited.ByteOrderMarks.{source-whole}
 use Rattle.properties_format.proofs.Edited.Results.{set_key_result-only, remove_key_result-only}
-use Rattle.properties_format.proofs.Edited.Made.{key_set-meets, key_removed-meets}
+use Rattle.properties_format.proofs.Edited.Made.{key_set-meets, key_removed-meets, key_removed, key_removed_in, key_set, key_set_in, set_at}
 use Rattle.properties_format.proofs.Changed.Read.{set_key-reads, remove_key-reads}
 use Rattle.properties_format.proofs.Edits.InAscii.{set_key-in_ascii}
 use Rattle.properties_format.specs.Edits.{AreScalarEdits}
@@ -35,7 +34,7 @@ use Rattle.properties_format.proofs.Edited.Pair.{editable-own}
 use Rattle.properties_text.specs.Encoding.{encoding_of}
 use Rattle.properties_editing.specs.Private.BodyKeys.{IsErrorOfGroups, IsPlaceOf, IsPlace, IsKeyFound, AreOthersFound, left_bytes, closing_bytes}
 use Rattle.properties_editing.specs.Private.Sources.{IsInForce, printed_in, used_in}
-use Rattle.properties_editing.proofs.BodyGroups.{front-of, no-bytes}
+use Rattle.properties_editing.proofs.BodyGroups.{no-bytes}
 use Rattle.properties_editing.proofs.LastPairs.{IsPartAt, part-at}
 use Rattle.properties_editing.specs.declared.find.BodySpan.{BodySpan}
 use Rattle.properties_editing.specs.declared.find.PairPlaces.{PairPlaces}
@@ -52,7 +51,7 @@ bom-front {source} {r} {opened} h =
     let sizes : length source ≡ length (bom_of source) + length body = ap length whole ∙ length-append (bom_of source) body in
     let left : length body ≡ length source - opened.start = length-drop opened.start source in
     let n : opened.start ≡ length (bom_of source) = omega arith in
-    sym (ap₂ take n whole ∙ front-of (bom_of source) body)
+    sym (ap₂ take n whole ∙ take-append_seam (bom_of source) body)
 
 -- a source that is edited is in an encoding that is edited
 pub editable : {source : List ℕ} {r : Repertoire} {opened : BodyStart} → IsInForce source r opened → is_editable (byte_order_mark r.encoding source).encoding ≡ true

@@ -2,11 +2,10 @@
 use Rattle.std.proofs.Common.{ℕ, List, [], ◌∷◌, ◌++◌, refl, sym, ◌∙◌, subst}
 use Rattle.std.specs.Prelude.{Result, Ok, Err}
 use Rattle.std.specs.Global.{Vec}
-use Rattle.properties_format.specs.Repertoire.{Repertoire, repertoire}
+use Rattle.properties_format.specs.Encoding.{Repertoire, repertoire}
 use Rattle.properties_format.specs.Edited.{edited}
-use Rattle.properties_format.specs.Edits.{Edit, IsEdited, AreEdited, AreScalarEdits, IsEditAllResult}
-use Rattle.properties_format.specs.EditedPairs.{IsEditPairsResult}
-use Rattle.properties_format.specs.LogicalLines.{AreLinesEditedInTurn}
+use Rattle.properties_format.specs.Edits.{Edit, IsEdited, AreEdited, AreScalarEdits, IsEditAllResult, IsEditPairsResult}
+use Rattle.properties_format.specs.Changed.{AreLinesEditedInTurn}
 use Rattle.properties_format.proofs.Edits.Results.{edit_all_result-only}
 use Rattle.properties_format.proofs.Edits.Contents.{edit_all-reads}
 use Rattle.properties_format.proofs.Edits.Escapes.{edits-in_comments}

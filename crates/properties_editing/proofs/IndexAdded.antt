@@ -2,17 +2,14 @@
 use Rattle.std.proofs.Common.{◌≡◌, ◌≢◌, ◌<◌, ◌≤◌, ℕ, ◌+◌, Bool, true, false, List, [], ◌∷◌, ◌++◌, None, All, take, drop, ◌-◌, ◌^◌, length, length-drop, refl, ap, ap₂, sym, ◌∙◌, inl, inr, append_assoc, length-append, subst, arith}
 use Rattle.std.specs.Prelude.{if◌then◌else◌}
 use Rattle.properties_format.specs.Text.{LineEnding, lf, cr, scalar, line_ending_text, is_empty}
-use Rattle.properties_format.specs.Encoding.{Encoding}
-use Rattle.properties_format.specs.Repertoire.{Repertoire, in_encoding}
-use Rattle.properties_format.specs.Lines.{HoldsNoLineEnd}
+use Rattle.properties_format.specs.Encoding.{Encoding, Repertoire, in_encoding}
+use Rattle.properties_format.specs.Lines.{HoldsNoLineEnd, IsWhole, joined}
 use Rattle.properties_format.specs.Computed.Lines.{ends_in_cr}
 use Rattle.properties_format.specs.Computed.Cut.{decoded_line}
-use Rattle.properties_format.specs.Groups.{IsWhole, joined}
-use Rattle.properties_format.specs.Entries.{pair}
-use Rattle.properties_format.specs.Items.{given}
+use Rattle.properties_format.specs.Items.{pair, given}
 use Rattle.properties_format.specs.Body.{groups_bytes}
-use Rattle.properties_format.specs.Edited.{is_editable, final_group, is_empty_line, is_left_open, IsKeySet, pair_bytes}
-use Rattle.properties_format.specs.Valued.{IsValueSet, separation_by}
+use Rattle.properties_format.specs.Edited.{is_editable, final_group, is_empty_line, is_left_open, IsKeySet, pair_bytes, separation_by}
+use Rattle.properties_format.specs.Valued.{IsValueSet}
 use Rattle.properties_format.specs.Computed.Items.{outcome_of}
 use Rattle.properties_format.specs.Computed.Body.{held_groups_of}
 use Rattle.properties_editing.specs.Private.Sound.{AreSound}
@@ -29,13 +26,13 @@ use Rattle.properties_format.proofs.Valued.Lined.{groups-lined}
 use Rattle.properties_format.proofs.Valued.Made.{new_separator-meets}
 use Rattle.properties_format.proofs.Valued.Separators.{new_separator-fit, added-pair, added_bytes}
 use Rattle.std.proofs.Math.Seq.{drop-append_seam}
-use Rattle.std.proofs.lemmas.List.{length-take-le, take-append-drop}
+use Rattle.std.proofs.lemmas.List.{length-take-le, take-append-drop, drop-append-le}
 use Rattle.properties_text.specs.Encoding.{encoding_of}
-use Rattle.properties_editing.specs.Private.BodyIndex.{GrowsIndex, IsIndex, IsKept, IsPairAppended, last_span, opened_bytes, spans_of, stored_at}
+use Rattle.properties_editing.specs.Private.BodyIndex.{GrowsIndex, IsIndex, IsPairAppended, last_span, opened_bytes, spans_of, stored_at}
 use Rattle.properties_editing.specs.Private.BodyKeys.{IsKeyFound, IsPlace, closing_bytes, closing_of}
 use Rattle.properties_editing.specs.Private.BodyValues.{IsLayoutAfter, unended_pair}
 use Rattle.properties_items.specs.Texts.{characters}
-use Rattle.properties_items.specs.LineEndings.{ending_of}
+use Rattle.properties_items.specs.Line.{ending_of}
 use Rattle.properties_editing.specs.declared.append.Layout.{Layout}
 use Rattle.properties_editing.specs.declared.source.BodyStart.{BodyStart}
 use Rattle.std.proofs.lemmas.Bool.{cond-true}
@@ -48,10 +45,8 @@ use Rattle.properties_editing.specs.declared.find.Closing.TheVariants as closing
 use Rattle.properties_editing.proofs.BodyKeys.{separated, some-groups}
 use Rattle.properties_editing.proofs.IndexAppended.{appended-index, appended-sound}
 use Rattle.properties_editing.proofs.IndexFound.{found-place}
-
-some-size : (x : List ℕ) → x ≢ [] → 0 < length x
-some-size [] h = absurd (h refl)
-some-size (c ∷ x) h = omega arith
+use Rattle.properties_editing.proofs.IndexChanged.{IsKept}
+use Rattle.properties_format.proofs.Valued.Fronts.{some-length}
 
 -- ---- what separates a pair from a group
 
@@ -109,7 +104,7 @@ added-index e by second body key value line added old new ok seam p sounds h fit
     let sep_size = ap length sep in
     let closed_size = ap length k.bytes ∙ length-append (groups_bytes gs) (separation_by ending k.final) in
     let starts : start ≡ length (groups_bytes (k.before ++ k.left)) = omega arith in
-    let more = some-size line p.some in
+    let more = some-length line p.some in
     let behind : length (groups_bytes gs) < start + length line = omega arith in
     let more_size = opened-fits ending old.closing in
     let added_size = ap length is ∙ length-append body (separation ++ (line ++ line_ending_text second))
@@ -151,14 +146,6 @@ pair-line r first key value ok k v =
 
 -- ---- in a source
 
-drop-front : (n : ℕ) (x y : List ℕ) → n ≤ length x → drop n (x ++ y) ≡ drop n x ++ y
-drop-front n x y h =
-    let size = length-take-le n x h in
-    ap (λ v. drop n (v ++ y)) (sym (take-append-drop n x))
-    ∙ ap (drop n) (append_assoc (take n x) (drop n x) y)
-    ∙ ap (λ m. drop m (take n x ++ (drop n x ++ y))) (sym size)
-    ∙ drop-append_seam (take n x) (drop n x ++ y)
-
 -- What the index says of a key that isn't stored.
 pub found-none : (e : Encoding) (body key : List ℕ) (index : Index) → IsIndex (held_groups_of e body) index
     → stored_at index.pairs.entries key ≡ None → IsKeyFound e body key (record { pair = None; last = None; closing = index.closing })
@@ -194,7 +181,7 @@ module _ (opened : BodyStart) (old new key value line : List ℕ) (was is : Inde
       let tail = closing_bytes (line_ending_text by) was.closing ++ (line ++ line_ending_text second) in
       let left = length-drop opened.start new in
       added-index f by second body key value line (drop opened.start new) was is ok seam p sound h (omega arith)
-      (ap (drop opened.start) made.bytes ∙ drop-front opened.start old tail start) (rw place at made.index)
+      (ap (drop opened.start) made.bytes ∙ drop-append-le opened.start old tail start) (rw place at made.index)
 
   -- The pair that setting a value adds to a source,
   pub pair-added : (layout : Layout) → IsLayoutAfter (encoding_of opened.encoding) (drop opened.start old) was.closing key layout

@@ -8,24 +8,22 @@ use Rattle.std.proofs.lemmas.Bool.Decides.{nat_tests}
 use Rattle.std.proofs.lemmas.List.{map-append, length-map}
 use Rattle.properties_format.specs.Text.{LineEnding, line_ending_text}
 use Rattle.properties_format.specs.Encoding.{Encoding}
-use Rattle.properties_format.specs.Lines.{HoldsNoLineEnd}
+use Rattle.properties_format.specs.Lines.{HoldsNoLineEnd, IsWhole, joined}
 use Rattle.properties_format.specs.Computed.Cut.{decoded_line}
-use Rattle.properties_format.specs.Groups.{IsWhole, joined}
-use Rattle.properties_format.specs.Entries.{pair}
-use Rattle.properties_format.specs.Items.{ignored, given}
+use Rattle.properties_format.specs.Items.{pair, ignored, given}
 use Rattle.properties_format.specs.Body.{HeldLine, as_lines, group_bytes, groups_bytes, ending_bytes}
 use Rattle.properties_format.specs.Edited.{final_group, is_editable, is_empty_line, is_left_open}
 use Rattle.properties_format.specs.Computed.Items.{outcome_of}
 use Rattle.properties_format.specs.Computed.Edited.{IsSound}
 use Rattle.properties_editing.specs.Private.Sound.{AreSound, IsSoundFor}
 use Rattle.properties_editing.specs.declared.source.Comments.TheVariants.{PassedOver}
-use Rattle.properties_format.specs.Computed.Parts.{unended_bytes}
+use Rattle.properties_format.specs.Computed.Body.{unended_bytes}
 use Rattle.properties_format.proofs.Edited.AppendedPair as appended
 use Rattle.properties_format.proofs.Edited.Closed.{AreClosedBy, IsLeft, opened_by}
 use Rattle.properties_format.proofs.Edited.Steps.{final_group-push}
 use Rattle.properties_format.proofs.Valued.Added.{empty_line, outcomes-empty}
 use Rattle.properties_editing.specs.Private.BodyIndex.{GrowsIndex, IsIndex, IsListed, all_longer, longer, outcome, paired, pairs_from, span_of, spans_of, stored_places, stored_value}
-use Rattle.properties_items.specs.FoundItems.{outcome_pair}
+use Rattle.properties_items.specs.BorrowedItems.{outcome_pair}
 use Rattle.properties_editing.specs.Private.BodyKeys.{closing_of}
 use Rattle.properties_editing.specs.declared.index.Index.{Index}
 use Rattle.properties_editing.specs.declared.find.BodySpan.{BodySpan}

@@ -1,22 +1,21 @@
 -- The index of a body in which the last pair with a key gets another value.
-use Rattle.std.proofs.Common.{◌≡◌, ◌<◌, ℕ, ◌+◌, ◌^◌, ◌==◌, Bool, true, false, List, [], ◌∷◌, ◌++◌, Some, None, length, refl, ap, ap₂, sym, ◌∙◌, subst, inl, inr, arith}
+use Rattle.std.proofs.Common.{◌≡◌, ◌<◌, ℕ, ◌+◌, ◌^◌, ◌==◌, Bool, true, false, List, [], ◌∷◌, ◌++◌, Some, None, length, refl, ap, ap₂, sym, ◌∙◌, subst, inl, inr, arith, drop}
 use Rattle.std.specs.Prelude.{◌⊎◌, if◌then◌else◌, map, option_and_then}
 use Rattle.std.proofs.lemmas.Bool.{cond-true, cond-false}
 use Rattle.std.proofs.lemmas.Bool.Decides.{nat_tests}
 use Rattle.properties_format.specs.Text.{LineEnding, lf, cr, crlf, line_ending_text}
 use Rattle.properties_format.specs.Encoding.{Encoding}
-use Rattle.properties_format.specs.Groups.{EndsClosed, IsWhole, joined}
-use Rattle.properties_format.specs.Entries.{pair}
-use Rattle.properties_format.specs.Items.{given}
+use Rattle.properties_format.specs.Lines.{EndsClosed, IsWhole, joined}
+use Rattle.properties_format.specs.Items.{pair, given}
 use Rattle.properties_format.specs.Body.{HeldLine, NoneHasKey, as_lines, ending_bytes, group_bytes, groups_bytes, last_ending}
 use Rattle.properties_format.specs.Edited.{final_group, is_empty_line, is_last_open, is_left_open}
 use Rattle.properties_format.specs.Computed.Edited.{IsSound}
 use Rattle.properties_editing.specs.Private.Sound.{AreSound, IsSoundFor}
 use Rattle.properties_editing.specs.declared.source.Comments.TheVariants.{PassedOver}
-use Rattle.properties_format.specs.Computed.Parts.{unended_bytes}
+use Rattle.properties_format.specs.Computed.Body.{unended_bytes, held_groups_of}
 use Rattle.properties_format.proofs.InTurn.Lines.{ending-of}
 use Rattle.properties_format.proofs.InTurn.Merged.{AreInTurn}
-use Rattle.properties_items.specs.FoundItems.{outcome_pair}
+use Rattle.properties_items.specs.BorrowedItems.{outcome_pair}
 use Rattle.properties_editing.specs.Private.BodyIndex.{FollowsPair, IsEndMoved, IsIndex, carried_to, outcome, paired, pairs_from, span_of, spans_of, stored_at}
 use Rattle.properties_editing.specs.Private.BodyKeys.{closing_of}
 use Rattle.properties_editing.specs.declared.index.Index.{Index}
@@ -26,6 +25,15 @@ use Rattle.properties_editing.specs.declared.find.Closing.TheVariants.{OneEnding
 use Rattle.properties_editing.proofs.IndexFound.{last-stored}
 use Rattle.properties_editing.proofs.IndexListed.{listed-as, listed-revalued}
 use Rattle.properties_editing.proofs.IndexSpans.{carried, carried-behind, end-moved, group-size, moved-behind, none-with, pairs-around, size-around}
+use Rattle.properties_text.specs.Encoding.{encoding_of}
+use Rattle.properties_editing.specs.declared.source.BodyStart.{BodyStart}
+
+-- ---- a source and its index after an edit
+
+-- The source is what is meant, nothing in it is malformed but in comments, and the index is that of its groups.
+abbrev pub IsKept : Type 0 → BodyStart → List ℕ → Index → Type 0
+IsKept Meant opened source index =
+    let groups = held_groups_of (encoding_of opened.encoding) (drop opened.start source) in Meant × (AreSound groups × IsIndex groups index)
 
 -- ---- how groups end
 

@@ -4,13 +4,12 @@ use Rattle.std.specs.Prelude.{bytes_eq, if◌then◌else◌, map, min, nat_lt, o
 use Rattle.std.specs.Option.{option_map}
 use Rattle.std.proofs.lemmas.Bool.{cond-true, cond-false}
 use Rattle.std.proofs.lemmas.Bool.Decides.{nat_tests}
-use Rattle.properties_format.specs.Entries.{pair}
-use Rattle.properties_format.specs.Items.{given}
+use Rattle.properties_format.specs.Items.{pair, given}
 use Rattle.properties_format.specs.Body.{HeldLine, NoneHasKey, group_bytes, groups_bytes}
-use Rattle.properties_format.specs.Computed.Parts.{unended_bytes}
+use Rattle.properties_format.specs.Computed.Body.{unended_bytes}
 use Rattle.properties_format.proofs.Body.Groups.{groups_bytes-append}
-use Rattle.properties_items.specs.FoundItems.{outcome_pair}
-use Rattle.properties_editing.specs.Private.BodyIndex.{IsListed, PairAt, last_value, live, outcome, paired, pairs_from, part_of, place_if, places_with, span_at, span_of}
+use Rattle.properties_items.specs.BorrowedItems.{outcome_pair}
+use Rattle.properties_editing.specs.Private.BodyIndex.{IsListed, PairAt, last_value, live, outcome, paired, pairs_from, part_of, place_if, places_with, part_in, span_of}
 use Rattle.properties_editing.specs.declared.find.BodySpan.{BodySpan}
 use Rattle.properties_editing.proofs.IndexListed.{IsShift, changed_at, listed-as, listed-cut, listed-first, moved}
 use Rattle.properties_editing.proofs.IndexSpans.{group-size, none-with, pairs-around, pairs-join, shift-all, shift-option, span-is}
@@ -124,7 +123,7 @@ moved-is f p q h = by (f p.span) h
 module _ (f : BodySpan → Option BodySpan) where
   -- Where pairs stay after a change, so do the parts in their places,
   stay-before : (before tail : List (Option PairAt)) → IsShift f (live before) (live before) → (i : ℕ) → i < length before
-      → option_and_then f (span_at (map part_of (before ++ tail)) i) ≡ span_at (map part_of (before ++ tail)) i
+      → option_and_then f (part_in (map part_of (before ++ tail)) i) ≡ part_in (map part_of (before ++ tail)) i
   stay-before [] tail h i low = absurd (omega arith)
   stay-before (None ∷ before) tail h zero low = refl
   stay-before (None ∷ before) tail h (suc i) low = stay-before before tail h i (omega arith)
@@ -134,7 +133,7 @@ module _ (f : BodySpan → Option BodySpan) where
   module _ (g : BodySpan → Option BodySpan) where
     -- and where a second change undoes it, they are as they were.
     back-all : (slots : List (Option PairAt)) (qs : List PairAt) → IsShift f (live slots) qs → IsShift g qs (live slots) → (i : ℕ)
-        → option_and_then g (option_and_then f (span_at (map part_of slots) i)) ≡ span_at (map part_of slots) i
+        → option_and_then g (option_and_then f (part_in (map part_of slots) i)) ≡ part_in (map part_of slots) i
     back-all [] qs h k i = refl
     back-all (None ∷ slots) qs h k zero = refl
     back-all (None ∷ slots) qs h k (suc i) = back-all slots qs h k i
@@ -147,7 +146,7 @@ module _ (f : BodySpan → Option BodySpan) where
 
     back-behind : (before : List (Option PairAt)) (o : Option PairAt) (after : List (Option PairAt)) (qs : List PairAt)
         → IsShift f (live after) qs → IsShift g qs (live after) → (i : ℕ) → length before < i
-        → option_and_then g (option_and_then f (span_at (map part_of (before ++ o ∷ after)) i)) ≡ span_at (map part_of (before ++ o ∷ after)) i
+        → option_and_then g (option_and_then f (part_in (map part_of (before ++ o ∷ after)) i)) ≡ part_in (map part_of (before ++ o ∷ after)) i
     back-behind [] o after qs h k zero high = absurd (omega arith)
     back-behind [] o after qs h k (suc i) high = back-all after qs h k i
     back-behind (b ∷ before) o after qs h k zero high = absurd (omega arith)
@@ -155,8 +154,8 @@ module _ (f : BodySpan → Option BodySpan) where
 
 -- Where a pair is cut out of the parts in their places, those before it stay, and those behind it are down by its size.
 pub record HasCut (f : BodySpan → Option BodySpan) (size place : ℕ) (others : List ℕ) (spans : List (Option BodySpan)) : Type 0 where
-  pub before : (i : ℕ) → i < place → option_and_then f (span_at spans i) ≡ span_at spans i
-  pub behind : (i : ℕ) → place < i → raised size (option_and_then f (span_at spans i)) ≡ span_at spans i
+  pub before : (i : ℕ) → i < place → option_and_then f (part_in spans i) ≡ part_in spans i
+  pub behind : (i : ℕ) → place < i → raised size (option_and_then f (part_in spans i)) ≡ part_in spans i
   pub later : AreFrom (suc place) others
 
 -- ---- a group that is cut out
@@ -169,7 +168,7 @@ pub cut-first : {places : List ℕ → List ℕ} {values : List ℕ → Option (
     → NoneHasKey key before → outcome g ≡ given (pair key value) → places key ≡ place ∷ others
     → IsListed (pairs_from 0 (before ++ g ∷ after)) places values spans
     → let n = length (groups_bytes before) in
-    (span_at spans place ≡ Some (span_of n g))
+    (part_in spans place ≡ Some (span_of n g))
     × IsListed (pairs_from 0 (before ++ after)) (changed_at places key others)
     (changed_at values key (last_value key (pairs_from 0 (before ++ after))))
     (all_cut n (n + length (group_bytes g)) spans)
@@ -197,9 +196,9 @@ cut-first {values = values} {spans} before g after key value place others b some
       cut.0,
       listed-as cut.1 join refl (λ k. refl) (λ k. ap (λ v. changed_at values key (last_value key v) k) join),
       record {
-        before = λ i first. subst (λ v. option_and_then f (span_at v i) ≡ span_at v i) (sym d.parts)
+        before = λ i first. subst (λ v. option_and_then f (part_in v i) ≡ part_in v i) (sym d.parts)
             (stay-before f d.before (Some p ∷ d.after) (subst (λ v. IsShift f v v) (sym d.is_front) low) i (omega arith));
-        behind = λ i last. subst (λ v. raised grown (option_and_then f (span_at v i)) ≡ span_at v i) (sym d.parts)
+        behind = λ i last. subst (λ v. raised grown (option_and_then f (part_in v i)) ≡ part_in v i) (sym d.parts)
             (back-behind f up d.before (Some p) d.after (pairs_from n after) (subst (λ v. IsShift f v (pairs_from n after)) (sym d.is_back) high)
             (subst (λ v. IsShift up (pairs_from n after) v) (sym d.is_back) back) i (omega arith));
         later = subst (AreFrom (suc place)) (sym d.rest) (places-from key (suc place) d.after);

@@ -5,28 +5,25 @@ use Rattle.std.proofs.Math.Seq.{drop-append_seam}
 use Rattle.std.proofs.lemmas.Bool.{cond-true, cond-false}
 use Rattle.std.proofs.lemmas.List.{length-take-le}
 use Rattle.properties_format.specs.Text.{scalar}
-use Rattle.properties_format.specs.Encoding.{Encoding}
-use Rattle.properties_format.specs.Repertoire.{Repertoire, in_encoding}
-use Rattle.properties_format.specs.Groups.{IsWhole, joined}
-use Rattle.properties_format.specs.Entries as content
+use Rattle.properties_format.specs.Encoding.{Encoding, Repertoire, in_encoding}
+use Rattle.properties_format.specs.Lines.{IsWhole, joined}
+use Rattle.properties_format.specs.Items as content
 use Rattle.properties_format.specs.Items.{given}
 use Rattle.properties_format.specs.Body.{HeldLine, as_lines, groups_bytes, ending_bytes, last_ending}
 use Rattle.properties_format.specs.Edited.{bom_of, is_empty_line, is_left_open, final_group, IsKeySet, pair_bytes}
 use Rattle.properties_format.specs.Valued.{HasPair, IsValueSet}
-use Rattle.properties_format.specs.Computed.Body.{held_groups_of}
-use Rattle.properties_format.specs.Computed.Edited.{key_set, key_set_in, set_at}
+use Rattle.properties_format.specs.Computed.Body.{held_groups_of, unended_bytes}
 use Rattle.properties_editing.specs.Private.Sound.{AreSound}
-use Rattle.properties_format.specs.Computed.Parts.{unended_bytes}
-use Rattle.properties_format.specs.Computed.Valued.{has_value, revalued_at, valued_at, value_set, value_set_in}
+use Rattle.properties_format.specs.Computed.Valued.{has_value}
 use Rattle.properties_format.proofs.Body.Groups.{held_groups_of-meets, held-body}
 use Rattle.properties_format.proofs.Edited.Made as made
-use Rattle.properties_format.proofs.Edited.Made.{key_set-only, last_place-meets}
-use Rattle.properties_format.proofs.Valued.Made.{value_set-only}
+use Rattle.properties_format.proofs.Edited.Made.{key_set-only, last_place-meets, key_set, key_set_in, set_at}
+use Rattle.properties_format.proofs.Valued.Made.{value_set-only, revalued_at, valued_at, value_set, value_set_in}
 use Rattle.properties_format.proofs.Edited.Replaced.{reput-of}
 use Rattle.properties_format.proofs.Items.Unique.{outcome_of-only}
 use Rattle.properties_format.proofs.InTurn.Merged.{AreInTurn, in-turn}
 use Rattle.properties_text.specs.Encoding.{encoding_of}
-use Rattle.properties_editing.specs.Private.BodyIndex.{FollowsPair, IsIndex, IsKept}
+use Rattle.properties_editing.specs.Private.BodyIndex.{FollowsPair, IsIndex}
 use Rattle.properties_editing.specs.Private.BodyKeys.{IsPlaceOf, IsKeyFound, closing_of}
 use Rattle.properties_editing.specs.Private.BodyValues.{revalued_in}
 use Rattle.properties_editing.specs.Private.Sources.{IsInForce, printed_in, used_in}
@@ -37,7 +34,7 @@ use Rattle.properties_editing.specs.declared.source.BodyStart.{BodyStart}
 use Rattle.properties_editing.proofs.BodyKeys.{separated}
 use Rattle.properties_editing.proofs.Editing.{bom-front, editable, replaced-result}
 use Rattle.properties_editing.proofs.SetValues.{alone-value, revalued-result}
-use Rattle.properties_editing.proofs.IndexChanged.{IsLastTold, changed-index, changed-sound, last-told, whole-closed}
+use Rattle.properties_editing.proofs.IndexChanged.{IsLastTold, changed-index, changed-sound, last-told, whole-closed, IsKept}
 use Rattle.properties_editing.proofs.IndexFound.{said-of}
 use Rattle.properties_editing.proofs.IndexRevalued.{regrouped}
 use Rattle.properties_editing.proofs.IndexSpans.{size-around}

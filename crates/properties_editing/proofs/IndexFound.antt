@@ -2,18 +2,18 @@
 use Rattle.std.proofs.Common.{◌≡◌, ℕ, ◌+◌, List, [], ◌∷◌, ◌++◌, Option, Some, None, length, refl, ap, sym, ◌∙◌, subst, append-nil, append_assoc}
 use Rattle.std.specs.Prelude.{map, if◌then◌else◌}
 use Rattle.std.specs.List.{cons_option}
-use Rattle.std.specs.Option.{is_some, option_map}
-use Rattle.properties_format.specs.Groups.{joined}
+use Rattle.std.specs.Option.{is_some, option_map, option_or}
+use Rattle.properties_format.specs.Lines.{joined}
 use Rattle.properties_format.specs.Body.{HeldLine, HasKey, NoneHasKey, as_lines, groups_bytes, group_bytes}
-use Rattle.properties_format.specs.Entries as content
+use Rattle.properties_format.specs.Items as content
 use Rattle.properties_format.specs.Items.{given}
 use Rattle.properties_format.specs.Computed.Edited.{KeyPlace, last_place}
 use Rattle.properties_editing.specs.Private.Sound.{AreSound}
 use Rattle.properties_format.proofs.Edited.Made as made
 use Rattle.properties_format.proofs.Edited.Made.{last_place-meets}
 use Rattle.properties_format.proofs.Items.Unique.{outcome_of-only}
-use Rattle.properties_items.specs.FoundItems.{outcome_pair}
-use Rattle.properties_editing.specs.Private.BodyIndex.{IsIndex, PairAt, found_span, last_live, last_span, live, outcome, paired, pairs_from, part_of, places_of, span_at, span_of, span_or, spans_of, stored_at}
+use Rattle.properties_items.specs.BorrowedItems.{outcome_pair}
+use Rattle.properties_editing.specs.Private.BodyIndex.{IsIndex, PairAt, found_span, last_live, last_span, live, outcome, paired, pairs_from, part_of, places_of, part_in, span_of, spans_of, stored_at}
 use Rattle.properties_editing.specs.Private.BodyKeys.{IsPlace, IsPlaceOf}
 use Rattle.properties_editing.specs.Private.BodyValues.{IsLastPair}
 use Rattle.properties_editing.specs.declared.index.Index.{Index}
@@ -52,8 +52,8 @@ last-stored None ns n h = absurd (no-end ns n h)
 last-stored (Some p) ns n h = (p, refl, same-last p.earlier.items ns p.place n h)
 
 some-places : (spans : List (Option BodySpan)) (o : Option IndexedPair) (ns : List ℕ) (n : ℕ) → places_of o ≡ ns ++ n ∷ []
-    → last_span spans o ≡ span_at spans n
-some-places spans o ns n h = let s = last-stored o ns n h in ap (last_span spans) s.1 ∙ ap (span_at spans) s.2
+    → last_span spans o ≡ part_in spans n
+some-places spans o ns n h = let s = last-stored o ns n h in ap (last_span spans) s.1 ∙ ap (part_in spans) s.2
 
 module _ {groups : List (List HeldLine)} {index : Index} (h : IsIndex groups index) (key : List ℕ) where
   -- A key that no group has isn't stored.
@@ -90,22 +90,22 @@ module _ {groups : List (List HeldLine)} {index : Index} (h : IsIndex groups ind
 -- the part of the last of some pairs
 abbrev last_of : List PairAt → Option BodySpan
 last_of [] = None
-last_of (p ∷ ps) = span_or (last_of ps) (Some p.span)
+last_of (p ∷ ps) = option_or (last_of ps) (Some p.span)
 
-or-none : (o : Option BodySpan) → span_or o None ≡ o
+or-none : (o : Option BodySpan) → option_or o None ≡ o
 or-none None = refl
 or-none (Some s) = refl
 
 live-last : (slots : List (Option PairAt)) → last_live (map part_of slots) ≡ last_of (live slots)
 live-last [] = refl
 live-last (None ∷ slots) = or-none (last_live (map part_of slots)) ∙ live-last slots
-live-last (Some p ∷ slots) = ap (λ o. span_or o (Some p.span)) (live-last slots)
+live-last (Some p ∷ slots) = ap (λ o. option_or o (Some p.span)) (live-last slots)
 
 last-end : (ps : List PairAt) (s : BodySpan) (told : Option (List ℕ × List ℕ))
     → last_of (ps ++ cons_option (option_map (paired s) told) []) ≡ (if is_some told then Some s else last_of ps)
 last-end ps s None = ap last_of (append-nil ps)
 last-end [] s (Some said) = refl
-last-end (p ∷ ps) s (Some said) = ap (λ o. span_or o (Some p.span)) (last-end ps s (Some said))
+last-end (p ∷ ps) s (Some said) = ap (λ o. option_or o (Some p.span)) (last-end ps s (Some said))
 
 -- It is the last one of these groups and of more.
 last-on : (done rest : List (List HeldLine)) → IsLastPair done (last_of (pairs_from 0 done)) → AreSound rest

@@ -18,14 +18,12 @@ use Rattle.std.proofs.lemmas.List.Kept.{AllPairs-cons}
 use Rattle.std.proofs.lemmas.Map.Entries.{btree_map_get_place}
 use Rattle.std.proofs.lemmas.Slice.Eq.{bytes_eq-Decides}
 use Rattle.std.proofs.lemmas.Str.{IsUtf8-string_bytes}
-use Rattle.properties_format.specs.Entries.{comment, pair}
-use Rattle.properties_format.specs.Items.{Outcome, ignored, given, broken}
+use Rattle.properties_format.specs.Items.{comment, pair, Outcome, ignored, given, broken}
 use Rattle.properties_format.specs.Body.{HeldLine, group_bytes}
-use Rattle.properties_format.specs.Computed.Keys.{Has, ComesBefore, AreFirstOf}
-use Rattle.properties_format.specs.Computed.Parts.{outcome_key}
-use Rattle.properties_items.specs.FoundItems.{outcome_pair}
-use Rattle.properties_editing.specs.Private.BodyIndex.{IsIndex, IsListed, PairAt, live, outcome, paired, pairs_from, part_of, place_if, places_of, places_with, span_in, span_of, stored_at, stored_places}
-use Rattle.properties_editing.specs.Private.BodyIndex.Keys.{AreFirsts, ArePlaced, IndexesSome, IsFirstIn, group_keys, key_at}
+use Rattle.properties_format.specs.Computed.Maps.{Has, ComesBefore, AreFirstOf}
+use Rattle.properties_format.specs.Computed.Body.{outcome_key}
+use Rattle.properties_items.specs.BorrowedItems.{outcome_pair}
+use Rattle.properties_editing.specs.Private.BodyIndex.{IsIndex, IsListed, PairAt, live, outcome, paired, pairs_from, part_of, place_if, places_of, places_with, span_in, span_of, stored_at, stored_places, AreFirsts, ArePlaced, IndexesSome, IsFirstIn, group_keys, key_at}
 use Rattle.properties_editing.specs.Documents.{characters_of}
 use Rattle.properties_items.specs.Texts.{characters}
 use Rattle.properties_editing.specs.declared.index.Index.{Index}

@@ -9,7 +9,7 @@ use Rattle.std.proofs.lemmas.List.Elements.{filter_map-append}
 use Rattle.std.proofs.lemmas.Slice.Eq.{bytes_eq-Decides}
 use Rattle.properties_format.specs.Computed.Maps.{first_value}
 use Rattle.properties_format.proofs.Maps.{first-assoc, first-none}
-use Rattle.properties_editing.specs.Private.BodyIndex.{IsListed, PairAt, last_value, live, paired, part_of, place_if, places_with, span_at}
+use Rattle.properties_editing.specs.Private.BodyIndex.{IsListed, PairAt, last_value, live, paired, part_of, place_if, places_with, part_in}
 use Rattle.properties_editing.specs.declared.find.BodySpan.{BodySpan}
 
 -- what a key has, changed to this
@@ -95,7 +95,7 @@ divided (Some q ∷ slots) (x ∷ front) p back h =
 
 -- The part in its place is its part.
 pub part-at : (before : List (Option PairAt)) (p : PairAt) (after : List (Option PairAt))
-    → span_at (map part_of (before ++ Some p ∷ after)) (length before) ≡ Some p.span
+    → part_in (map part_of (before ++ Some p ∷ after)) (length before) ≡ Some p.span
 part-at [] p after = refl
 part-at (o ∷ before) p after = part-at before p after
 
@@ -207,13 +207,13 @@ module _ {ps : List PairAt} {places : List ℕ → List ℕ} {values : List ℕ 
       ∙ ap (λ v. places_with p.key 0 d.before ++ v) own
 
   pub listed-last : (front : List PairAt) (p : PairAt) (back : List PairAt) → ps ≡ front ++ p ∷ back → NoneWith p.key back
-      → (before : List ℕ) × (n : ℕ) × (places p.key ≡ before ++ n ∷ []) × (span_at spans n ≡ Some p.span)
+      → (before : List ℕ) × (n : ℕ) × (places p.key ≡ before ++ n ∷ []) × (part_in spans n ≡ Some p.span)
   listed-last front p back are none =
       let d = divided h.slots front p back (h.are_pairs ∙ are) in (
         places_with p.key 0 d.before,
         length d.before,
         last-places front p back d none,
-        ap (λ v. span_at v (length d.before)) (h.are_spans ∙ ap (map part_of) d.division) ∙ part-at d.before p d.after,
+        ap (λ v. part_in v (length d.before)) (h.are_spans ∙ ap (map part_of) d.division) ∙ part-at d.before p d.after,
       )
 
 -- ---- a change of parts
@@ -322,7 +322,7 @@ module _ {ps : List PairAt} {places : List ℕ → List ℕ} {values : List ℕ 
   pub listed-cut : (front new_front : List PairAt) (p : PairAt) (back new_back : List PairAt) (place : ℕ) (others : List ℕ)
       → ps ≡ front ++ p ∷ back → NoneWith p.key front → f p.span ≡ None
       → IsShift f front new_front → IsShift f back new_back → places p.key ≡ place ∷ others
-      → (span_at spans place ≡ Some p.span)
+      → (part_in spans place ≡ Some p.span)
       × IsListed (new_front ++ new_back) (changed_at places p.key others)
       (changed_at values p.key (last_value p.key (new_front ++ new_back))) (map (option_and_then f) spans)
   listed-cut front new_front p back new_back place others are none gone front_shift back_shift own =
@@ -336,7 +336,7 @@ module _ {ps : List PairAt} {places : List ℕ → List ℕ} {values : List ℕ 
       let all : (k : List ℕ) → places_with k 0 s.before ++ places_with k (suc place) s.after ≡ places_with k 0 (c ++ None ∷ d) = λ k.
       ap₂ (λ v w. v ++ w) (m.places k 0) (n.places k (suc place) ∙ ap (λ i. places_with k (suc i) d) place_is)
       ∙ sym (places-append k 0 c (None ∷ d)) in (
-        ap₂ span_at s.parts (sym size) ∙ part-at s.before p s.after,
+        ap₂ part_in s.parts (sym size) ∙ part-at s.before p s.after,
         record {
           slots = c ++ None ∷ d;
           are_pairs = live-append c (None ∷ d) ∙ ap₂ (λ v w. v ++ w) m.are n.are;

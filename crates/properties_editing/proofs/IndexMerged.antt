@@ -7,22 +7,21 @@ use Rattle.std.specs.Option.{option_map}
 use Rattle.std.proofs.lemmas.Bool.{cases_Bool}
 use Rattle.properties_format.specs.Text.{LineEnding, crlf}
 use Rattle.properties_format.specs.Encoding.{Encoding}
-use Rattle.properties_format.specs.Groups.{joined}
+use Rattle.properties_format.specs.Lines.{joined}
 use Rattle.properties_format.specs.Items.{ignored}
 use Rattle.properties_format.specs.Body.{HeldLine, group_bytes, groups_bytes}
 use Rattle.properties_format.specs.Edited.{is_editable}
-use Rattle.properties_format.specs.Computed.Body.{has_key, held_groups_of, is_pair_with}
+use Rattle.properties_format.specs.Computed.Body.{has_key, held_groups_of, is_pair_with, unended_bytes}
 use Rattle.properties_format.specs.Computed.Cut.{decoded_line}
 use Rattle.properties_editing.specs.Private.Sound.{AreSound, IsSoundFor}
 use Rattle.properties_editing.specs.declared.source.Comments.TheVariants.{PassedOver}
 use Rattle.properties_format.specs.Computed.Items.{outcome_of}
-use Rattle.properties_format.specs.Computed.Parts.{unended_bytes, are_one_ending}
 use Rattle.properties_format.proofs.Body.Decoded.{decoded-nil}
 use Rattle.properties_format.proofs.Body.Groups.{held_groups_of-only}
 use Rattle.properties_format.proofs.Edited.Fronts.{outcome-empty}
 use Rattle.properties_format.proofs.InTurn.Lines.{AreLinesBy, unended-some, with_ending, texts-with, unended-with}
-use Rattle.properties_format.proofs.InTurn.Merged.{AreInTurn, after-lf, merged, merged-groups, merged-one, merged-two, one-bytes, one-ending}
-use Rattle.properties_items.specs.FoundItems.{outcome_pair}
+use Rattle.properties_format.proofs.InTurn.Merged.{AreInTurn, after-lf, merged, merged-groups, merged-one, merged-two, one-bytes, one-ending, are_one_ending}
+use Rattle.properties_items.specs.BorrowedItems.{outcome_pair}
 use Rattle.properties_editing.specs.Private.BodyIndex.{outcome, paired, pairs_from, span_of}
 use Rattle.properties_editing.specs.declared.find.BodySpan.{BodySpan}
 use Rattle.properties_editing.proofs.IndexListed.{IsShift}

@@ -14,12 +14,12 @@ use Rattle.properties_format.specs.Edited.{final_group, is_empty_line, is_left_o
 use Rattle.properties_editing.specs.Private.Sound.{IsSoundFor}
 use Rattle.properties_editing.specs.declared.source.Comments.{Comments}
 use Rattle.properties_format.specs.Computed.Items.{outcome_of}
-use Rattle.properties_format.specs.Computed.Parts.{unended_bytes}
+use Rattle.properties_format.specs.Computed.Body.{unended_bytes}
 use Rattle.properties_format.proofs.Edited.Steps.{final_group-push}
 use Rattle.properties_text.specs.Encoding.{encoding_of}
 use Rattle.properties_editing.specs.Private.BodyGroups.{IsWithin, TakesGroup, text_of}
 use Rattle.properties_editing.specs.Private.BodyIndex.{AddsGroup, AddsPair, IsIndex, IsListed, KeepsNothing, ListsPairs, PairAt, outcome, paired, pairs_from, places_of, span_of, spans_in, stored_at, stored_places, stored_value}
-use Rattle.properties_items.specs.FoundItems.{outcome_pair}
+use Rattle.properties_items.specs.BorrowedItems.{outcome_pair}
 use Rattle.properties_editing.specs.Private.BodyKeys.{closing_of}
 use Rattle.properties_items.specs.Texts.{characters}
 use Rattle.properties_editing.specs.declared.groups.Group.{Group}

@@ -5,22 +5,20 @@ use Rattle.std.specs.BTreeMap.{IsOrdered}
 use Rattle.std.specs.Map.{update}
 use Rattle.std.specs.Option.{option_map}
 use Rattle.std.specs.String.{string_cmp}
-use Rattle.std.proofs.Math.Seq.{drop-append_seam}
-use Rattle.std.proofs.lemmas.Bool.{cases_Bool, cond-true, cond-false}
+use Rattle.std.proofs.Math.Seq.{drop-append_seam, take-append_seam}
+use Rattle.std.proofs.lemmas.Bool.{cases_Bool, cond-true, cond-false, and_parts, not-true}
 use Rattle.std.proofs.lemmas.Bool.Decides.{nat_tests}
 use Rattle.std.proofs.lemmas.List.{drop-drop, length-take-le, take-append-drop}
-use Rattle.properties_format.specs.Repertoire.{Repertoire}
+use Rattle.properties_format.specs.Encoding.{Repertoire, Encoding, begins_like_bom}
 use Rattle.properties_format.specs.Text.{LineEnding, lf, cr, crlf, line_feed}
-use Rattle.properties_format.specs.Encoding.{Encoding, begins_like_bom}
-use Rattle.properties_format.specs.Entries as content
+use Rattle.properties_format.specs.Items as content
 use Rattle.properties_format.specs.Items.{given, ignored}
 use Rattle.properties_format.specs.Body.{HeldLine, NoneHasKey, HasKey, ending_bytes, group_bytes, groups_bytes, last_ending}
 use Rattle.properties_format.specs.Edited.{final_group, is_editable, is_empty_line, is_left_open, IsKeyRemoved}
-use Rattle.properties_format.specs.Computed.Body.{has_key, held_groups_of, is_pair_with}
+use Rattle.properties_format.specs.Computed.Body.{has_key, held_groups_of, is_pair_with, unended_bytes}
 use Rattle.properties_format.specs.Computed.Edited.{IsSound, without}
 use Rattle.properties_editing.specs.Private.Sound.{AreSound}
 use Rattle.properties_format.specs.Computed.Lines.{begins_with_lf}
-use Rattle.properties_format.specs.Computed.Parts.{unended_bytes}
 use Rattle.properties_format.proofs.Body.Groups.{groups_bytes-append, held_groups_of-meets, held-body}
 use Rattle.properties_format.proofs.Edited.Made.{has_key-true, has_key-false}
 use Rattle.properties_format.proofs.Edited.Steps.{final_group-push, without-append}
@@ -29,8 +27,8 @@ use Rattle.properties_format.proofs.InTurn.Merged.{AreInTurn, IsEndedGroup, afte
 use Rattle.properties_format.proofs.Edited.Parts.{empty_group, empty-lines, empty-whole}
 use Rattle.properties_format.proofs.InTurn.Unmerged.{AreUnmerged, merged-unmerged}
 use Rattle.properties_text.specs.Encoding.{encoding_of}
-use Rattle.properties_editing.specs.Private.BodyIndex.{GuardsFront, IsIndex, IsKept, IsListed, KeepsNothing, ListsPairs, PutsFirst, ending_size, last_value, outcome, pairs_from, places_of, span_at, span_of, spans_in, spans_of, stored_at, stored_places, stored_value}
-use Rattle.properties_items.specs.FoundItems.{outcome_pair}
+use Rattle.properties_editing.specs.Private.BodyIndex.{GuardsFront, IsIndex, IsListed, KeepsNothing, ListsPairs, PutsFirst, ending_size, last_value, outcome, pairs_from, places_of, part_in, span_of, spans_in, spans_of, stored_at, stored_places, stored_value}
+use Rattle.properties_items.specs.BorrowedItems.{outcome_pair}
 use Rattle.properties_editing.specs.Private.BodyKeys.{closing_of}
 use Rattle.properties_items.specs.Texts.{characters}
 use Rattle.properties_editing.specs.Private.Sources.{IsInForce}
@@ -40,12 +38,11 @@ use Rattle.properties_editing.specs.declared.find.BodySpan.{BodySpan}
 use Rattle.properties_editing.specs.declared.source.BodyStart.{BodyStart}
 use Rattle.properties_editing.specs.declared.find.Closing.{Closing}
 use Rattle.properties_editing.specs.declared.find.Closing.TheVariants.{Nothing}
-use Rattle.properties_editing.proofs.BodyGroups.{front-of}
 use Rattle.properties_editing.proofs.BodyKeys.{some-groups}
 use Rattle.properties_editing.proofs.Comments.{sound-join}
 use Rattle.properties_editing.specs.declared.source.Comments.TheVariants.{PassedOver}
 use Rattle.properties_editing.proofs.Editing.{removed-bytes, unmarked}
-use Rattle.properties_editing.proofs.IndexChanged.{IsLastTold, final-behind, last-told, some-ending, turn-behind}
+use Rattle.properties_editing.proofs.IndexChanged.{IsLastTold, final-behind, last-told, some-ending, turn-behind, IsKept}
 use Rattle.properties_editing.proofs.IndexCut.{HasCut, HaveBytes, all_cut, cut-first, cut_from}
 use Rattle.properties_editing.proofs.IndexFound.{said-of}
 use Rattle.properties_editing.proofs.IndexListed.{changed_at, listed-as, listed-shifted, none-value}
@@ -227,7 +224,7 @@ drop-at : (n : ℕ) (x y : List ℕ) → n ≡ length x → drop n (x ++ y) ≡ 
 drop-at n x y is = ap (λ m. drop m (x ++ y)) is ∙ drop-append_seam x y
 
 take-at : (n : ℕ) (x y : List ℕ) → n ≡ length x → take n (x ++ y) ≡ x
-take-at n x y is = ap (λ m. take m (x ++ y)) is ∙ front-of x y
+take-at n x y is = ap (λ m. take m (x ++ y)) is ∙ take-append_seam x y
 
 module _ {e : Encoding} {key : List ℕ} {gs : List (List HeldLine)} {front source : List ℕ} {spans : List (Option BodySpan)} {index : Index}
     {place : ℕ} {places : List ℕ} (start : ℕ) (start_is : start ≡ length front)
@@ -299,7 +296,7 @@ module _ {e : Encoding} {key : List ℕ} {gs : List (List HeldLine)} {front sour
       IsListed (pairs_from 0 rest) (changed_at (stored_places index.pairs.entries) key places)
       (changed_at (stored_value index.pairs.entries) key (last_value key (pairs_from 0 rest))) parts
 
-  pub first : (span_at spans place ≡ Some (span_of n g)) × IsListedOf (skip ++ after) (all_cut n end spans)
+  pub first : (part_in spans place ≡ Some (span_of n g)) × IsListedOf (skip ++ after) (all_cut n end spans)
       × HasCut (cut_from n end) (length (group_bytes g)) place places spans
   first =
       let f = stored_places index.pairs.entries in
@@ -558,7 +555,7 @@ module _ (r : Repertoire) (opened : BodyStart) (old key : List ℕ) (force : IsI
       → GuardsFront (opened.start == 0 && begins_like_bom mid) mid cut new is → IsKept (IsKeyRemoved r.encoding old key new) opened new is
   removal-ends mid new cut is w fits guards = elim (cases_Bool is_guarded) [
     | inl told ↦
-        let both = both-true (opened.start == 0) (begins_like_bom rest) told in
+        let both = and_parts (opened.start == 0) (begins_like_bom rest) told in
         let start : opened.start ≡ 0 = let t = both.0 in grind (arith, nat_tests) in
         let nothing : front ≡ [] = ap (λ n. take n old) start in
         let put : PutsFirst mid cut new is = subst (λ b. GuardsFront b mid cut new is) (same-mark w ∙ told) guards in
@@ -576,10 +573,6 @@ module _ (r : Repertoire) (opened : BodyStart) (old key : List ℕ) (force : IsI
         (ap (drop opened.start) made ∙ drop-at opened.start front rest front-size ∙ sym w.left)
   ]
     where
-      both-true : (a b : Bool) → (a && b) ≡ true → (a ≡ true) × (b ≡ true)
-      both-true true b told = (refl, told)
-      both-true false b told = absurd (cc)
-
       -- Whether the rest begins so is seen of all of the source, where nothing comes before it.
       same-mark : IsCutWhole f key (held_groups_of f body) front mid cut → (opened.start == 0 && begins_like_bom mid) ≡ is_guarded
       same-mark w = elim (cases_Bool (opened.start == 0)) [
@@ -610,7 +603,3 @@ module _ (r : Repertoire) (opened : BodyStart) (old key : List ℕ) (force : IsI
       ∙ ap (λ v. front ++ v) (sym rest_is)
       ∙ ap (λ v. front ++ (v ++ rest)) (sym (cond-false (opened.start == 0 && begins_like_bom rest) (line_feed ∷ []) [] unguarded)) in
       (removed-bytes key old force bytes, (sound, kept-index gs was is index kept))
-    where
-      not-true : (b : Bool) → not b ≡ true → b ≡ false
-      not-true true h = absurd (cc)
-      not-true false h = refl

@@ -2,22 +2,21 @@
 use Rattle.std.proofs.Common.{◌≡◌, ℕ, true, false, List, [], ◌∷◌, ◌++◌, ap, sym, ◌∙◌, append_assoc, subst}
 use Rattle.std.specs.Prelude.{All}
 use Rattle.properties_format.specs.Text.{scalar}
-use Rattle.properties_format.specs.Repertoire.{Repertoire}
+use Rattle.properties_format.specs.Encoding.{Repertoire}
 use Rattle.properties_format.specs.Printing.{encoded_text}
 use Rattle.properties_format.specs.Body.{HeldLine, as_lines, AreGroupsOf, group_bytes, groups_bytes, ending_bytes, last_ending}
-use Rattle.properties_format.specs.Groups.{IsWhole}
+use Rattle.properties_format.specs.Lines.{IsWhole}
 use Rattle.properties_format.specs.Edited.{is_editable, is_empty_line}
 use Rattle.properties_format.specs.Valued.{HasPair, value_text}
-use Rattle.properties_format.specs.Computed.Body.{held_groups_of}
+use Rattle.properties_format.specs.Computed.Body.{held_groups_of, unended_bytes}
 use Rattle.properties_format.specs.Computed.Edited.{KeyPlace}
-use Rattle.properties_format.specs.Computed.Parts.{unended_bytes}
-use Rattle.properties_format.specs.Computed.Valued.{front_of, between_of, revalued_at}
+use Rattle.properties_format.specs.Computed.Valued.{front_of, between_of}
 use Rattle.properties_format.proofs.Body.Groups.{IsLastFit, AreFit, held_groups_of-meets, held_groups_of-only}
 use Rattle.properties_format.proofs.Edited.Made as made
 use Rattle.properties_format.proofs.Edited.Made.{last_place-meets}
 use Rattle.properties_format.proofs.Edited.Steps.{last_ending-push}
 use Rattle.properties_format.proofs.Valued.Fronts.{front_of-meets}
-use Rattle.properties_format.proofs.Valued.Made.{group-decoded, raw-pair}
+use Rattle.properties_format.proofs.Valued.Made.{group-decoded, raw-pair, revalued_at}
 use Rattle.properties_format.proofs.Valued.Lined.{AreLined, groups-lined, lined-groups, fit-parts, fit-first, changed-lined, plain-lines, group-plain}
 use Rattle.properties_format.proofs.Valued.Pair.{new_bytes, new_line, changed-pair}
 use Rattle.properties_format.proofs.Valued.Groups.{revalued-bytes}

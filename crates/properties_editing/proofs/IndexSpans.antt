@@ -6,16 +6,14 @@ use Rattle.std.specs.Option.{option_map}
 use Rattle.std.proofs.lemmas.Bool.{cases_Bool, cond-true, cond-false}
 use Rattle.std.proofs.lemmas.Bool.Decides.{nat_tests}
 use Rattle.std.proofs.lemmas.List.{length-map}
-use Rattle.properties_format.specs.Entries.{comment, pair}
-use Rattle.properties_format.specs.Items.{Outcome, ignored, given, broken}
+use Rattle.properties_format.specs.Items.{comment, pair, Outcome, ignored, given, broken}
 use Rattle.properties_format.specs.Body.{HeldLine, NoneHasKey, group_bytes, groups_bytes, ending_bytes, last_ending}
-use Rattle.properties_format.specs.Computed.Body.{is_pair_with}
-use Rattle.properties_format.specs.Computed.Parts.{unended_bytes}
+use Rattle.properties_format.specs.Computed.Body.{is_pair_with, unended_bytes}
 use Rattle.properties_format.proofs.Body.Groups.{groups_bytes-append}
 use Rattle.properties_format.proofs.Edited.Made.{has_key-false, no_key-test}
 use Rattle.properties_format.proofs.InTurn.Lines.{bytes-unended}
-use Rattle.properties_items.specs.FoundItems.{outcome_pair}
-use Rattle.properties_editing.specs.Private.BodyIndex.{AreLongerTo, IsEndMoved, IsListed, PairAt, all_longer, carried_to, lengthened_span, longer, moved_part, outcome, paired, pairs_from, part_in, resized_part, span_at, span_in, span_of, spans_in}
+use Rattle.properties_items.specs.BorrowedItems.{outcome_pair}
+use Rattle.properties_editing.specs.Private.BodyIndex.{IsEndMoved, IsListed, PairAt, all_longer, carried_to, lengthened_span, longer, moved_part, outcome, paired, pairs_from, part_in, resized_part, span_in, span_of, spans_in}
 use Rattle.properties_editing.specs.declared.index.BodyPart.{BodyPart}
 use Rattle.properties_editing.specs.declared.find.BodySpan.{BodySpan}
 use Rattle.properties_editing.proofs.IndexListed.{IsShift, NoneWith, none-places, places-none}
@@ -157,7 +155,7 @@ moved-behind old new gs n m high is fits from = shift-all (carried old new) n m 
 -- ---- parts in an array
 
 -- The part in a place of it.
-pub at-place : (parts : List (Option BodyPart)) (i : ℕ) → span_at (spans_in parts) i ≡ option_map span_in (part_in parts i)
+pub at-place : (parts : List (Option BodyPart)) (i : ℕ) → part_in (spans_in parts) i ≡ option_map span_in (part_in parts i)
 at-place [] i = refl
 at-place (p ∷ parts) zero = refl
 at-place (p ∷ parts) (suc i) = at-place parts i
@@ -176,7 +174,7 @@ part-resized old new p = let r : (p.start + carried_to old new p.size) % 2 ^ 64 
 
 -- Parts that are each what a change makes of another are those after the change.
 pub all-changed : (f : BodySpan → Option BodySpan) (was is : List (Option BodySpan)) → length is ≡ length was
-    → ((i : ℕ) → i < length was → span_at is i ≡ option_and_then f (span_at was i)) → is ≡ map (option_and_then f) was
+    → ((i : ℕ) → i < length was → part_in is i ≡ option_and_then f (part_in was i)) → is ≡ map (option_and_then f) was
 all-changed f [] [] size each = refl
 all-changed f [] (n ∷ is) size each = absurd (omega arith)
 all-changed f (o ∷ was) [] size each = absurd (omega arith)
@@ -192,6 +190,13 @@ parts-moved old new was is same each =
     all-changed (carried old new) (spans_in was) (spans_in is) (length-map is (option_map span_in) ∙ same ∙ sym size) (λ i low.
     at-place is i ∙ ap (option_map span_in) (each i (omega arith)) ∙ part-moved old new (part_in was i)
     ∙ ap (option_and_then (carried old new)) (sym (at-place was i)))
+
+-- The first so many parts are those after it, and the others are as they were.
+pub record AreLongerTo (place more count : ℕ) (old new : List (Option BodyPart)) : Type 0 where
+  pub size : length new ≡ length old
+  pub done : (i : ℕ) → i < count
+      → option_map span_in (part_in new i) ≡ option_and_then (longer place more) (option_map span_in (part_in old i))
+  pub left : (i : ℕ) → count ≤ i → part_in new i ≡ part_in old i
 
 -- or got longer.
 pub parts-longer : (place more : ℕ) {count : ℕ} (was is : List (Option BodyPart)) → AreLongerTo place more count was is → length was ≤ count

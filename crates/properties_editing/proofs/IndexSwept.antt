@@ -11,12 +11,12 @@ use Rattle.std.proofs.lemmas.List.{drop-drop, length-map, length-take-le, take-a
 use Rattle.std.proofs.lemmas.List.Edits.{take-paste, drop-paste}
 use Rattle.properties_format.specs.Encoding.{Encoding}
 use Rattle.properties_format.specs.Body.{HeldLine, group_bytes, groups_bytes}
-use Rattle.properties_format.specs.Computed.Parts.{unended_bytes}
+use Rattle.properties_format.specs.Computed.Body.{unended_bytes}
 use Rattle.properties_format.proofs.Body.Groups.{groups_bytes-append}
 use Rattle.std.specs.BTreeMap.{IsOrdered}
 use Rattle.std.specs.String.{string_cmp}
-use Rattle.properties_editing.specs.Private.BodyIndex.{ending_size, last_value, pairs_from, part_in, span_at, span_in, span_of, spans_in, spans_of, stored_at, stored_places, stored_value}
-use Rattle.properties_editing.specs.Private.BodySweep.{AreLowered, CutsNext, IsAhead, IsNextCut, lowered}
+use Rattle.properties_editing.specs.Private.BodyIndex.{ending_size, last_value, pairs_from, part_in, span_in, span_of, spans_in, spans_of, stored_at, stored_places, stored_value, AreChanged}
+use Rattle.properties_editing.specs.Private.BodySweep.{CutsNext, IsAhead, IsNextCut, lowered}
 use Rattle.properties_editing.specs.declared.index.BodyPart.{BodyPart}
 use Rattle.properties_editing.specs.declared.index.Index.{Index}
 use Rattle.properties_editing.specs.declared.index.sweep.Sweep.{Sweep}
@@ -35,7 +35,7 @@ raised-none None k h = refl
 raised-none (Some s) k h = ap Some (span-is _ _ s.start s.end (omega arith) (omega arith))
 
 -- Down by nothing all parts are as they were.
-pub none-lowered : (by from to : ℕ) → by ≡ 0 → (spans : List (Option BodyPart)) → AreLowered by from to spans spans
+pub none-lowered : (by from to : ℕ) → by ≡ 0 → (spans : List (Option BodyPart)) → AreChanged (lowered by) from to spans spans
 none-lowered by from to none spans =
     record { size = refl; done = λ i low high. own (part_in spans i); before = λ i low. refl; behind = λ i high. refl }
   where
@@ -61,11 +61,11 @@ raised-more j k m None h = refl
 raised-more j k m (Some s) h = ap Some (span-is _ _ (s.start + k + j) (s.end + k + j) (omega arith) (omega arith))
 
 -- What is the same in an array is the same part, and what is down is the part that was up.
-same-place : (old new : List (Option BodyPart)) (i : ℕ) → part_in new i ≡ part_in old i → span_at (spans_in new) i ≡ span_at (spans_in old) i
+same-place : (old new : List (Option BodyPart)) (i : ℕ) → part_in new i ≡ part_in old i → part_in (spans_in new) i ≡ part_in (spans_in old) i
 same-place old new i same = at-place new i ∙ ap (option_map span_in) same ∙ sym (at-place old i)
 
 down-place : (k : ℕ) (old new : List (Option BodyPart)) (i : ℕ) {o : Option BodySpan} → part_in new i ≡ lowered k (part_in old i)
-    → span_at (spans_in old) i ≡ raised k o → span_at (spans_in new) i ≡ o
+    → part_in (spans_in old) i ≡ raised k o → part_in (spans_in new) i ≡ o
 down-place k old new i {o} down up =
     at-place new i ∙ ap (option_map span_in) down ∙ lowered-raised k (part_in old i) o (sym (at-place old i) ∙ up)
 
@@ -160,8 +160,8 @@ pub record IsSweptTo (e : Encoding) (key : List ℕ) (gs : List (List HeldLine))
   pub within : sweep.read ≤ length source
   pub size : length index.spans.items ≡ length spans
   pub inside : sweep.place ≤ length spans
-  pub done : (i : ℕ) → i < sweep.place → span_at (spans_of index) i ≡ span_at spans i
-  pub left : (i : ℕ) → sweep.place ≤ i → span_at (spans_of index) i ≡ raised (sweep.read - sweep.write) (span_at spans i)
+  pub done : (i : ℕ) → i < sweep.place → part_in (spans_of index) i ≡ part_in spans i
+  pub left : (i : ℕ) → sweep.place ≤ i → part_in (spans_of index) i ≡ raised (sweep.read - sweep.write) (part_in spans i)
   pub later : AreFrom sweep.place places
 
 -- A sweep begins at the front of the body.
@@ -178,12 +178,12 @@ swept-begin {e} {key} {gs} {source} {index} {places} start within h none from =
       size = sym (length-map index.spans.items (option_map span_in));
       inside = omega arith;
       done = λ i low. refl;
-      left = λ i low. sym (raised-none (span_at (spans_of index) i) (start - start) (omega arith));
+      left = λ i low. sym (raised-none (part_in (spans_of index) i) (start - start) (omega arith));
       later = from;
     }
 
 at-shifted : (f : BodySpan → Option BodySpan) (spans : List (Option BodySpan)) (i : ℕ)
-    → span_at (map (option_and_then f) spans) i ≡ option_and_then f (span_at spans i)
+    → part_in (map (option_and_then f) spans) i ≡ option_and_then f (part_in spans i)
 at-shifted f [] i = refl
 at-shifted f (s ∷ spans) zero = refl
 at-shifted f (s ∷ spans) (suc i) = at-shifted f spans i
@@ -226,7 +226,7 @@ module _ {e : Encoding} {key : List ℕ} {gs : List (List HeldLine)} {front : Li
   abbrev stop : ℕ
   stop = end start start_is h.cut thought-fits
 
-  part : span_at (spans_of index) place ≡ Some (raised_span gap (span_of own group))
+  part : part_in (spans_of index) place ≡ Some (raised_span gap (span_of own group))
   part = h.left place h.later.0 ∙ ap (raised gap) (first start start_is h.cut thought-fits).0
 
   kept-low : length (groups_bytes h.cut.kept) ≤ own
@@ -248,7 +248,7 @@ module _ {e : Encoding} {key : List ℕ} {gs : List (List HeldLine)} {front : Li
   text-high = let c = group-size group in omega arith
 
   -- The pair is ahead.
-  pub swept-ahead : IsAhead start sweep source (span_at (spans_of index) place)
+  pub swept-ahead : IsAhead start sweep source (part_in (spans_of index) place)
   swept-ahead =
       let a = own-low in let b = own-high in let c = text-high in let d = thought-size in let k = h.order in
       subst (IsAhead start sweep source) (sym part) ((omega arith), (omega arith), (omega arith))
@@ -260,7 +260,7 @@ module _ {e : Encoding} {key : List ℕ} {gs : List (List HeldLine)} {front : Li
       ap ending_size (ap (λ v. drop v source) at ∙ sym (around-drop sweep.write sweep.read source h.order h.within (start + (own + text)) (omega arith)))
 
   -- What is known goes on with the pair cut out, and the gap is wider.
-  pub swept-step : (next : Sweep) (new : List ℕ) (is : Index) → CutsNext start sweep place (span_at (spans_of index) place) source index next new is
+  pub swept-step : (next : Sweep) (new : List ℕ) (is : Index) → CutsNext start sweep place (part_in (spans_of index) place) source index next new is
       → IsSweptTo e key gs front next new is places × (next.write < next.read)
   swept-step next new is cuts =
       let k : IsNextCut start sweep place (raised_span gap (span_of own group)) source index next new is =
@@ -307,7 +307,7 @@ module _ {e : Encoding} {key : List ℕ} {gs : List (List HeldLine)} {front : Li
           left = λ i behind.
               same-place index.spans.items is.spans.items i (k.spans.behind i (omega arith)) ∙ h.left i (let a = h.later.0 in omega arith)
               ∙ ap (raised gap) (sym (parts.behind i (omega arith)))
-              ∙ sym (raised-more gap (length (group_bytes group)) (next.read - next.write) (option_and_then f (span_at h.spans i)) (omega arith))
+              ∙ sym (raised-more gap (length (group_bytes group)) (next.read - next.write) (option_and_then f (part_in h.spans i)) (omega arith))
               ∙ ap (raised (next.read - next.write)) (sym (at-shifted f h.spans i));
           later = let at : suc place ≡ next.place = omega arith in subst (λ v. AreFrom v places) at parts.later;
         },
@@ -317,8 +317,8 @@ module _ {e : Encoding} {key : List ℕ} {gs : List (List HeldLine)} {front : Li
       by-place : (i : ℕ) → i ≤ place
           → IsNextCut start sweep place (raised_span gap (span_of own group)) source index next new is
           → HasCut (cut_from own stop) (length (group_bytes group)) place places h.spans
-          → span_at h.spans place ≡ Some (span_of own group) → 0 < length (group_bytes group)
-          → span_at (spans_of is) i ≡ option_and_then (cut_from own stop) (span_at h.spans i)
+          → part_in h.spans place ≡ Some (span_of own group) → 0 < length (group_bytes group)
+          → part_in (spans_of is) i ≡ option_and_then (cut_from own stop) (part_in h.spans i)
       by-place i most k parts found some =
           let f = cut_from own stop in
           elim (cases_Bool (nat_lt i place)) [
@@ -334,8 +334,8 @@ module _ {e : Encoding} {key : List ℕ} {gs : List (List HeldLine)} {front : Li
                 ]
             | inr t ↦
                 let at : i ≡ place = grind (arith, nat_tests) in
-                ap (span_at (spans_of is)) at ∙ at-place is.spans.items place ∙ ap (option_map span_in) k.spans.own
-                ∙ sym (ap (λ j. option_and_then f (span_at h.spans j)) at ∙ ap (option_and_then f) found
+                ap (part_in (spans_of is)) at ∙ at-place is.spans.items place ∙ ap (option_map span_in) k.spans.own
+                ∙ sym (ap (λ j. option_and_then f (part_in h.spans j)) at ∙ ap (option_and_then f) found
                 ∙ cut-own own stop (let a = some in omega arith) (span_of own group) refl)
           ]
 
@@ -345,7 +345,7 @@ module _ {e : Encoding} {key : List ℕ} {gs : List (List HeldLine)} {front : Li
 pub swept-ends : {e : Encoding} {key : List ℕ} {gs : List (List HeldLine)} {front : List ℕ} {sweep : Sweep} {source : List ℕ} {index : Index}
     → (h : IsSweptTo e key gs front sweep source index []) → (new : List ℕ) (is : Index)
     → new ≡ take sweep.write source ++ drop sweep.read source
-    → AreLowered (sweep.read - sweep.write) sweep.place (length index.spans.items) index.spans.items is.spans.items
+    → AreChanged (lowered (sweep.read - sweep.write)) sweep.place (length index.spans.items) index.spans.items is.spans.items
     → is.pairs ≡ index.pairs → is.closing ≡ index.closing → IsCutTo e key gs front new (spans_of is) is []
 swept-ends {key = key} {sweep = sweep} {source} {index} h new is bytes spans pairs closing =
     let c = h.cut in
@@ -376,7 +376,7 @@ swept-ends {key = key} {sweep = sweep} {source} {index} h new is bytes spans pai
     }
   where
     same-parts : (old new : List (Option BodySpan)) → length new ≡ length old
-        → ((i : ℕ) → i < length old → span_at new i ≡ span_at old i) → new ≡ old
+        → ((i : ℕ) → i < length old → part_in new i ≡ part_in old i) → new ≡ old
     same-parts [] [] size each = refl
     same-parts [] (n ∷ new) size each = absurd (omega arith)
     same-parts (o ∷ old) [] size each = absurd (omega arith)

@@ -5,8 +5,7 @@ use Rattle.std.proofs.lemmas.Result.{err_from_is_err_and}
 use Rattle.std.specs.Global.{Vec}
 use Rattle.std.specs.declared.alloc.AllocError.{AllocError}
 use Rattle.std.specs.Option.{is_some, option_map}
-use Rattle.properties_format.specs.Encoding.{Encoding, windows_1252, utf_8, utf_16le, utf_16be}
-use Rattle.properties_format.specs.Repertoire.{Repertoire, repertoire}
+use Rattle.properties_format.specs.Encoding.{Encoding, windows_1252, utf_8, utf_16le, utf_16be, Repertoire, repertoire}
 use Rattle.properties_format.specs.Body.{HeldLine}
 use Rattle.properties_format.specs.Edited.{edited, is_editable}
 use Rattle.properties_format.specs.Edits.{Edit, put, remove, set_value, AreEdited, IsEdited}
@@ -17,13 +16,11 @@ use Rattle.properties_items.specs.Texts.{characters}
 use Rattle.properties_lines.specs.LineSearch.{unit_size}
 use Rattle.properties_text.specs.Encoding.{encoding_of}
 use Rattle.properties_editing.specs.Editing.{IsRefusal}
-use Rattle.properties_editing.specs.Private.BodyIndex.{AppendsPair, IsIndex, IsKept, IsPairAppended, found_span, stored_at, stored_value}
+use Rattle.properties_editing.specs.Private.BodyIndex.{AppendsPair, IsIndex, IsPairAppended, found_span, stored_at, stored_value}
 use Rattle.properties_editing.specs.Private.BodyKeys.{IsPlace, IsPlaceOf}
 use Rattle.properties_editing.specs.Private.BodyValues.{IsPairAlone}
-use Rattle.properties_editing.specs.Private.IndexedSources.{IsIndexed, open_source}
+use Rattle.properties_editing.specs.Private.Sources.{IsIndexed, open_source, IsInForce, IsEditMade, IsOpenedAs, MakesEdit, OpenSource, groups_of, value_of}
 use Rattle.properties_editing.specs.Private.Sound.{AreSound, AreSoundFor, IsResult}
-use Rattle.properties_editing.specs.Private.SourceChanges.{AreEditsMade, IsEditMade, IsOpenedAs, MakesEdit, OpenSource, groups_of, value_of}
-use Rattle.properties_editing.specs.Private.Sources.{IsInForce}
 use Rattle.properties_editing.specs.declared.find.BodySpan.{BodySpan}
 use Rattle.properties_editing.specs.declared.index.Index.{Index}
 use Rattle.properties_editing.specs.declared.index.changes.IndexedSource.TheInside.{Inside}
@@ -38,6 +35,7 @@ use Rattle.properties_editing.proofs.IndexEdits.{key-found}
 use Rattle.properties_editing.proofs.IndexFound.{found-place}
 use Rattle.properties_editing.proofs.IndexParsed.{kept-index}
 use Rattle.properties_editing.proofs.SetValues.{found-alone}
+use Rattle.properties_editing.proofs.IndexChanged.{IsKept}
 
 -- The units of an encoding that is edited are one byte long.
 pub editable-unit : (e : Encoding) → is_editable e ≡ true → unit_size e ≡ 1
@@ -150,6 +148,10 @@ module _ (s : Inside) (i : IsIndexed s) (edit : Edit) (bytes : Vec ℕ) (index :
         },
         ap source same,
       )
+
+-- Edits were made in turn.
+abbrev pub AreEditsMade : List Edit → OpenSource → OpenSource → Type 0
+AreEditsMade edits old new = (new ≡ record old { bytes = new.bytes }) × AreEdited old.repertoire old.bytes edits new.bytes
 
 -- One more is made after others.
 pub edits-more : (old middle new : OpenSource) (edits : List Edit) (edit : Edit) → AreEditsMade edits old middle → IsEditMade edit middle new

@@ -1,12 +1,12 @@
 -- The last pair of a body, whatever its key, and its last line ending.
 use Rattle.std.proofs.Common.{inl, inr, ◌≡◌, ◌<◌, ◌≤◌, ℕ, ◌+◌, ◌-◌, Bool, true, false, List, [], ◌∷◌, ◌++◌, length, take, drop, get_or, refl, ap, ap₂, sym, ◌∙◌, subst, arith, append_assoc, length-append}
 use Rattle.std.specs.Prelude.{Option, Some, None, if◌then◌else◌, unwrap_or}
-use Rattle.std.specs.Option.{option_map}
+use Rattle.std.specs.Option.{option_map, is_some}
 use Rattle.std.proofs.lemmas.List.{drop_more, take-append-drop}
 use borrow.Author.Tests.{eqb-true}
 use Rattle.properties_format.specs.Text as text
 use Rattle.properties_format.specs.Text.{line_feed, carriage_return, line_ending_text, equals_sign}
-use Rattle.properties_format.specs.Lines.{HoldsNoLineEnd, Ended, Lines}
+use Rattle.properties_format.specs.Lines.{HoldsNoLineEnd, Ended, Lines, joined}
 use Rattle.properties_format.specs.Computed.Lines.{ends_in_cr, lines_of}
 use Rattle.properties_format.specs.Body.{held_in, ending_bytes, last_ending, AreGroupsOf, HeldLine, as_lines, groups_bytes}
 use Rattle.properties_format.specs.Valued.{ending_among, separator_after}
@@ -18,7 +18,7 @@ use Rattle.properties_format.proofs.Body.Decoded.{IsCut-lines}
 use Rattle.properties_format.proofs.Body.Groups.{held_of-only, held-body, held_groups_of-meets, groups_bytes-append}
 use Rattle.properties_format.proofs.Valued.Lined.{last_by, last_by-append}
 use Rattle.properties_format.proofs.Valued.Added.{ending-held}
-use Rattle.properties_items.specs.LineEndings.{ending_of}
+use Rattle.properties_items.specs.Line.{ending_of}
 use Rattle.properties_editing.specs.Private.BodyValues.{IsLastEnding, IsLastPairOf, IsGroupAlone, IsLastPair}
 use Rattle.properties_items.specs.declared.line.LineEnding.{LineEnding}
 use Rattle.properties_items.specs.declared.line.LineEnding.TheVariants.{CR, LF, CRLF}
@@ -34,10 +34,8 @@ use Rattle.properties_format.proofs.Valued.Separators.{new_separator-fit}
 use Rattle.properties_format.proofs.Valued.Unended.{without_ending, unended-groups, unended-joined}
 use Rattle.properties_editing.proofs.BodyValues.{middle-of}
 use Rattle.properties_format.specs.Encoding.{Encoding}
-use Rattle.properties_format.specs.Groups.{joined}
 use Rattle.properties_format.specs.Computed.Split.{split_of}
-use Rattle.properties_format.specs.Computed.Body.{held_groups_of}
-use Rattle.properties_format.specs.Computed.Parts.{unended_bytes}
+use Rattle.properties_format.specs.Computed.Body.{held_groups_of, unended_bytes}
 use Rattle.properties_format.specs.Split.{Logical, IsSplit}
 use Rattle.properties_format.proofs.Split.Unique.{split_of-meets}
 use Rattle.properties_format.proofs.Valued.Parts.{comment_line-no_pair}
@@ -47,32 +45,35 @@ use Rattle.properties_format.specs.Escapes.{Meaning, means, breaks}
 use Rattle.properties_format.specs.Computed.Escapes.{meaning_of}
 use Rattle.properties_format.specs.Computed.Items.{comment_outcome, pair_outcome, split_outcome}
 use Rattle.properties_format.specs.Computed.Edited.{IsSound}
-use Rattle.properties_editing.specs.Private.BodyIndex.{is_pair, outcome}
+use Rattle.properties_editing.specs.Private.BodyIndex.{outcome}
 use Rattle.properties_editing.specs.declared.find.BodySpan.{BodySpan}
+use Rattle.properties_items.specs.BorrowedItems.{outcome_pair}
 
 -- ---- what separates key and value, if a line is a pair
 
-pub between-none : (l : Logical) (x : List ℕ) → IsSound (split_outcome l) → is_pair (split_outcome l) ≡ false → between_if_pair l x ≡ None
+pub between-none : (l : Logical) (x : List ℕ) → IsSound (split_outcome l) → is_some (outcome_pair (split_outcome l)) ≡ false → between_if_pair l x ≡ None
 between-none Logical.blank x sound none = refl
 between-none (Logical.comment raw) x sound none = refl
 between-none (Logical.pair raw_key raw_value) x sound none = of-pair (meaning_of raw_key) (meaning_of raw_value) sound none
   where
-    of-pair : (k v : Meaning) → IsSound (pair_outcome k v) → is_pair (pair_outcome k v) ≡ false → between_if_pair (Logical.pair raw_key raw_value) x ≡ None
+    of-pair : (k v : Meaning) → IsSound (pair_outcome k v) → is_some (outcome_pair (pair_outcome k v)) ≡ false
+        → between_if_pair (Logical.pair raw_key raw_value) x ≡ None
     of-pair (breaks kind) v s n = absurd s
     of-pair (means key) (breaks kind) s n = absurd s
     of-pair (means key) (means value) s n = absurd (cc)
 
-pub between-some : (l : Logical) (x : List ℕ) → is_pair (split_outcome l) ≡ true → (between : List ℕ) × (between_if_pair l x ≡ Some between)
+pub between-some : (l : Logical) (x : List ℕ) → is_some (outcome_pair (split_outcome l)) ≡ true → (between : List ℕ) × (between_if_pair l x ≡ Some between)
 between-some Logical.blank x some = absurd (cc)
 between-some (Logical.comment raw) x some = of-comment (meaning_of raw) some
   where
-    of-comment : (m : Meaning) → is_pair (comment_outcome m) ≡ true → (between : List ℕ) × (between_if_pair (Logical.comment raw) x ≡ Some between)
+    of-comment : (m : Meaning) → is_some (outcome_pair (comment_outcome m)) ≡ true
+        → (between : List ℕ) × (between_if_pair (Logical.comment raw) x ≡ Some between)
     of-comment (means text) n = absurd (cc)
     of-comment (breaks kind) n = absurd (cc)
 between-some (Logical.pair raw_key raw_value) x some = (between_in x, refl)
 
 -- a line that is no pair
-between-unpaired : (x : List ℕ) → IsSoundFor PassedOver x → is_pair (split_outcome (split_of x)) ≡ false → between_if_pair (split_of x) x ≡ None
+between-unpaired : (x : List ℕ) → IsSoundFor PassedOver x → is_some (outcome_pair (split_outcome (split_of x))) ≡ false → between_if_pair (split_of x) x ≡ None
 between-unpaired x (inl s) n = between-none (split_of x) x s n
 between-unpaired x (inr c) n = of-split (split_of x) (split_of-meets x)
   where
@@ -85,7 +86,7 @@ between-unpaired x (inr c) n = of-split (split_of x) (split_of-meets x)
 
 -- the last pair with one more group after it, which is a pair or not
 pub last-after : (groups : List (List HeldLine)) (g : List HeldLine) (span : BodySpan) (told : Bool) (last : Option BodySpan) → IsLastPair groups last → IsSoundFor PassedOver (joined (as_lines g))
-    → told ≡ is_pair (outcome g) → span.start ≡ length (groups_bytes groups) → span.end ≡ span.start + length (unended_bytes g)
+    → told ≡ is_some (outcome_pair (outcome g)) → span.start ≡ length (groups_bytes groups) → span.end ≡ span.start + length (unended_bytes g)
     → IsLastPair (groups ++ g ∷ []) (if told then Some span else last)
 last-after groups g span true last h sound is starts ends =
     let x = joined (as_lines g) in

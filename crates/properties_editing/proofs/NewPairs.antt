@@ -6,8 +6,7 @@ use Rattle.std.proofs.lemmas.Bool.{cases_Bool, cond-true, cond-false}
 use Rattle.std.proofs.lemmas.Bool.Decides.{nat_tests}
 use Rattle.std.proofs.lemmas.Str.{chars-nil}
 use Rattle.properties_format.specs.Text.{LineEnding, line_ending_text, is_blank, is_blanks, equals_sign, is_empty}
-use Rattle.properties_format.specs.Encoding.{windows_1252}
-use Rattle.properties_format.specs.Repertoire.{Repertoire}
+use Rattle.properties_format.specs.Encoding.{windows_1252, Repertoire}
 use Rattle.properties_format.specs.Printing.{encoded_text, printed_value}
 use Rattle.properties_format.specs.Valued.{value_text, separator_after, shortened_after}
 use Rattle.properties_format.proofs.Printing.Characters.{encoded-ascii, encoded_text-ascii, line_end-ascii}
@@ -32,12 +31,7 @@ pub value-separated : (r : Repertoire) (separator value : List ℕ) → separato
 value-separated r [] value some = absurd (some refl)
 value-separated r (c ∷ cs) value some = refl
 
--- a text without bytes has no characters,
-pub none-left : (x : List ℕ) → (length x == 0) ≡ true → chars x ≡ []
-none-left [] h = chars-nil
-none-left (b ∷ x) h = absurd (grind (arith, nat_tests))
-
--- and one with bytes has some
+-- a text with bytes has characters
 pub text-some : (x : List ℕ) → IsUtf8 x → false ≡ (length x == 0) → chars x ≢ []
 text-some x u h none = let q : true ≡ false = sym (ap is_empty none) ∙ is_empty-chars x u ∙ sym h in absurd (cc)
 

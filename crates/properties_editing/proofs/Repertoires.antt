@@ -1,6 +1,5 @@
 -- What a repertoire prints is what is meant in an encoding, in ASCII only or not.
-use Rattle.properties_format.specs.Encoding.{Encoding, utf_8}
-use Rattle.properties_format.specs.Repertoire.{ascii_in}
+use Rattle.properties_format.specs.Encoding.{Encoding, utf_8, ascii_in}
 use Rattle.properties_format.specs.Printing.{in_key_or_value}
 use Rattle.properties_format.proofs.AsciiOnly.{printed_characters-same, printed_characters-ascii}
 use Rattle.properties_format.proofs.Valued.InAscii.{encoded-same, key_bytes-same, value_bytes-same}

@@ -5,25 +5,24 @@ use Rattle.std.specs.Global.{Vec}
 use Rattle.std.proofs.lemmas.Bool.{cases_Bool, cond-true, cond-false}
 use Rattle.std.proofs.lemmas.List.{drop-drop}
 use Rattle.properties_format.specs.Text.{scalar, line_ending_text}
-use Rattle.properties_format.specs.Encoding.{Encoding, InForce}
-use Rattle.properties_format.specs.Repertoire.{Repertoire, repertoire, in_encoding}
+use Rattle.properties_format.specs.Encoding.{Encoding, InForce, Repertoire, repertoire, in_encoding}
 use Rattle.properties_format.specs.Printing.{encoded_text}
 use Rattle.properties_format.specs.Body.{HeldLine, HasKey, ending_bytes, groups_bytes, last_ending}
-use Rattle.properties_format.specs.Edited.{bom_of, is_editable, final_group, edited}
-use Rattle.properties_format.specs.Valued.{value_text, separation_by, ending_in, new_pair_bytes, IsSetValueResult, IsValueSet}
+use Rattle.properties_format.specs.Edited.{bom_of, is_editable, final_group, edited, separation_by}
+use Rattle.properties_format.specs.Valued.{value_text, ending_in, new_pair_bytes, IsSetValueResult, IsValueSet}
 use Rattle.properties_format.specs.Computed.Items.{outcome_of}
 use Rattle.properties_format.specs.Computed.Body.{held_groups_of}
 use Rattle.properties_format.specs.Computed.Edited.{last_place}
 use Rattle.properties_editing.specs.Private.Sound.{Returns}
 use Rattle.properties_editing.specs.declared.source.Comments.TheVariants.{Read}
 use Rattle.properties_items.specs.declared.error.PropertiesError.{PropertiesError}
-use Rattle.properties_format.specs.Computed.Valued.{front_of, between_of, has_value, last_between, separator_by, revalued_at, valued_at, value_set, value_set_in}
+use Rattle.properties_format.specs.Computed.Valued.{front_of, between_of, has_value, last_between, separator_by}
 use Rattle.properties_format.proofs.Body.Groups.{held_groups_of-meets, held-body}
 use Rattle.properties_format.proofs.Edited.ByteOrderMarks.{source-whole}
 use Rattle.properties_format.proofs.Edited.LogicalLines.{key-outcome}
 use Rattle.properties_format.proofs.Edited.Made as made
 use Rattle.properties_format.proofs.Edited.Made.{last_place-meets}
-use Rattle.properties_format.proofs.Valued.Made.{group-decoded, set_value_result-only, raw-pair, value_set-meets}
+use Rattle.properties_format.proofs.Valued.Made.{group-decoded, set_value_result-only, raw-pair, value_set-meets, revalued_at, valued_at, value_set, value_set_in}
 use Rattle.properties_format.proofs.Edits.InAscii.{set_value-in_ascii}
 use Rattle.properties_format.proofs.Valued.Read.{set_value-reads, value_set-keeps, value_set-keeps_front}
 use Rattle.properties_format.proofs.Valued.Unended.{without_ending, unended-joined, unended-front, unended-between, unended-value}
@@ -32,7 +31,7 @@ use Rattle.properties_editing.specs.Private.BodyKeys.{IsPlaceOf, IsPlace, IsKeyF
 use Rattle.properties_editing.specs.Private.BodyValues.{IsPairAlone, IsLayoutAfter, revalued_in}
 use Rattle.properties_editing.specs.Editing.{HasValueSet, MakesValueSet}
 use Rattle.properties_items.specs.Texts.{characters}
-use Rattle.properties_items.specs.LineEndings.{ending_of}
+use Rattle.properties_items.specs.Line.{ending_of}
 use Rattle.properties_editing.specs.Private.Sources.{IsInForce, printed_in, used_in}
 use Rattle.properties_editing.specs.declared.append.Layout.{Layout}
 use Rattle.properties_editing.specs.declared.find.BodySpan.{BodySpan}

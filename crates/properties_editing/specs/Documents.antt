@@ -2,8 +2,7 @@
 use Rattle.std.specs.Prelude.{◌≡◌, ℕ, Bool, true, false, List, [], map, Option, Some, None, Result, Ok, Err}
 use Rattle.std.specs.Borrow.{Bor}
 use Rattle.std.specs.Str.{chars}
-use Rattle.properties_format.specs.Encoding.{Encoding}
-use Rattle.properties_format.specs.Repertoire.{Repertoire, repertoire, all_of}
+use Rattle.properties_format.specs.Encoding.{Encoding, Repertoire, repertoire, all_of}
 use Rattle.properties_format.specs.Maps.{HasKeys, HasValue}
 use Rattle.properties_format.specs.Edits.{IsEditAllResult}
 use Rattle.properties_editing.specs.Editing.{AreMade, HasValueSet, IsRefusal, IsSet, IsRemoved}
@@ -22,7 +21,7 @@ OpensDocument e source (Err error) = IsRefusal (IsEditAllResult (all_of e) sourc
 
 -- What the edits after this put in is written in ASCII only, or not. All else is as it was.
 abbrev pub TurnsAsciiOnly : Bool → OpenDocument → OpenDocument → Type 0
-TurnsAsciiOnly only old new = new ≡ record old { repertoire = repertoire old.repertoire.encoding only }
+TurnsAsciiOnly only old new = new ≡ record old { repertoire = record old.repertoire { ascii_only = only } }
 
 -- A key was set to a value; or memory ran out, and the document is unchanged.
 abbrev pub PutsInto : {E : Type 0} → List ℕ → List ℕ → OpenDocument → Result Unit E → OpenDocument → Type 0

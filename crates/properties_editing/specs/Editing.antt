@@ -2,18 +2,16 @@
 use Rattle.std.specs.Prelude.{◌≡◌, ◌⊎◌, ℕ, true, List, Option, Result, Ok, Err, map, string_bytes}
 use Rattle.std.specs.Str.{chars}
 use Rattle.std.specs.Global.{Vec}
-use Rattle.properties_format.specs.Encoding.{Encoding}
-use Rattle.properties_format.specs.Repertoire.{Repertoire, ascii_in, all_of}
+use Rattle.properties_format.specs.Encoding.{Encoding, Repertoire, ascii_in, all_of}
 use Rattle.properties_format.specs.Escapes.{Malformed}
-use Rattle.properties_format.specs.Entries.{Entry}
+use Rattle.properties_format.specs.Items.{Entry}
 use Rattle.properties_format.specs.Maps.{IsMap}
+use Rattle.properties_format.specs.Body.{HasKey}
 use Rattle.properties_format.specs.Edited.{EditResult, edited, unsupported, unreadable, IsSetKeyResult, IsRemoveKeyResult}
-use Rattle.properties_format.specs.Edits.{put, remove, set_value, IsEditAllResult}
+use Rattle.properties_format.specs.Edits.{put, remove, set_value, IsEditAllResult, AreInComments, ArePairs, EscapesAre, IsEditPairsResult}
 use Rattle.properties_format.specs.Edits as format
 use Rattle.properties_format.specs.Valued.{IsSetValueResult, KeepsFront}
-use Rattle.properties_format.specs.LogicalLines.{AreLinesEditedInTurn, AreLogicalLines}
-use Rattle.properties_format.specs.EditedPairs.{AreInComments, ArePairs, EscapesAre, IsEditPairsResult}
-use Rattle.properties_format.specs.Changed.{contents, IsSetIn, IsRemovedIn, AreEditedIn, map_edited, map_after, AreOthersThanLast, AreOthers, ReadsAfter, KeepsOthers, AreKept}
+use Rattle.properties_format.specs.Changed.{AreLinesEditedInTurn, AreLogicalLines, contents, IsSetIn, IsRemovedIn, AreEditedIn, map_edited, map_after, AreOthersThanLast, AreLeft, ReadsAfter, KeepsOthers, AreKept}
 use Rattle.properties_format.specs.AsciiOnly.{IsInAscii}
 use Rattle.properties_items.specs.Errors.{IsBareError, IsMalformed}
 use Rattle.properties_editing.specs.declared.edit.Edit.{Edit}
@@ -69,7 +67,7 @@ SetsValue e source key value result = MakesValueSet (all_of e) source key value 
 -- The source without a key: its result, how it reads, and that it keeps every group that isn't a pair with the key.
 pub record IsRemoved (e : Encoding) (source key bytes : List ℕ) : Type 0 where
   pub edit : IsEdit (IsRemoveKeyResult e source key) (ReadsAfter (IsRemovedIn key) (map_edited (remove key)) e source) bytes
-  pub keeps : KeepsOthers (AreOthers key) e source bytes
+  pub keeps : KeepsOthers (AreLeft (HasKey key)) e source bytes
 
 abbrev pub RemovesKey : Encoding → List ℕ → List ℕ → Result (Vec ℕ) PropertiesError → Type 0
 RemovesKey e source key (Ok bytes) = IsRemoved e source key bytes.items

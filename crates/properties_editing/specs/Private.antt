@@ -4,7 +4,5 @@ pub mod BodyValues
 pub mod BodyIndex
 pub mod BodySweep
 pub mod BodyDocuments
-pub mod IndexedSources
-pub mod SourceChanges
 pub mod Sources
 pub mod Sound

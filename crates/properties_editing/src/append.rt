@@ -12,7 +12,7 @@ ghost use Rattle.properties_text.specs.Encoding.{encoding_of};
 ghost use Rattle.properties_text.specs.Printing.{AppendsOnOk};
 ghost use Rattle.properties_lines.specs.LineSearch.{unit_size};
 ghost use Rattle.properties_items.specs.Texts.{characters};
-ghost use Rattle.properties_items.specs.LineEndings.{ending_of};
+ghost use Rattle.properties_items.specs.Line.{ending_of};
 ghost use Rattle.properties_editing.specs.Private.BodyKeys.{closing_bytes};
 ghost use Rattle.properties_editing.specs.Private.BodyValues.{FindsLastPair, IsGroupAlone, IsLayoutAfter, unended_pair};
 ghost use Rattle.properties_editing.specs.Private.Sources.{printed_in};

@@ -6,14 +6,12 @@ ghost use Rattle.properties_text.specs.Encoding.{encoding_of};
 ghost use Rattle.properties_format.specs.Edited.{IsKeyRemoved, IsKeySet};
 ghost use Rattle.properties_format.specs.Edits.{AreEdited};
 ghost use Rattle.properties_format.specs.Valued.{IsValueSet};
-ghost use Rattle.properties_format.specs.Repertoire.{repertoire};
+ghost use Rattle.properties_format.specs.Encoding.{repertoire};
 ghost use Rattle.properties_editing.specs.Private.Sound.{Returns};
-ghost use Rattle.properties_editing.specs.Private.SourceChanges.{MakesEdit};
-ghost use Rattle.properties_editing.specs.Private.Sources.{asked_for};
+ghost use Rattle.properties_editing.specs.Private.Sources.{MakesEdit, asked_for};
 ghost use Rattle.properties_editing.specs.Editing.{EditsAll, EditsAllAscii, EditsPairs, RemovesKey, SetsKey, SetsValue, edit_in, edits_in};
 
 use crate::append::{layout_at, with_new_pair};
-pub use crate::document::Document;
 use crate::find::find_key;
 use crate::index::changes::IndexedSource;
 use crate::new_value::with_other_value;

@@ -3,9 +3,9 @@
 ghost use Rattle.std.specs.Prelude.{◌≡◌, ◌≤◌, length};
 ghost use Rattle.properties_format.specs.Text.{line_ending_text};
 ghost use Rattle.properties_format.specs.Computed.Lines.{ends_in_cr};
-ghost use Rattle.properties_format.specs.Computed.Parts.{safe_ending};
+ghost use Rattle.properties_format.specs.Computed.Body.{safe_ending};
 ghost use Rattle.properties_text.specs.Printing.{AppendsOnOk};
-ghost use Rattle.properties_items.specs.LineEndings.{ending_of};
+ghost use Rattle.properties_items.specs.Line.{ending_of};
 ghost use Rattle.properties_editing.specs.Private.BodyIndex.{ending_size, opened_bytes};
 ghost use Rattle.properties_editing.specs.Private.BodyKeys.{closing_bytes};
 ghost use Rattle.properties_editing.specs.Private.BodyValues.{IsLastEnding};

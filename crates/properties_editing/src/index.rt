@@ -8,8 +8,8 @@ ghost use Rattle.properties_lines.specs.LineSearch.{unit_size};
 ghost use Rattle.properties_items.specs.Texts.{characters};
 ghost use Rattle.std.specs.Str.{chars};
 ghost use Rattle.properties_text.specs.Encoding.{encoding_of};
-ghost use Rattle.properties_editing.specs.Private.BodyIndex.{AddsGroup, AreMovedFrom, FindsPairOfLine, FollowsPair, GrowsIndex, IsEndMoved, KeepsNothing, KeepsPair, ParsesIndex, all_longer, found_span, last_live, lengthened_span, longer, moved_part, resized_part, span_at, span_in, spans_in, spans_of, stored_at};
-ghost use Rattle.properties_items.specs.FoundItems.{pair_characters};
+ghost use Rattle.properties_editing.specs.Private.BodyIndex.{AddsGroup, AreChanged, FindsPairOfLine, FollowsPair, GrowsIndex, IsEndMoved, KeepsNothing, KeepsPair, ParsesIndex, all_longer, found_span, last_live, lengthened_span, longer, moved_part, resized_part, part_in, span_in, spans_in, spans_of, stored_at};
+ghost use Rattle.properties_items.specs.BorrowedItems.{pair_characters};
 
 use crate::find::{BodySpan, Closing, closing_after};
 use crate::groups::{Group, GroupReader};
@@ -280,7 +280,7 @@ fn resize_part(part: &mut Option<BodyPart>, old_end: usize, new_end: usize)
 // Moves the parts from this place on as far as one position is from another. It takes a slice, since a loop over a
 // `Vec` looks up at each place where its elements are.
 fn move_parts(spans: &mut [Option<BodyPart>], first: usize, old: usize, new: usize)
-    ensures { AreMovedFrom first (length spans.old) old new spans.old spans.new }
+    ensures { AreChanged (option_map (moved_part old new)) first (length spans.old) spans.old spans.new }
 {
     for place in first..spans.len() {
         move_part(&mut spans[place], old, new);
@@ -318,7 +318,7 @@ fn span_in(part: BodyPart) -> BodySpan
 
 // Returns the part in a place, if there is one.
 fn span_at(spans: &[Option<BodyPart>], place: usize) -> Option<BodySpan>
-    ensures { result ≡ span_at (spans_in spans.now) place }
+    ensures { result ≡ part_in (spans_in spans.now) place }
 {
     if place < spans.len() {
         Some(span_in(spans[place]?))

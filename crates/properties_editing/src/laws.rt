@@ -2,18 +2,12 @@
 //!
 //! The functions do nothing: each states laws as its contract.
 
-ghost use Rattle.std.specs.Prelude.{ℕ, Bool, List, Option};
-ghost use Rattle.properties_format.specs.Encoding.{Encoding};
-ghost use Rattle.properties_format.specs.Repertoire.{Repertoire};
+ghost use Rattle.std.specs.Prelude.{ℕ, List, Option};
+ghost use Rattle.properties_format.specs.Encoding.{Encoding, Repertoire};
 ghost use Rattle.properties_format.specs.Settings.{Settings};
 ghost use Rattle.properties_format.specs.Writing.{Call};
 ghost use Rattle.properties_format.specs.Edits.{Edit};
-ghost use Rattle.properties_format.specs.EditLaws.{RemovingNoPairChangesNothing, SettingTwiceIsSettingOnce};
-ghost use Rattle.properties_format.specs.EditLaws.{SettingGivesTheValue, RemovingTakesTheValue};
-ghost use Rattle.properties_format.specs.EditLaws.{SettingItsOwnValueChangesNothing, SettingAValueTwiceIsSettingItOnce};
-ghost use Rattle.properties_format.specs.EditLaws.{SettingAValueAgainChangesNothing, SettingAValueGivesIt, SettingAValueIsWritingAnew};
-ghost use Rattle.properties_format.specs.EditLaws.{NoEditsChangeNothing, OneEditIsItsCall, ListsOfEditsFollow};
-ghost use Rattle.properties_format.specs.EditLaws.{PassingOverIsReading, ValueIsAmongPairs};
+ghost use Rattle.properties_format.specs.EditLaws.{RemovingNoPairChangesNothing, SettingTwiceIsSettingOnce, SettingGivesTheValue, RemovingTakesTheValue, SettingItsOwnValueChangesNothing, SettingAValueTwiceIsSettingItOnce, SettingAValueAgainChangesNothing, SettingAValueGivesIt, SettingAValueIsWritingAnew, NoEditsChangeNothing, OneEditIsItsCall, ListsOfEditsFollow, PassingOverIsReading, ValueIsAmongPairs};
 
 /// The effects of edits, for every source, in ASCII only or not. Removing a key that no pair has changes no byte.
 /// Setting a key twice is the same as setting it once, to the later value. After a key is set, the map has its value;

@@ -2,7 +2,7 @@
 
 ghost use Rattle.std.specs.Prelude.{◌≡◌, ◌≤◌, ◌+◌, ◌-◌, ◌<◌, if◌then◌else◌, length, take, IfOk};
 ghost use Rattle.std.specs.Str.{chars, IsUtf8};
-ghost use Rattle.properties_format.specs.Groups.{is_open};
+ghost use Rattle.properties_format.specs.Lines.{is_open};
 ghost use Rattle.properties_format.specs.Computed.Valued.{added_by, after_ascii, ascii_count};
 ghost use Rattle.properties_text.specs.Encoding.{encoding_of};
 ghost use Rattle.properties_lines.specs.LineSearch.{unit_size};

@@ -19,6 +19,5 @@ mod remove;
 mod replace;
 mod source;
 
-pub use edit::{
-    Document, Edit, edit_all, edit_all_ascii, edit_pairs, remove_key, set_key, set_value,
-};
+pub use document::Document;
+pub use edit::{Edit, edit_all, edit_all_ascii, edit_pairs, remove_key, set_key, set_value};

@@ -65,7 +65,7 @@ pub struct BodyStart {
     pub encoding: Encoding,
     /// The position where the body starts, after any byte order mark.
     pub start: usize,
-    /// Whether they are written in ASCII only.
+    /// Whether new texts are written in ASCII only.
     pub ascii_only: bool,
 }
 

@@ -1,8 +1,7 @@
 -- What a document holds: a source with its index, in which nothing is malformed.
 use Rattle.properties_editing.specs.Documents.{OpenDocument}
 use Rattle.properties_editing.specs.Private.Sound.{AreSoundFor}
-use Rattle.properties_editing.specs.Private.SourceChanges.{groups_of}
-use Rattle.properties_editing.specs.Private.Sources.{IsInForce}
+use Rattle.properties_editing.specs.Private.Sources.{groups_of, IsInForce}
 use Rattle.properties_editing.specs.declared.source.Comments.TheVariants.{Read}
 use Rattle.properties_editing.specs.declared.document.Document.TheInside.{Inside}
 

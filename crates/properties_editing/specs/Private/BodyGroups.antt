@@ -3,16 +3,15 @@ use Rattle.std.specs.Prelude.{◌≡◌, ℕ, ◌+◌, ◌-◌, ◌≤◌, Bool,
 use Rattle.std.specs.Str.{chars, IsUtf8}
 use Rattle.properties_format.specs.Text as text
 use Rattle.properties_format.specs.Encoding.{Encoding}
-use Rattle.properties_format.specs.Groups.{is_comment_line, joined}
+use Rattle.properties_format.specs.Lines.{is_comment_line, joined}
 use Rattle.properties_format.specs.Body.{HeldLine, as_lines, ending_bytes, group_bytes}
 use Rattle.properties_format.specs.Edited.{is_empty_line, is_left_open}
-use Rattle.properties_format.specs.Computed.Body.{held_groups_after, held_groups_of}
-use Rattle.properties_format.specs.Computed.Parts.{unended_bytes}
+use Rattle.properties_format.specs.Computed.Body.{held_groups_after, held_groups_of, unended_bytes}
 use Rattle.properties_text.specs.Encoding.{encoding_of}
 use Rattle.properties_lines.specs.LineSearch.{unit_size}
 use Rattle.properties_lines.specs.Scanner.{HasRightFlags, bytes_of}
 use Rattle.properties_lines.specs.Private.HeldLines.{IsInBody, held_line, lines_left}
-use Rattle.properties_text.specs.Spelt.{IsWell}
+use Rattle.properties_text.specs.Escaping.{IsWell}
 use Rattle.properties_lines.specs.LogicalLine.{bytes_with, HasText, IsSound, IsUnfinished}
 use Rattle.properties_editing.specs.declared.groups.Group.{Group}
 use Rattle.properties_editing.specs.declared.groups.GroupReader.{GroupReader}

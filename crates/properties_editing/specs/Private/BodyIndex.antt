@@ -1,28 +1,25 @@
 -- Which pair a logical line is, and what an index of a body's pairs says.
-pub mod Keys
 use Rattle.std.specs.Prelude.{◌≡◌, ◌⊎◌, bytes_eq, ◌==◌, ℕ, ◌+◌, ◌-◌, ◌%◌, ◌^◌, ◌≤◌, ◌<◌, min, Bool, true, false, if◌then◌else◌, List, [], ◌∷◌, ◌++◌, map, length, drop, get_or, filter_map, suc, Option, Some, None, option_and_then, Result, Ok, Err}
 use Rattle.std.specs.List.{cons_option}
-use Rattle.std.specs.Option.{is_some, option_map}
+use Rattle.std.specs.Option.{is_some, option_map, option_or}
 use Rattle.std.specs.Map.{lookup, update}
 use Rattle.std.specs.BTreeMap.{IsOrdered}
 use Rattle.std.specs.String.{string_cmp}
 use Rattle.std.specs.declared.string.String.{String}
 use Rattle.properties_format.specs.Text.{carriage_return, line_feed}
 use Rattle.properties_format.specs.Encoding.{Encoding}
-use Rattle.properties_format.specs.Groups.{joined}
-use Rattle.properties_format.specs.Entries.{pair}
-use Rattle.properties_format.specs.Items.{Outcome}
+use Rattle.properties_format.specs.Lines.{joined}
+use Rattle.properties_format.specs.Items.{pair, Outcome}
 use Rattle.properties_format.specs.Body.{HeldLine, as_lines, group_bytes}
 use Rattle.properties_format.specs.Edited.{final_group, is_empty_line, is_left_open}
-use Rattle.properties_format.specs.Computed.Body.{held_groups_of}
+use Rattle.properties_format.specs.Computed.Body.{held_groups_of, unended_bytes, outcome_key}
 use Rattle.properties_editing.specs.Private.Sound.{AreSound, AreSoundFor, IsSoundFor}
 use Rattle.properties_format.specs.Computed.Items.{outcome_of}
 use Rattle.properties_format.specs.Computed.Lines.{begins_with_lf}
 use Rattle.properties_format.specs.Computed.Maps.{first_value}
-use Rattle.properties_format.specs.Computed.Parts.{unended_bytes}
 use Rattle.properties_text.specs.Encoding.{encoding_of}
 use Rattle.properties_editing.specs.Private.BodyKeys.{IsErrorOfGroups, IsFault, closing_bytes, closing_of}
-use Rattle.properties_items.specs.FoundItems.{outcome_pair, pair_characters}
+use Rattle.properties_items.specs.BorrowedItems.{outcome_pair, pair_characters}
 use Rattle.properties_items.specs.Texts.{characters}
 use Rattle.properties_editing.specs.declared.source.Comments.{Comments}
 use Rattle.properties_editing.specs.declared.groups.Group.{Group}
@@ -34,6 +31,8 @@ use Rattle.properties_editing.specs.declared.find.Closing.{Closing}
 use Rattle.properties_editing.specs.declared.find.Closing.TheVariants as closing
 use Rattle.properties_editing.specs.declared.source.BodyStart.{BodyStart}
 use Rattle.properties_items.specs.declared.error.PropertiesError.{PropertiesError}
+use Rattle.std.specs.Borrow.{Bor}
+use Rattle.std.specs.Str.{chars}
 
 -- The pair that a logical line is, if it is one, was returned; or an error in the line with this number.
 abbrev pub FindsPairOfLine : {Y Z : Type 0} → Comments → List ℕ → ℕ → Result (Option (String Y × String Z)) PropertiesError → Type 0
@@ -45,10 +44,6 @@ FindsPairOfLine comments line number (Err e) = IsFault comments number line e
 -- what a group says
 abbrev pub outcome : List HeldLine → Outcome
 outcome g = outcome_of (joined (as_lines g))
-
--- whether a logical line is a pair
-abbrev pub is_pair : Outcome → Bool
-is_pair o = is_some (outcome_pair o)
 
 -- the part of a group that starts here, without its last line ending
 abbrev pub span_of : ℕ → List HeldLine → BodySpan
@@ -93,8 +88,8 @@ abbrev pub stored_places : {Y : Type 0} → List (String Y × IndexedPair) → L
 stored_places entries key = places_of (stored_at entries key)
 
 -- the part in a place, if there is one
-abbrev pub span_at : List (Option BodySpan) → ℕ → Option BodySpan
-span_at spans place = get_or spans place None
+abbrev pub part_in : {A : Type 0} → List (Option A) → ℕ → Option A
+part_in parts place = get_or parts place None
 
 -- the part that is stored so
 abbrev pub span_in : BodyPart → BodySpan
@@ -107,27 +102,18 @@ spans_in parts = map (option_map span_in) parts
 abbrev pub spans_of : Index → List (Option BodySpan)
 spans_of index = spans_in index.spans.items
 
--- what is in a place of an array
-abbrev pub part_in : List (Option BodyPart) → ℕ → Option BodyPart
-part_in parts place = get_or parts place None
-
 -- where the last pair with a key is
 abbrev pub last_span : List (Option BodySpan) → Option IndexedPair → Option BodySpan
 last_span spans None = None
-last_span spans (Some p) = span_at spans p.place
+last_span spans (Some p) = part_in spans p.place
 
 abbrev pub found_span : Index → List ℕ → Option BodySpan
 found_span index key = last_span (spans_of index) (stored_at index.pairs.entries key)
 
--- the first if there is one, otherwise the second
-abbrev pub span_or : Option BodySpan → Option BodySpan → Option BodySpan
-span_or None t = t
-span_or (Some s) t = Some s
-
 -- the last part that is there
 abbrev pub last_live : List (Option BodySpan) → Option BodySpan
 last_live [] = None
-last_live (s ∷ spans) = span_or (last_live spans) s
+last_live (s ∷ spans) = option_or (last_live spans) s
 
 -- A pair more was stored, after all others.
 pub record KeepsPair (key value : List ℕ) (span : BodySpan) (old new : Index) : Type 0 where
@@ -213,12 +199,12 @@ moved_part old new p = record { start = carried_to old new p.start; size = p.siz
 abbrev pub resized_part : ℕ → ℕ → BodyPart → BodyPart
 resized_part old new p = record { start = p.start; size = carried_to old new p.size }
 
--- The parts from the first of these places up to the second moved, and no others.
-pub record AreMovedFrom (first count old_at new_at : ℕ) (old new : List (Option BodyPart)) : Type 0 where
+-- The parts from the first of these places up to the second were changed so, and no others.
+pub record AreChanged (change : Option BodyPart → Option BodyPart) (first count : ℕ) (old new : List (Option BodyPart)) : Type 0 where
   pub size : length new ≡ length old
-  pub done : (i : ℕ) → first ≤ i → i < count → part_in new i ≡ option_map (moved_part old_at new_at) (part_in old i)
+  pub done : (i : ℕ) → first ≤ i → i < count → part_in new i ≡ change (part_in old i)
   pub before : (i : ℕ) → i < first → part_in new i ≡ part_in old i
-  pub left : (i : ℕ) → count ≤ i → part_in new i ≡ part_in old i
+  pub behind : (i : ℕ) → count ≤ i → part_in new i ≡ part_in old i
 
 -- The end of the part in this place moved, and the parts behind it did.
 pub record IsEndMoved (place old_end new_end : ℕ) (old new : List (Option BodyPart)) : Type 0 where
@@ -237,13 +223,6 @@ longer place more s = Some (lengthened_span place more s)
 -- all parts after that
 abbrev pub all_longer : ℕ → ℕ → List (Option BodySpan) → List (Option BodySpan)
 all_longer place more spans = map (option_and_then (longer place more)) spans
-
--- The first so many parts are those after it, and the others are as they were.
-pub record AreLongerTo (place more count : ℕ) (old new : List (Option BodyPart)) : Type 0 where
-  pub size : length new ≡ length old
-  pub done : (i : ℕ) → i < count
-      → option_map span_in (part_in new i) ≡ option_and_then (longer place more) (option_map span_in (part_in old i))
-  pub left : (i : ℕ) → count ≤ i → part_in new i ≡ part_in old i
 
 -- A pair was stored that was appended, and each part that ended in this place grew by so many bytes.
 pub record GrowsIndex (key value : List ℕ) (span : BodySpan) (place more : ℕ) (old new : Index) : Type 0 where
@@ -265,9 +244,8 @@ pub record FollowsPair (key value : List ℕ) (old_end new_end : ℕ) (is_last :
 
 -- what a line ending adds to a group that is left open, by what separates a new pair from it
 abbrev pub opened_bytes : List ℕ → Closing → List ℕ
-opened_bytes ending closing.Nothing = []
-opened_bytes ending closing.OneEnding = []
 opened_bytes ending closing.TwoEndings = ending
+opened_bytes ending other = []
 
 -- A pair was appended to a source, as this line, and stored.
 pub record IsPairAppended (opened : BodyStart) (key value by line ending old : List ℕ) (was : Index) (new : List ℕ) (is : Index) : Type 0 where
@@ -276,17 +254,10 @@ pub record IsPairAppended (opened : BodyStart) (key value by line ending old : L
       let start = place + length (closing_bytes by was.closing) in
       GrowsIndex key value (record { start = start; end = start + length line }) place (length (opened_bytes by was.closing)) was is
 
--- So it is; or memory ran out, and nothing changed that is looked at, if the key is new.
+-- So it is; or memory ran out, and the index reads as before if the key is new.
 abbrev pub AppendsPair : {E : Type 0} → BodyStart → List ℕ → List ℕ → List ℕ → List ℕ → List ℕ → List ℕ → Index → Result Unit E → List ℕ → Index → Type 0
 AppendsPair opened key value by line ending old was (Ok done) new is = IsPairAppended opened key value by line ending old was new is
 AppendsPair opened key value by line ending old was (Err error) new is = (new ≡ old) × (stored_at was.pairs.entries key ≡ None → KeepsNothing was is)
-
--- ---- a source and its index after an edit
-
--- The source is what is meant, nothing in it is malformed but in comments, and the index is that of its groups.
-abbrev pub IsKept : Type 0 → BodyStart → List ℕ → Index → Type 0
-IsKept Meant opened source index =
-    let groups = held_groups_of (encoding_of opened.encoding) (drop opened.start source) in Meant × (AreSound groups × IsIndex groups index)
 
 -- ---- a key that is removed
 
@@ -298,7 +269,7 @@ ending_size (b ∷ bs) = if b == carriage_return then (if begins_with_lf bs then
 -- An LF was put before the source.
 pub record PutsFirst (old : List ℕ) (was : Index) (new : List ℕ) (is : Index) : Type 0 where
   pub bytes : new ≡ line_feed ∷ old
-  pub spans : AreMovedFrom 0 (length was.spans.items) 0 1 was.spans.items is.spans.items
+  pub spans : AreChanged (option_map (moved_part 0 1)) 0 (length was.spans.items) was.spans.items is.spans.items
   pub pairs : is.pairs ≡ was.pairs
   pub closing : is.closing ≡ was.closing
 
@@ -306,3 +277,31 @@ pub record PutsFirst (old : List ℕ) (was : Index) (new : List ℕ) (is : Index
 abbrev pub GuardsFront : Bool → List ℕ → Index → List ℕ → Index → Type 0
 GuardsFront true old was new is = PutsFirst old was new is
 GuardsFront false old was new is = (new ≡ old) × (is ≡ was)
+
+-- ---- The keys of an index, borrowed, and the places of their first pairs.
+
+-- the keys of the groups that are pairs, in order
+abbrev pub group_keys : List (List HeldLine) → List (List ℕ)
+group_keys groups = filter_map (λ g. outcome_key (outcome g)) groups
+
+-- It is the index of some groups.
+pub record IndexesSome (index : Index) : Type 0 where
+  pub groups : List (List HeldLine)
+  pub is_index : IsIndex groups index
+
+-- The first pair with the key is in this place.
+abbrev pub IsFirstIn : {Y : Type 0} → List (String Y × IndexedPair) → List ℕ → ℕ → Type 0
+IsFirstIn entries key i = (rest : List ℕ) × (places_of (stored_at entries key) ≡ i ∷ rest)
+
+-- At each place: the key whose first pair is there, if there is one.
+pub record AreFirsts {Y : Type 0} (entries : List (String Y × IndexedPair)) (firsts : List (Option (List ℕ))) : Type 0 where
+  pub only : (i : ℕ) (key : List ℕ) → get_or firsts i None ≡ Some key → IsFirstIn entries key i
+  pub every : (key : List ℕ) (i : ℕ) → IsFirstIn entries key i → get_or firsts i None ≡ Some key
+
+-- the characters of the key at a place, if there is one
+abbrev pub key_at : Option (Bor (List ℕ)) → Option (List ℕ)
+key_at place = option_map (λ key. chars key.now) place
+
+-- So it is of borrowed texts.
+abbrev pub ArePlaced : {Y : Type 0} → List (String Y × IndexedPair) → List (Option (Bor (List ℕ))) → Type 0
+ArePlaced entries firsts = AreFirsts entries (map key_at firsts)

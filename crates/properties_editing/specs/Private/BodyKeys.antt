@@ -4,17 +4,15 @@ use Rattle.std.specs.Option.{is_some, option_map}
 use Rattle.std.specs.declared.vec.Vec.{Vec}
 use Rattle.properties_format.specs.Text.{line_feed}
 use Rattle.properties_format.specs.Encoding.{Encoding, begins_like_bom}
-use Rattle.properties_format.specs.Groups.{joined}
+use Rattle.properties_format.specs.Lines.{joined}
 use Rattle.properties_format.specs.Body.{HeldLine, as_lines, groups_bytes, held_in}
-use Rattle.properties_format.specs.Edited.{final_group}
+use Rattle.properties_format.specs.Edited.{final_group, separation_by}
 use Rattle.properties_format.specs.Items.{Outcome}
-use Rattle.properties_format.specs.Valued.{separation_by}
 use Rattle.properties_format.specs.Computed.Items.{outcome_of}
-use Rattle.properties_format.specs.Computed.Body.{held_groups_of}
-use Rattle.properties_format.specs.Computed.Parts.{outcome_key, unended_bytes}
+use Rattle.properties_format.specs.Computed.Body.{held_groups_of, outcome_key, unended_bytes}
 use Rattle.properties_format.specs.Computed.Edited.{KeyPlace, last_place, without}
 use Rattle.properties_editing.specs.Private.Sound.{AreSoundFor, IsSoundFor, passes_over}
-use Rattle.properties_items.specs.FoundItems.{IsNoItem}
+use Rattle.properties_items.specs.BorrowedItems.{IsNoItem}
 use Rattle.properties_items.specs.Errors.{IsBareError}
 use Rattle.properties_editing.specs.Private.BodyValues.{FindsLastPair}
 use Rattle.properties_editing.specs.declared.source.Comments.{Comments}

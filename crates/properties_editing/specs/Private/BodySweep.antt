@@ -13,13 +13,6 @@ use Rattle.properties_editing.specs.declared.find.Closing.TheVariants as closing
 abbrev pub lowered : ℕ → Option BodyPart → Option BodyPart
 lowered n part = option_map (λ p. let q : BodyPart = record { start = p.start - n; size = p.size } in q) part
 
--- The parts in the places from one up to another were moved down, and no others.
-pub record AreLowered (by from to : ℕ) (old new : List (Option BodyPart)) : Type 0 where
-  pub size : length new ≡ length old
-  pub done : (i : ℕ) → from ≤ i → i < to → part_in new i ≡ lowered by (part_in old i)
-  pub before : (i : ℕ) → i < from → part_in new i ≡ part_in old i
-  pub behind : (i : ℕ) → to ≤ i → part_in new i ≡ part_in old i
-
 -- The part is one of the body that starts here, and wasn't gone over.
 abbrev pub IsAhead : ℕ → Sweep → List ℕ → Option BodySpan → Type 0
 IsAhead start sweep source None = Unit {0}

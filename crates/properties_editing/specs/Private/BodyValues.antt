@@ -4,27 +4,24 @@ use Rattle.std.specs.Prelude.{◌≡◌, ℕ, ◌+◌, ◌-◌, ◌≤◌, Bool,
 use Rattle.std.specs.Global.{Vec}
 use Rattle.std.specs.Str.{chars, encode_utf8_all}
 use Rattle.properties_format.specs.Text as text
-use Rattle.properties_format.specs.Encoding.{Encoding}
-use Rattle.properties_format.specs.Repertoire.{Repertoire}
-use Rattle.properties_format.specs.Groups.{joined}
+use Rattle.properties_format.specs.Encoding.{Encoding, Repertoire}
+use Rattle.properties_format.specs.Lines.{joined}
 use Rattle.properties_format.specs.Split.{IsPair}
 use Rattle.properties_format.specs.Computed.Split.{split_of}
-use Rattle.properties_format.specs.Entries.{pair}
-use Rattle.properties_format.specs.Items.{given}
+use Rattle.properties_format.specs.Items.{pair, given}
 use Rattle.properties_format.specs.Computed.Items.{outcome_of}
 use Rattle.properties_format.specs.Text.{is_blanks}
 use Rattle.properties_format.specs.Printing.{encoded_text, printed_key, printed_value}
 use Rattle.properties_format.specs.Body.{HeldLine, as_lines, groups_bytes, held_in, AreGroupsOf}
 use Rattle.properties_format.specs.Edited.{is_editable}
 use Rattle.properties_format.specs.Valued.{value_text, ending_among}
-use Rattle.properties_format.specs.Computed.Body.{held_groups_of}
+use Rattle.properties_format.specs.Computed.Body.{held_groups_of, unended_bytes}
 use Rattle.properties_format.specs.Computed.Settings.{is_good_separator}
-use Rattle.properties_format.specs.Computed.Parts.{unended_bytes}
 use Rattle.properties_format.specs.Computed.Valued.{before_value, between_if_pair, between_of, front_of, has_value, last_between, separator_by}
 use Rattle.properties_text.specs.Parsing.{bytes_in, IsSpan}
 use Rattle.properties_text.specs.declared.parse.Span.{Span}
 use Rattle.properties_items.specs.Texts.{characters}
-use Rattle.properties_items.specs.LineEndings.{ending_of}
+use Rattle.properties_items.specs.Line.{ending_of}
 use Rattle.properties_items.specs.declared.line.LineEnding.{LineEnding}
 use Rattle.properties_editing.specs.declared.append.Layout.{Layout}
 use Rattle.properties_editing.specs.declared.find.BodySpan.{BodySpan}

@@ -2,10 +2,10 @@
 use Rattle.std.specs.Prelude.{◌≡◌, ◌⊎◌, ℕ, Bool, true, false, List, [], ◌∷◌, Result, Ok, Err}
 use Rattle.std.specs.Global.{Vec}
 use Rattle.properties_format.specs.Encoding.{Encoding, byte_order_mark}
-use Rattle.properties_format.specs.Groups.{is_comment_line, joined}
+use Rattle.properties_format.specs.Lines.{is_comment_line, joined}
 use Rattle.properties_format.specs.Body.{HeldLine, as_lines}
 use Rattle.properties_format.specs.Edited.{EditResult, edited, unsupported, is_editable, IsEditResult}
-use Rattle.properties_format.specs.EditedPairs.{IsPairsResult}
+use Rattle.properties_format.specs.Edits.{IsPairsResult}
 use Rattle.properties_format.specs.Computed.Edited.{IsSound}
 use Rattle.properties_format.specs.Computed.Items.{outcome_of}
 use Rattle.properties_editing.specs.Editing.{IsRefusal}

@@ -5,15 +5,14 @@ ghost use Rattle.std.specs.Option.{is_some, option_map};
 ghost use Rattle.std.specs.BTreeMap.{IsOrdered};
 ghost use Rattle.std.specs.String.{string_cmp};
 ghost use Rattle.properties_items.specs.Texts.{characters};
-ghost use Rattle.properties_items.specs.LineEndings.{ending_of};
+ghost use Rattle.properties_items.specs.Line.{ending_of};
 ghost use Rattle.properties_format.specs.Encoding.{begins_like_bom};
 ghost use Rattle.properties_format.specs.Text.{line_ending_text};
 ghost use Rattle.std.specs.Str.{chars};
 ghost use Rattle.properties_format.specs.Edits.{put, remove, set_value};
 ghost use Rattle.properties_editing.specs.Private.BodyIndex.{AppendsPair, FollowsPair, GuardsFront, PutsFirst};
 ghost use Rattle.properties_editing.specs.Private.BodyKeys.{IsPlace};
-ghost use Rattle.properties_editing.specs.Private.SourceChanges.{IsEditMade, MakesEdit, OpensIndexed, groups_of, value_of};
-ghost use Rattle.properties_editing.specs.Private.Sources.{asked_for};
+ghost use Rattle.properties_editing.specs.Private.Sources.{IsEditMade, MakesEdit, OpensIndexed, groups_of, value_of, asked_for};
 
 use crate::append::{layout_at, print_new_pair};
 use crate::endings::{opened_size, push_closing, push_ending, safe_ending_after};
@@ -45,11 +44,11 @@ pub struct IndexedSource {
 }
 
 impl Model for IndexedSource {
-    ghost use Rattle.properties_editing.specs.Private.SourceChanges.{OpenSource};
+    ghost use Rattle.properties_editing.specs.Private.Sources.{OpenSource};
 
     ghost Value = { OpenSource };
 
-    ghost use Rattle.properties_editing.specs.Private.IndexedSources.{open_source, IsIndexed};
+    ghost use Rattle.properties_editing.specs.Private.Sources.{open_source, IsIndexed};
 
     ghost view = { open_source };
 

@@ -1,9 +1,8 @@
 // The keys of an index.
 
 ghost use Rattle.std.specs.Prelude.{◌≡◌, IfOk, Some, slice_get};
-ghost use Rattle.properties_editing.specs.Private.BodyIndex.{places_of};
-ghost use Rattle.properties_editing.specs.Private.BodyIndex.Keys.{ArePlaced, IndexesSome};
-ghost use Rattle.properties_editing.specs.Private.SourceChanges.{HasKeysOf};
+ghost use Rattle.properties_editing.specs.Private.BodyIndex.{places_of, ArePlaced, IndexesSome};
+ghost use Rattle.properties_editing.specs.Private.Sources.{HasKeysOf};
 
 use crate::index::changes::IndexedSource;
 use crate::index::{Index, IndexedPair};

@@ -2,8 +2,8 @@
 
 ghost use Rattle.std.specs.Prelude.{◌≡◌, ◌≤◌, ◌-◌, ◌++◌, take, drop, length, vec_capacity};
 ghost use Rattle.std.specs.List.{copy_within};
-ghost use Rattle.properties_editing.specs.Private.BodyIndex.{span_at, spans_of};
-ghost use Rattle.properties_editing.specs.Private.BodySweep.{AreLowered, CutsNext, IsAhead, lowered};
+ghost use Rattle.properties_editing.specs.Private.BodyIndex.{AreChanged, part_in, spans_of};
+ghost use Rattle.properties_editing.specs.Private.BodySweep.{CutsNext, IsAhead, lowered};
 
 use crate::endings::ending_size;
 use crate::find::Closing;
@@ -31,8 +31,8 @@ pub fn cut_out_pair(
 ) -> Sweep
     requires order { sweep.write ≤ sweep.read }
     requires later { sweep.place ≤ place }
-    requires ahead { IsAhead start sweep source.old.items (span_at (spans_of index.old) place) }
-    ensures cuts { CutsNext start sweep place (span_at (spans_of index.old) place) source.old.items index.old result source.new.items index.new }
+    requires ahead { IsAhead start sweep source.old.items (part_in (spans_of index.old) place) }
+    ensures cuts { CutsNext start sweep place (part_in (spans_of index.old) place) source.old.items index.old result source.new.items index.new }
     ensures capacity { vec_capacity source.new ≡ vec_capacity source.old }
 {
     let Some(pair) = span_at(&index.spans, place) else {
@@ -63,7 +63,7 @@ pub fn close_up(source: &mut Vec<u8>, index: &mut Index, sweep: Sweep)
     requires within { sweep.read ≤ length source.old.items }
     requires places { sweep.place ≤ length index.old.spans.items }
     ensures bytes { source.new.items ≡ take sweep.write source.old.items ++ drop sweep.read source.old.items }
-    ensures spans { AreLowered (sweep.read - sweep.write) sweep.place (length index.old.spans.items) index.old.spans.items index.new.spans.items }
+    ensures spans { AreChanged (lowered (sweep.read - sweep.write)) sweep.place (length index.old.spans.items) index.old.spans.items index.new.spans.items }
     ensures pairs { index.new.pairs ≡ index.old.pairs }
     ensures closing { index.new.closing ≡ index.old.closing }
     ensures capacity { vec_capacity source.new ≡ vec_capacity source.old }
@@ -96,7 +96,7 @@ fn move_down(source: &mut Vec<u8>, from: usize, to: usize, dest: usize)
 fn lower_spans(spans: &mut Vec<Option<BodyPart>>, from: usize, to: usize, by: usize)
     requires order { from ≤ to }
     requires within { to ≤ length spans.old.items }
-    ensures { AreLowered by from to spans.old.items spans.new.items }
+    ensures { AreChanged (lowered by) from to spans.old.items spans.new.items }
 {
     if by > 0 {
         for place in from..to {

@@ -3,7 +3,8 @@ use Rattle.std.specs.Str.{chars}
 use Rattle.std.proofs.lemmas.Result.{IfOk-weaker}
 use Rattle.properties_format.specs.Text.{equals_sign}
 use Rattle.properties_format.specs.Valued.{separator_after}
-use Rattle.properties_editing.proofs.NewPairs.{none-left, equals-text, separator_for-none, separator_for-indent, separator_for-other, text-some}
+use Rattle.properties_text.proofs.Printing.Values.{none-left}
+use Rattle.properties_editing.proofs.NewPairs.{equals-text, separator_for-none, separator_for-indent, separator_for-other, text-some}
 use Rattle.properties_editing.proofs.append.separator_for.Goals as goal
 use Rattle.properties_editing.proofs.append.separator_for.Goals.{then-is_empty-via-then-is_empty, then-is_empty-via-else-is_empty+then-is_indent}
 

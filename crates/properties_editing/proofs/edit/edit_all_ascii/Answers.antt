@@ -3,7 +3,7 @@ use Rattle.properties_editing.specs.Editing.{edits_in}
 use Rattle.properties_editing.proofs.Editing.{edits-scalars}
 use Rattle.properties_editing.proofs.EditsInTurn.{returns-all}
 use Rattle.properties_editing.proofs.edit.edit_all_ascii.Goals as goal
-use Rattle.properties_format.specs.Repertoire.{ascii_in}
+use Rattle.properties_format.specs.Encoding.{ascii_in}
 
 pub returns : goal.returns
 returns c =

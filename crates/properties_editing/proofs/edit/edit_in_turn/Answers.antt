@@ -3,10 +3,9 @@ use Rattle.std.proofs.lemmas.List.{take_all}
 use Rattle.properties_format.specs.Edits.{AreEdited}
 use Rattle.properties_text.specs.Encoding.{encoding_of}
 use Rattle.properties_editing.specs.Editing.{edit_in, edits_in}
-use Rattle.properties_editing.specs.Private.SourceChanges.{AreEditsMade}
 use Rattle.properties_editing.specs.Private.Sources.{asked_for}
 use Rattle.properties_editing.proofs.Editing.{edits_in-more}
-use Rattle.properties_editing.proofs.IndexedSources.{edits-more, edits-returned, refuses}
+use Rattle.properties_editing.proofs.IndexedSources.{edits-more, edits-returned, refuses, AreEditsMade}
 use Rattle.properties_editing.proofs.edit.edit_in_turn.Goals as goal
 
 pub returns-in_err-edited : goal.returns-in_err-edited

@@ -1,5 +1,5 @@
 use Rattle.std.proofs.Common.{take}
-use Rattle.properties_editing.specs.Private.SourceChanges.{AreEditsMade}
+use Rattle.properties_editing.proofs.IndexedSources.{AreEditsMade}
 use Rattle.properties_editing.specs.Editing.{edits_in}
 use Rattle.properties_editing.proofs.edit.edit_in_turn.Given as goal
 

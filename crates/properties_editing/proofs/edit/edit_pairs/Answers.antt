@@ -4,7 +4,7 @@ use Rattle.properties_editing.specs.Editing.{edits_in}
 use Rattle.properties_editing.proofs.Editing.{edits-scalars}
 use Rattle.properties_editing.proofs.EditsInTurn.{returns-pairs}
 use Rattle.properties_editing.proofs.edit.edit_pairs.Goals as goal
-use Rattle.properties_format.specs.Repertoire.{repertoire}
+use Rattle.properties_format.specs.Encoding.{repertoire}
 
 pub returns-clause-edits : goal.returns-clause-edits
 returns-clause-edits c =

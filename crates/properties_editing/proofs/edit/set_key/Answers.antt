@@ -4,7 +4,7 @@ use Rattle.properties_items.proofs.Scalars.{chars-scalars}
 use Rattle.properties_text.specs.Encoding.{encoding_of}
 use Rattle.properties_editing.proofs.Editing.{returns-set}
 use Rattle.properties_editing.proofs.edit.set_key.Goals as goal
-use Rattle.properties_format.specs.Repertoire.{all_of}
+use Rattle.properties_format.specs.Encoding.{all_of}
 
 pub returns-clause-sets : goal.returns-clause-sets
 returns-clause-sets c =

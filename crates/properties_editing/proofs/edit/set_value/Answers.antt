@@ -3,7 +3,7 @@ use Rattle.properties_items.proofs.Scalars.{chars-scalars}
 use Rattle.properties_text.specs.Encoding.{encoding_of}
 use Rattle.properties_editing.proofs.SetValues.{returns-value}
 use Rattle.properties_editing.proofs.edit.set_value.Goals as goal
-use Rattle.properties_format.specs.Repertoire.{all_of}
+use Rattle.properties_format.specs.Encoding.{all_of}
 
 pub returns : goal.returns
 returns c = record {

@@ -1,5 +1,5 @@
 use Rattle.std.proofs.Common.{ap, length}
-use Rattle.properties_items.specs.LineEndings.{ending_of}
+use Rattle.properties_items.specs.Line.{ending_of}
 use Rattle.properties_editing.proofs.NewPairs.{ending-bytes}
 use Rattle.properties_editing.proofs.endings.opened_size.Goals as goal
 

@@ -1,6 +1,6 @@
 use Rattle.std.proofs.Common.{◌++◌, ◌∙◌, ap}
 use Rattle.std.proofs.lemmas.Result.{on_ok_weaker}
-use Rattle.properties_items.specs.LineEndings.{ending_of}
+use Rattle.properties_items.specs.Line.{ending_of}
 use Rattle.properties_editing.proofs.NewPairs.{ending-bytes}
 use Rattle.properties_editing.proofs.endings.push_ending.Goals as goal
 

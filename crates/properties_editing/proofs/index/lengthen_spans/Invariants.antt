@@ -1,4 +1,4 @@
-use Rattle.properties_editing.specs.Private.BodyIndex.{AreLongerTo}
+use Rattle.properties_editing.proofs.IndexSpans.{AreLongerTo}
 use Rattle.properties_editing.proofs.index.lengthen_spans.Given as goal
 
 abbrev pub invariant-loop-i : goal.invariant-loop-i

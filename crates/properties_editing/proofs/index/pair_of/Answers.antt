@@ -1,6 +1,6 @@
 use Rattle.std.proofs.Common.{ap, sym, ◌∙◌, subst, inl, inr}
 use Rattle.properties_format.specs.Computed.Edited.{IsSound}
-use Rattle.properties_items.specs.FoundItems.{outcome_pair}
+use Rattle.properties_items.specs.BorrowedItems.{outcome_pair}
 use Rattle.properties_items.proofs.FoundItems.{found-item}
 use Rattle.properties_editing.proofs.Comments.{passed-no_pair}
 use Rattle.properties_editing.proofs.index.pair_of.Goals as goal

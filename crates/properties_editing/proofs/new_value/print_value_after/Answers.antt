@@ -3,7 +3,8 @@ use Rattle.std.specs.Str.{chars}
 use Rattle.std.proofs.lemmas.Result.{on_ok_weaker}
 use Rattle.properties_format.specs.Printing.{encoded_text}
 use Rattle.properties_editing.specs.Private.Sources.{printed_in}
-use Rattle.properties_editing.proofs.NewPairs.{none-left, value-unseparated, value-separated, text-some}
+use Rattle.properties_text.proofs.Printing.Values.{none-left}
+use Rattle.properties_editing.proofs.NewPairs.{value-unseparated, value-separated, text-some}
 use Rattle.properties_editing.proofs.new_value.print_value_after.Goals as goal
 
 pub returns-then-is_empty : goal.returns-then-is_empty

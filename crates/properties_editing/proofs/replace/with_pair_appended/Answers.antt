@@ -2,7 +2,7 @@ use Rattle.std.proofs.Common.{◌∙◌, ap, ◌++◌, []}
 use Rattle.std.proofs.lemmas.Result.{IfOk-weaker}
 use Rattle.std.proofs.lemmas.List.{take_rest}
 use Rattle.properties_format.specs.Text.{line_ending_text, is_empty}
-use Rattle.properties_format.specs.Computed.Parts.{safe_ending}
+use Rattle.properties_format.specs.Computed.Body.{safe_ending}
 use Rattle.properties_editing.specs.Private.BodyKeys.{closing_bytes}
 use Rattle.properties_editing.proofs.Editing.{appended}
 use Rattle.properties_editing.proofs.replace.with_pair_appended.Goals as goal

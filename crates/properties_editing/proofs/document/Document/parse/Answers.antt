@@ -1,6 +1,6 @@
 use Rattle.std.specs.Prelude.{[]}
 use Rattle.properties_format.specs.Edits.{AreEdited}
-use Rattle.properties_format.specs.Repertoire.{all_of}
+use Rattle.properties_format.specs.Encoding.{all_of}
 use Rattle.properties_text.specs.Encoding.{encoding_of}
 use Rattle.properties_editing.specs.declared.source.Comments.TheVariants.{Read}
 use Rattle.properties_editing.proofs.BodyDocuments.{opens-document}

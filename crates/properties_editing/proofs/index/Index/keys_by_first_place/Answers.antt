@@ -3,7 +3,7 @@ use Rattle.std.specs.Prelude.{map}
 use Rattle.std.specs.Map.Iter.{deref_pair}
 use Rattle.std.proofs.lemmas.List.{length-set}
 use Rattle.std.proofs.lemmas.Map.Iter.{rest_all}
-use Rattle.properties_editing.specs.Private.BodyIndex.Keys.{key_at}
+use Rattle.properties_editing.specs.Private.BodyIndex.{key_at}
 use Rattle.properties_editing.proofs.IndexKeys.{IsPlacing, placing-none, placing-next, placing-all, only-none}
 use Rattle.properties_editing.proofs.index.Index.keys_by_first_place.Goals as goal
 

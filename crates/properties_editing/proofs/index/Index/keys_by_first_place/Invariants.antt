@@ -1,6 +1,6 @@
 use Rattle.std.proofs.Common.{◌≡◌, length}
 use Rattle.std.specs.Prelude.{map}
-use Rattle.properties_editing.specs.Private.BodyIndex.Keys.{key_at}
+use Rattle.properties_editing.specs.Private.BodyIndex.{key_at}
 use Rattle.properties_editing.proofs.IndexKeys.{IsPlacing}
 use Rattle.properties_editing.proofs.index.Index.keys_by_first_place.Given as goal
 

@@ -4,7 +4,7 @@ use Rattle.std.specs.Option.{option_map}
 use Rattle.properties_text.specs.Encoding.{encoding_of}
 use Rattle.properties_lines.specs.LineSearch.{unit_size}
 use Rattle.properties_editing.specs.Private.BodyGroups.{IsWithin}
-use Rattle.properties_items.specs.FoundItems.{pair_characters}
+use Rattle.properties_items.specs.BorrowedItems.{pair_characters}
 use Rattle.properties_editing.specs.declared.index.Index.{Index}
 use Rattle.properties_editing.specs.declared.find.Closing.TheVariants.{Nothing}
 use Rattle.properties_editing.proofs.BodyKeys.{read-fault}

@@ -1,5 +1,5 @@
 use Rattle.std.proofs.Common.{◌∙◌, ap, sym}
-use Rattle.properties_format.specs.Groups.{is_comment_line}
+use Rattle.properties_format.specs.Lines.{is_comment_line}
 use Rattle.properties_text.proofs.Texts.Joins.{is_comment_line-text}
 use Rattle.properties_editing.proofs.source.Comments.are_passed_over.Goals as goal
 

@@ -6,11 +6,9 @@ use Rattle.properties_format.specs.Text.{cr, lf, line_ending_text, is_empty}
 use Rattle.properties_format.specs.Edited.{pair_bytes}
 use Rattle.properties_format.specs.Edits.{put}
 use Rattle.properties_format.specs.Computed.Lines.{ends_in_cr}
-use Rattle.properties_items.specs.LineEndings.{ending_of}
-use Rattle.properties_editing.specs.Private.IndexedSources.{open_source}
-use Rattle.properties_editing.specs.Private.Sources.{printed_in}
+use Rattle.properties_items.specs.Line.{ending_of}
+use Rattle.properties_editing.specs.Private.Sources.{open_source, printed_in, groups_of}
 use Rattle.properties_editing.specs.Private.BodyKeys.{IsPlace, closing_bytes}
-use Rattle.properties_editing.specs.Private.SourceChanges.{groups_of}
 use Rattle.properties_items.proofs.Scalars.{chars-scalars}
 use Rattle.properties_editing.proofs.IndexAdded.{key-added}
 use Rattle.properties_editing.proofs.IndexFound.{new-key}

@@ -4,12 +4,10 @@ use Rattle.std.specs.Str.{chars}
 use Rattle.std.proofs.lemmas.List.{take_rest}
 use Rattle.properties_format.specs.Text.{line_ending_text, is_empty}
 use Rattle.properties_format.specs.Edits.{set_value}
-use Rattle.properties_items.specs.LineEndings.{ending_of}
-use Rattle.properties_editing.specs.Private.Sources.{printed_in}
+use Rattle.properties_items.specs.Line.{ending_of}
+use Rattle.properties_editing.specs.Private.Sources.{printed_in, open_source, groups_of}
 use Rattle.properties_editing.specs.Private.BodyKeys.{IsPlace, closing_bytes}
 use Rattle.properties_editing.specs.Private.BodyValues.{IsLastPair, unended_pair}
-use Rattle.properties_editing.specs.Private.IndexedSources.{open_source}
-use Rattle.properties_editing.specs.Private.SourceChanges.{groups_of}
 use Rattle.properties_items.proofs.Scalars.{chars-scalars}
 use Rattle.properties_editing.proofs.IndexAdded.{pair-added}
 use Rattle.properties_editing.proofs.IndexFound.{found-last, new-key}

@@ -1,7 +1,7 @@
 use Rattle.std.proofs.Common.{ap, sym, ◌∙◌}
 use Rattle.std.specs.Prelude.{filter_map}
 use Rattle.std.proofs.lemmas.List.{take_all}
-use Rattle.properties_editing.specs.Private.BodyIndex.Keys.{key_at}
+use Rattle.properties_editing.specs.Private.BodyIndex.{key_at}
 use Rattle.properties_editing.proofs.IndexKeys.{found-more, found-none, tells-keys}
 use Rattle.properties_editing.proofs.index.changes.IndexedSource.keys.Goals as goal
 use Rattle.properties_editing.proofs.index.changes.IndexedSource.keys.Goals.{in-Some+in_ok-push, in_default}

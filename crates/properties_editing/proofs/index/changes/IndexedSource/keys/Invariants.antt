@@ -1,6 +1,6 @@
 use Rattle.std.proofs.Common.{◌≡◌}
 use Rattle.std.specs.Prelude.{filter_map, take}
-use Rattle.properties_editing.specs.Private.BodyIndex.Keys.{key_at}
+use Rattle.properties_editing.specs.Private.BodyIndex.{key_at}
 use Rattle.properties_editing.specs.Documents.{characters_of}
 use Rattle.properties_editing.proofs.index.changes.IndexedSource.keys.Given as goal
 

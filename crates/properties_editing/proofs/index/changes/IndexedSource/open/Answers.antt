@@ -1,7 +1,5 @@
 use Rattle.std.proofs.lemmas.List.{take_rest}
-use Rattle.properties_editing.specs.Private.Sources.{asked_for}
-use Rattle.properties_editing.specs.Private.IndexedSources.{IsIndexed, open_source}
-use Rattle.properties_editing.specs.Private.SourceChanges.{IsOpenedAs}
+use Rattle.properties_editing.specs.Private.Sources.{asked_for, IsIndexed, open_source, IsOpenedAs}
 use Rattle.properties_editing.specs.declared.index.changes.IndexedSource.TheInside.{Inside}
 use Rattle.properties_editing.proofs.Editing.{refusal}
 use Rattle.properties_editing.proofs.IndexedSources.{opens-source}

@@ -5,14 +5,12 @@ use Rattle.std.specs.declared.alloc.AllocError.{AllocError}
 use Rattle.std.specs.Str.{chars}
 use Rattle.properties_format.specs.Edits.{remove}
 use Rattle.properties_text.specs.Encoding.{encoding_of}
-use Rattle.properties_editing.specs.Private.IndexedSources.{open_source}
+use Rattle.properties_editing.specs.Private.Sources.{open_source, groups_of}
 use Rattle.properties_editing.proofs.IndexedSources.{ComesTo, edited-to, value-told}
 use Rattle.std.proofs.Math.ListN.{drop_of_length-le}
 use Rattle.std.proofs.lemmas.List.{drop_more, length-take-le}
 use Rattle.properties_editing.specs.Private.BodyIndex.{KeepsNothing, stored_at}
 use Rattle.properties_editing.specs.declared.index.Index.{Index}
-use Rattle.properties_editing.specs.Private.IndexedSources.{open_source}
-use Rattle.properties_editing.specs.Private.SourceChanges.{groups_of}
 use Rattle.properties_editing.proofs.IndexCut.{all-from}
 use Rattle.properties_editing.proofs.IndexRemoved.{cut-begin, cut-whole, removal-ends, removed-none}
 use Rattle.properties_editing.proofs.IndexSwept.{IsSweptTo, swept-ahead, swept-begin, swept-ends, swept-size, swept-step}

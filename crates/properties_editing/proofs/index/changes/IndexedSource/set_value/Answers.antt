@@ -4,7 +4,7 @@ use Rattle.std.specs.Str.{chars}
 use Rattle.std.specs.declared.alloc.AllocError.{AllocError}
 use Rattle.properties_format.specs.Edits.{set_value}
 use Rattle.properties_items.proofs.Scalars.{chars-scalars}
-use Rattle.properties_editing.specs.Private.IndexedSources.{open_source}
+use Rattle.properties_editing.specs.Private.Sources.{open_source}
 use Rattle.properties_editing.proofs.IndexEdits.{revalued-index, same-value}
 use Rattle.properties_editing.proofs.IndexedSources.{ComesTo, edited-to, editable-unit, found-at, nowhere}
 use Rattle.properties_editing.proofs.index.changes.IndexedSource.set_value.Goals as goal
