@@ -123,11 +123,13 @@ impl<'a> Options<'a> {
             .copied()
     }
 
-    fn has(&self, option: OptionName) -> bool {
+    /// Returns whether an option is given.
+    pub fn has(&self, option: OptionName) -> bool {
         self.find(option).is_some()
     }
 
-    fn value(&self, option: OptionName) -> Option<&'a str> {
+    /// Returns the value of an option, if it is given.
+    pub fn value(&self, option: OptionName) -> Option<&'a str> {
         self.find(option).map(|given| given.value)
     }
 
@@ -147,7 +149,7 @@ impl<'a> Options<'a> {
         if self.has(OptionName::Existing) && self.has(OptionName::Create) {
             return Err(Mistake::NothingExists(command));
         }
-        if self.in_place() == Some(STANDARD_INPUT) {
+        if self.value(OptionName::InPlace) == Some(STANDARD_INPUT) {
             return Err(Mistake::NoFileInPlace(command));
         }
         Ok(())
@@ -183,23 +185,13 @@ impl<'a> Options<'a> {
         }
     }
 
-    /// Returns the FILE of `-i`, if it is given.
-    pub fn in_place(&self) -> Option<&'a str> {
-        self.value(OptionName::InPlace)
-    }
-
-    /// Returns what is done if that FILE is missing. With `--create` it is made.
+    /// Returns what is done if the FILE of `-i` is missing. With `--create` it is made.
     pub fn missing(&self) -> Missing {
         if self.has(OptionName::Create) {
             Missing::Create
         } else {
             Missing::Refuse
         }
-    }
-
-    /// Returns the VALUE of `-d`, if it is given.
-    pub fn default(&self) -> Option<&'a str> {
-        self.value(OptionName::Default)
     }
 
     /// Returns what ends each text that is printed. With `-z` it is a zero byte.
@@ -211,11 +203,6 @@ impl<'a> Options<'a> {
         }
     }
 
-    /// Returns whether `-v` is given: keys are listed with their values.
-    pub fn lists_values(&self) -> bool {
-        self.has(OptionName::Values)
-    }
-
     /// Returns how a conversion spells characters. With `-r` it is readable.
     pub fn spelling(&self) -> Spelling {
         if self.has(OptionName::Readable) {
@@ -223,16 +210,6 @@ impl<'a> Options<'a> {
         } else {
             Spelling::Kept
         }
-    }
-
-    /// Returns whether `-a` is given: edits put in ASCII-only text.
-    pub fn ascii_only(&self) -> bool {
-        self.has(OptionName::Ascii)
-    }
-
-    /// Returns whether `-x` is given: a pair has to have each key that is set.
-    pub fn existing(&self) -> bool {
-        self.has(OptionName::Existing)
     }
 
     /// Returns the request for a command over the source that the options name.

@@ -3,7 +3,9 @@
 ghost use Rattle.std.specs.Prelude.{◌≡◌};
 ghost use Rattle.counted_io.specs.Streams.{IsSameSink};
 
-use crate::command_line::{CommandName, CommandRow, Help, Version, command_named, target_named};
+use crate::command_line::{
+    CommandName, CommandRow, Help, OptionName, Version, command_named, target_named,
+};
 use crate::edits::edits_in;
 use crate::mistake::{Mistake, NoRequest};
 use crate::options::{Options, is_option, options_in};
@@ -102,11 +104,36 @@ fn unknown<'a>(name: &'a str, rest: &'a [String]) -> Mistake<'a> {
     Mistake::UnknownCommand(name, next)
 }
 
+// Returns the words before a first `--`, and those after it.
+fn around_dashes(words: &[String]) -> (&[String], &[String]) {
+    match words.iter().position(|word| word.as_str() == "--") {
+        Some(at) => (
+            words.get(..at).unwrap_or(&[]),
+            words.get(at.saturating_add(1)..).unwrap_or(&[]),
+        ),
+        None => (words, &[]),
+    }
+}
+
 fn asks_for_help(words: &[String]) -> bool {
-    words
+    let (before, _) = around_dashes(words);
+    before
         .iter()
-        .take_while(|word| word.as_str() != "--")
         .any(|word| word.as_str() == "--help" || word.as_str() == "-h")
+}
+
+// Returns the first of the words that looks like an option.
+fn option_among(words: &[String]) -> Option<&str> {
+    let found = words.iter().find(|word| is_option(word.as_str()))?;
+    Some(found.as_str())
+}
+
+fn copies(alloc: Global, before: &[String], after: &[String]) -> Result<Vec<String>, AllocError> {
+    let mut texts = Vec::new(alloc);
+    for word in before.iter().chain(after) {
+        texts.push(word.clone()?)?;
+    }
+    Ok(texts)
 }
 
 fn get<'a>(
@@ -119,7 +146,7 @@ fn get<'a>(
     if keys.is_empty() {
         return Err(Mistake::NoKey(row.name));
     }
-    let default = match options.default() {
+    let default = match options.value(OptionName::Default) {
         Some(value) => Some(String::from_str(alloc, value)?),
         None => None,
     };
@@ -133,21 +160,9 @@ fn keys_in<'a>(
     row: &'static CommandRow,
     words: &'a [String],
 ) -> Result<Vec<String>, Mistake<'a>> {
-    let mut keys = Vec::new(alloc);
-    let mut in_doubt = None;
-    let mut dashes = false;
-    for word in words {
-        let word = word.as_str();
-        if word == "--" && !dashes {
-            dashes = true;
-            continue;
-        }
-        if is_option(word) && !dashes {
-            in_doubt = in_doubt.or(Some(word));
-        }
-        keys.push(String::from_str(alloc, word)?)?;
-    }
-    match in_doubt {
+    let (before, after) = around_dashes(words);
+    let keys = copies(alloc, before, after)?;
+    match option_among(before) {
         Some(word) if keys.len() > 1 => Err(Mistake::OptionAfter(word, row)),
         _ => Ok(keys),
     }
@@ -160,7 +175,7 @@ fn list<'a>(
     words: &'a [String],
 ) -> Result<Request, Mistake<'a>> {
     let prefix = String::from_str(alloc, only_word(row, words)?.unwrap_or(""))?;
-    let command = if options.lists_values() {
+    let command = if options.has(OptionName::Values) {
         Command::ListValues(prefix, options.end())
     } else {
         Command::List(prefix, options.end())
@@ -173,28 +188,18 @@ fn only_word<'a>(
     row: &'static CommandRow,
     words: &'a [String],
 ) -> Result<Option<&'a str>, Mistake<'a>> {
-    let mut found = None;
-    let mut dashes = false;
-    for word in words {
-        let word = word.as_str();
-        if word == "--" && !dashes {
-            dashes = true;
-            continue;
-        }
-        let Some(first) = found else {
-            found = Some(word);
-            continue;
-        };
-        if is_option(first) {
-            return Err(Mistake::OptionAfter(first, row));
-        }
-        return Err(if is_option(word) {
-            Mistake::OptionAfter(word, row)
-        } else {
-            Mistake::Surplus(word, row)
-        });
+    let (before, after) = around_dashes(words);
+    let mut given = before.iter().chain(after);
+    let Some(first) = given.next() else {
+        return Ok(None);
+    };
+    let first = first.as_str();
+    match given.next() {
+        None => Ok(Some(first)),
+        Some(_) if is_option(first) => Err(Mistake::OptionAfter(first, row)),
+        Some(word) if is_option(word.as_str()) => { Err(Mistake::OptionAfter(word.as_str(), row)) }
+        Some(word) => Err(Mistake::Surplus(word.as_str(), row)),
     }
-    Ok(found)
 }
 
 fn check<'a>(
@@ -203,18 +208,11 @@ fn check<'a>(
     options: &Options<'a>,
     words: &'a [String],
 ) -> Result<Request, Mistake<'a>> {
-    let mut paths = Vec::new(alloc);
-    let mut dashes = false;
-    for word in words {
-        let word = word.as_str();
-        if !dashes && word == "--" {
-            dashes = true;
-        } else if !dashes && is_option(word) {
-            return Err(Mistake::OptionAfter(word, row));
-        } else {
-            paths.push(String::from_str(alloc, word)?)?;
-        }
+    let (before, after) = around_dashes(words);
+    if let Some(word) = option_among(before) {
+        return Err(Mistake::OptionAfter(word, row));
     }
+    let paths = copies(alloc, before, after)?;
     if paths.is_empty() {
         return options.work(alloc, row, Command::Check);
     }
@@ -236,8 +234,8 @@ fn edit<'a>(
     }
     let edits = Edits {
         list,
-        ascii_only: options.ascii_only(),
-        existing: options.existing(),
+        ascii_only: options.has(OptionName::Ascii),
+        existing: options.has(OptionName::Existing),
     };
     change(alloc, row, options, Change::Edits(edits))
 }
@@ -278,7 +276,7 @@ fn change<'a>(
     options: &Options<'a>,
     change: Change,
 ) -> Result<Request, Mistake<'a>> {
-    let Some(path) = options.in_place() else {
+    let Some(path) = options.value(OptionName::InPlace) else {
         return options.work(alloc, row, Command::Change(change));
     };
     Ok(Request::EditFile(FileChange {

@@ -2,17 +2,15 @@
 use Rattle.std.proofs.Common.{◌++◌, true, List, [], ◌∷◌, refl, inl, inr, subst, append-nil}
 use Rattle.std.specs.Prelude.{Result, Ok, Err}
 use Rattle.counted_io.specs.Streams.{Reader, Sink}
-use Rattle.properties_format.specs.Encoding.{Encoding, output_encoding}
-use Rattle.properties_format.specs.Repertoire.{ascii_in}
-use Rattle.properties_format.specs.Entries.{Entry, pair}
+use Rattle.properties_format.specs.Encoding.{Encoding, output_encoding, ascii_in}
+use Rattle.properties_format.specs.Items.{Entry, pair}
 use Rattle.properties_format.specs.Settings.{Settings}
-use Rattle.properties_format.specs.Writing.{AreGoodSettings}
-use Rattle.properties_format.specs.Pairs.{Pair, pairs_in, calls_of, AreAccepted}
+use Rattle.properties_format.specs.Writing.{AreGoodSettings, Pair, pairs_in, calls_of, AreAccepted}
 use Rattle.properties_format.specs.AsciiOnly.{AllKeepAsciiOnly, AreAsciiBytes, AreItemsInBoth}
 use Rattle.properties_format.proofs.AsciiOnly.{wrote-on, wrote-on_line, wrote-on_both}
 use Rattle.properties_format.proofs.ReadBack.Law.{default_settings-good}
 use Rattle.properties_format.proofs.ReadBack.Lists.{read_back-pairs, calls_of-clean, calls_of-scalars}
-use Rattle.java_properties.specs.AsciiOnly.{TakesAscii}
+use Rattle.java_properties.specs.ReadBack.{TakesAscii}
 use Rattle.properties_items.specs.declared.error.PropertiesError.{PropertiesError}
 use Rattle.properties_tools.specs.Filter.{settings_with, pair_calls, pair_lines, Filters, FiltersToAscii}
 use Rattle.properties_tools.proofs.Pairs.{pair-accepted}

@@ -1,7 +1,7 @@
 -- What arguments ask `propfilter` for, word by word.
 use Rattle.std.proofs.Common.{◌≡◌, ℕ, true, false, List, [], ◌∷◌}
 use Rattle.std.specs.Prelude.{Option, Some, None}
-use Rattle.properties_format.specs.Repertoire.{Repertoire}
+use Rattle.properties_format.specs.Encoding.{Repertoire}
 use Rattle.properties_tools.specs.Propfilter.{ascii_word, IsAsked, IsNamedWith}
 
 -- the name of an encoding alone

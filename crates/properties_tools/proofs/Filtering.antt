@@ -2,18 +2,16 @@
 use Rattle.std.proofs.Common.{◌≡◌, ◌++◌, ℕ, false, List, [], ◌∷◌, sym, ◌∙◌, inl, inr, subst, append-nil}
 use Rattle.std.specs.Prelude.{Bool, Result, Ok, Err}
 use Rattle.counted_io.specs.Streams.{Reader, Sink}
-use Rattle.properties_format.specs.Encoding.{Encoding}
-use Rattle.properties_format.specs.Repertoire.{Repertoire}
+use Rattle.properties_format.specs.Encoding.{Encoding, Repertoire}
 use Rattle.properties_format.specs.ItemsToCome.{ReaderState, start}
-use Rattle.properties_format.specs.Entries.{Content, comment, pair, Entry, item, malformed, read_fault, AreItems}
-use Rattle.properties_format.specs.Items.{IsItems}
+use Rattle.properties_format.specs.Items.{Content, comment, pair, Entry, item, malformed, read_fault, AreItems, IsItems}
 use Rattle.properties_format.specs.Lines.{end}
-use Rattle.properties_format.specs.Pairs.{pairs_in, ArePairsOfScalars}
+use Rattle.properties_format.specs.Writing.{pairs_in, ArePairsOfScalars}
 use Rattle.properties_format.specs.Computed.ItemsToCome.{items_to_come}
 use Rattle.properties_format.proofs.Items.Unique.{items_of-meets}
 use Rattle.java_properties.specs.PropertiesIter.{Iteration, GivesEntry, GivesNone, GivesError}
 use Rattle.java_properties.specs.PropertiesWriter.{Writing, WritesLine, Flushes}
-use Rattle.java_properties.specs.ReadLines.{BeginsItems}
+use Rattle.java_properties.specs.ReadLines.{BeginsWith}
 use Rattle.properties_items.specs.declared.error.PropertiesError.{PropertiesError}
 use Rattle.java_properties.proofs.Readings.{Comes, Collected, collected-start, collected-next, collected-none, collected-error}
 use Rattle.java_properties.proofs.SoughtValues.{items-added}
@@ -57,7 +55,7 @@ passed-none reader sink r it w fresh new = record {
 
 -- what came so far is a beginning of the items
 begins : {e : Encoding} {bytes : List ℕ} {items : List Entry} {at_end : Bool} {s : ReaderState} → Comes e bytes items at_end s
-    → BeginsItems e bytes items at_end
+    → BeginsWith (IsItems e) bytes items at_end
 begins {e} {bytes} {items} {s = s} (Comes.going_on g m) =
     inl (λ d ending. (items_to_come s d ending, subst (IsItems e (bytes ++ d) ending) (m d ending) (items_of-meets e (bytes ++ d) ending)))
 begins {e} {bytes} {items} (Comes.at_last d k m) =

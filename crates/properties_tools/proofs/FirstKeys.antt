@@ -13,7 +13,7 @@ use Rattle.std.proofs.lemmas.List.{drop-append-le, take-append-le, length-drop, 
 use Rattle.std.proofs.lemmas.Grind.{get_or-set_at}
 use Rattle.std.proofs.lemmas.Slice.Eq.{bytes_eq-Decides}
 use Rattle.std.proofs.lemmas.Str.{encodes-chars, chars_from_encodes}
-use Rattle.properties_tools.specs.Private.LastPairs.{place_at}
+use Rattle.java_properties.specs.Private.LineByLine.{number_at}
 use Rattle.properties_tools.specs.Private.FirstKeys.{also_held, bytes_at, hash_from, in_slot, none_held, slot_for, AddsKey, IsFound, IsIndexed, KeepsKey, KeptPlace, TellsFirst}
 use Rattle.properties_tools.specs.Propedit.Texts.{end_byte, ended}
 use Rattle.properties_tools.specs.declared.propedit.request.TextEnd.{TextEnd}
@@ -72,7 +72,7 @@ module _ (s : FirstKeys) (held : List ℕ → Option ℕ) (indexed : IsIndexed h
   spelt = encodes-chars bytes is
 
   found : (n : ℕ) → held (chars bytes) ≡ Some n
-      → (p : Place) × (in_slot s bytes ≡ Some p) × ((bytes_at s.text.items p ≡ bytes) ⊎ ((m : ℕ) × (place_at s.others.entries (chars bytes) ≡ Some m)))
+      → (p : Place) × (in_slot s bytes ≡ Some p) × ((bytes_at s.text.items p ≡ bytes) ⊎ ((m : ℕ) × (number_at s.others.entries (chars bytes) ≡ Some m)))
   found n h =
       let f = indexed.every (chars bytes) n h in
       (f.0, ap (in_slot s) (sym spelt) ∙ f.1, elim f.2 [ inl at ↦ inl (at ∙ spelt) | inr other ↦ inr other ])
@@ -88,7 +88,7 @@ module _ (s : FirstKeys) (held : List ℕ → Option ℕ) (indexed : IsIndexed h
       subst (λ v. held v ≡ Some p.line_number) (chars_from_encodes k.0 bytes is (sym k.2 ∙ at)) k.1
 
   -- Another is in its slot, and it is not among the others.
-  pub nowhere : (p : Place) → in_slot s bytes ≡ Some p → (bytes_at s.text.items p ≡ bytes → ⊥) → place_at s.others.entries (chars bytes) ≡ None
+  pub nowhere : (p : Place) → in_slot s bytes ≡ Some p → (bytes_at s.text.items p ≡ bytes → ⊥) → number_at s.others.entries (chars bytes) ≡ None
       → held (chars bytes) ≡ None
   nowhere p some other none = no-number (held (chars bytes)) (λ n h.
       let f = found n h in
@@ -115,14 +115,14 @@ module _ (held : List ℕ → Option ℕ) (s t : FirstKeys) (indexed : IsIndexed
         let at = subst (λ v. get_or v i None ≡ Some p) slots h in
         let k = indexed.sound i p at in
         (k.0, k.1, ap (λ v. bytes_at v p) text ∙ kept-at s.text.items more p (indexed.within i p at) ∙ k.2);
-    among = λ key n h. indexed.among key n (subst (λ v. place_at v.entries key ≡ Some n) others h);
+    among = λ key n h. indexed.among key n (subst (λ v. number_at v.entries key ≡ Some n) others h);
     every = λ key n h.
         let f = indexed.every key n h in (
           f.0,
           subst (λ v. get_or v (slot_for (length v) (encode_utf8_all key)) None ≡ Some f.0) (sym slots) f.1,
           elim f.2 [
             | inl at ↦ inl (ap (λ v. bytes_at v f.0) text ∙ kept-at s.text.items more f.0 (indexed.within _ f.0 f.1) ∙ at)
-            | inr m ↦ inr (m.0, subst (λ v. place_at v.entries key ≡ Some m.0) (sym others) m.1)
+            | inr m ↦ inr (m.0, subst (λ v. number_at v.entries key ≡ Some m.0) (sym others) m.1)
           ],
         );
   }
@@ -159,7 +159,7 @@ module _ (held : List ℕ → Option ℕ) (s t : FirstKeys) (indexed : IsIndexed
             )
         | inr other ↦ let k = indexed.sound i q (elsewhere i q other h) in (k.0, kept-number k.0 q.line_number k.1, ap (λ v. bytes_at v.items q) text ∙ k.2)
       ];
-      among = λ key n h. kept-number key n (indexed.among key n (subst (λ v. place_at v.entries key ≡ Some n) others h));
+      among = λ key n h. kept-number key n (indexed.among key n (subst (λ v. number_at v.entries key ≡ Some n) others h));
       every = λ key n h. elim (also-split held (chars bytes) p.line_number key n h) [ inl old ↦ kept key n old | inr same ↦ subst (IsFound t) same filled ];
     }
       where
@@ -193,7 +193,7 @@ module _ (held : List ℕ → Option ℕ) (s t : FirstKeys) (indexed : IsIndexed
               ap (λ v. get_or t.slots.items (slot_for v (encode_utf8_all key)) None) same-length ∙ still,
               elim f.2 [
                 | inl a ↦ inl (ap (λ v. bytes_at v.items f.0) text ∙ a)
-                | inr m ↦ inr (m.0, subst (λ v. place_at v.entries key ≡ Some m.0) (sym others) m.1)
+                | inr m ↦ inr (m.0, subst (λ v. number_at v.entries key ≡ Some m.0) (sym others) m.1)
               ],
             )
 
@@ -210,7 +210,7 @@ module _ (held : List ℕ → Option ℕ) (s t : FirstKeys) (indexed : IsIndexed
 
     -- a key among the others
     pub other-added : (q : Place) → in_slot s bytes ≡ Some q → t.slots.items ≡ s.slots.items → t.text ≡ s.text → IsOrdered string_cmp t.others
-        → ((k : List ℕ) → place_at t.others.entries k ≡ update bytes_eq (place_at s.others.entries) (chars bytes) (Some p.line_number) k)
+        → ((k : List ℕ) → number_at t.others.entries k ≡ update bytes_eq (number_at s.others.entries) (chars bytes) (Some p.line_number) k)
         → IsIndexed (also_held held (chars bytes) p.line_number) t
     unfolding also
     other-added q some slots text ordered updates = record {
@@ -262,7 +262,7 @@ indexed-none s n some slots none ordered = record {
   ordered = ordered;
   within = λ i p h. absurd (empty i p h);
   sound = λ i p h. absurd (empty i p h);
-  among = λ key m h. let e = ap (λ v. place_at v key) none in absurd (cc);
+  among = λ key m h. let e = ap (λ v. number_at v key) none in absurd (cc);
   every = λ key m h. absurd (cc);
 }
   where
@@ -297,7 +297,7 @@ tells-at s bytes p is some same = λ held indexed. in-slot s held indexed bytes 
 
 pub tells-other : (s : FirstKeys) (bytes : List ℕ) (p : Place) (o : Option ℕ) → IsUtf8 bytes → in_slot s bytes ≡ Some p
     → bytes_eq (bytes_at s.text.items p) bytes ≡ false
-    → place_at s.others.entries (chars bytes) ≡ o → TellsFirst (chars bytes) s o
+    → number_at s.others.entries (chars bytes) ≡ o → TellsFirst (chars bytes) s o
 tells-other s bytes p (Some n) is some differs there = λ held indexed. indexed.among (chars bytes) n there
 tells-other s bytes p None is some differs there = λ held indexed.
     nowhere s held indexed bytes is p some (λ e. let t = (bytes_eq-Decides (bytes_at s.text.items p) bytes).1 e in absurd (cc)) there

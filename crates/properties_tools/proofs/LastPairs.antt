@@ -1,6 +1,5 @@
 -- Pairs that are collected, each key once and with its last value.
-use Rattle.std.proofs.Common.{◌≡◌, ◌≢◌, ℕ, zero, suc, ◌+◌, ◌^◌, ◌<◌, true, false, List, [], ◌∷◌, ◌++◌, length, refl, ap, sym, ◌∙◌, inl, inr, subst, arith}
-use Rattle.std.proofs.Common.{append_assoc, append-nil, if◌then◌else◌}
+use Rattle.std.proofs.Common.{◌≡◌, ◌≢◌, ℕ, zero, suc, ◌+◌, ◌^◌, ◌<◌, true, false, List, [], ◌∷◌, ◌++◌, length, refl, ap, sym, ◌∙◌, inl, inr, subst, arith, append_assoc, append-nil, if◌then◌else◌}
 use Rattle.std.specs.Prelude.{◌⊎◌, All, AllPairs, Option, Some, None, Result, Ok, Err, bytes_eq, cond}
 use Rattle.std.specs.BTreeMap.{BTreeMap, UpdatesBy, get_by_text}
 use Rattle.std.specs.Borrow.{Bor}
@@ -20,21 +19,19 @@ use Rattle.std.proofs.lemmas.List.Kept.{AllPairs-cons}
 use Rattle.std.proofs.lemmas.Slice.Eq.{bytes_eq-Decides}
 use Rattle.std.proofs.lemmas.Str.{IsUtf8-string_bytes}
 use Rattle.properties_format.specs.Encoding.{Encoding}
-use Rattle.properties_format.specs.Lines.{Line}
-use Rattle.properties_format.specs.Groups.{is_comment_line, joined, first_number}
-use Rattle.properties_format.specs.Entries.{comment, pair, Entry, item}
+use Rattle.properties_format.specs.Lines.{Line, is_comment_line, joined, first_number}
+use Rattle.properties_format.specs.Items.{comment, pair, Entry, item, Outcome, ignored, given, broken}
 use Rattle.properties_format.specs.Escapes.{Meaning, means, breaks}
-use Rattle.properties_format.specs.Items.{Outcome, ignored, given, broken}
 use Rattle.properties_format.specs.Split.{Logical, IsSplit}
 use Rattle.properties_format.specs.Maps.{IsMap, IsValue}
-use Rattle.properties_format.specs.MalformedEscapes.{escapes_from}
-use Rattle.properties_format.specs.EditedPairs.{AreInComments, EscapesAre, pair_from}
-use Rattle.properties_format.specs.Pairs.{Pair}
+use Rattle.properties_format.specs.Found.{escapes_from}
+use Rattle.properties_format.specs.Edits.{AreInComments, EscapesAre, pair_from}
+use Rattle.properties_format.specs.Writing.{Pair}
 use Rattle.properties_format.specs.ItemsToCome.{ReaderState, start}
 use Rattle.properties_format.specs.Computed.Escapes.{meaning_of}
 use Rattle.properties_format.specs.Computed.Items.{comment_outcome, outcome_of, split_outcome}
-use Rattle.properties_format.specs.Computed.Keys.{Has, HasNot, ComesBefore, AreFirstOf}
-use Rattle.properties_format.specs.Computed.MalformedEscapes.{escapes_in}
+use Rattle.properties_format.specs.Computed.Maps.{Has, HasNot, ComesBefore, AreFirstOf}
+use Rattle.properties_format.specs.Computed.Found.{escapes_in}
 use Rattle.properties_format.specs.Computed.Split.{split_of}
 use Rattle.properties_format.proofs.Edits.PairValues.{pairs_in, pairs_in-push}
 use Rattle.properties_format.proofs.Found.{found-in_groups}
@@ -48,18 +45,18 @@ use Rattle.properties_lines.specs.LineJoiner.{LineState, JoinsNext, JoinsError}
 use Rattle.properties_lines.specs.declared.error.LineError.{LineError}
 use Rattle.properties_items.proofs.TextMaps.Values.{at_chars-sorted, at_chars-updated}
 use Rattle.properties_items.specs.Errors.{IsBareError, IsLineError}
-use Rattle.properties_items.specs.FoundItems.{outcome_pair, IsNoItem}
+use Rattle.properties_items.specs.BorrowedItems.{outcome_pair, IsNoItem}
 use Rattle.properties_items.specs.Texts.{characters}
 use Rattle.properties_items.specs.declared.error.ErrorKind.TheVariants as kind
 use Rattle.properties_items.specs.declared.error.PropertiesError.{PropertiesError}
 use Rattle.counted_io.specs.Streams.{Reader, HasRead, has_ended}
-use Rattle.java_properties.specs.MalformedEscapes.{FailsToFind, StopsFinding}
+use Rattle.java_properties.specs.Findings.{FailsToFind, StopsFinding}
 use Rattle.java_properties.specs.Private.LineByLine.{Collected}
 use Rattle.java_properties.proofs.MalformedEscapes.{collected-start, collected-next, collected-lines, collected-lost}
 use Rattle.java_properties.proofs.SliceReads.{collected-slice, slice_reader, slice-whole}
 use Rattle.java_properties.proofs.SoughtPairs.{HasSoughtPairs, StopsAtPair, comments-push, pairs-refused, pairs-error, slice-tells_pairs}
-use Rattle.properties_tools.specs.Propedit.Pairs.{keys_of, AreLastPairs}
-use Rattle.properties_tools.specs.Private.LastPairs.{pair_of, pairs_of, place_of, with_line, with_pair, FindsLastPairs, HasPlaces, PutsLine}
+use Rattle.properties_tools.specs.Propedit.Listing.{keys_of, AreLastPairs}
+use Rattle.properties_tools.specs.Private.Collected.{pair_of, pairs_of, place_of, with_line, with_pair, FindsLastPairs, HasPlaces, PutsLine}
 use Rattle.properties_tools.proofs.LookedUp.{lost}
 
 -- ---- keys in a list

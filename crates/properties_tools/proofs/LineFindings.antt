@@ -12,31 +12,28 @@ use Rattle.std.proofs.lemmas.List.Concat.{flat_map-append}
 use Rattle.std.proofs.lemmas.Slice.Eq.{bytes_eq-Decides}
 use Rattle.counted_io.specs.Streams.{Reader, HasRead, has_ended}
 use Rattle.properties_format.specs.Encoding.{Encoding}
-use Rattle.properties_format.specs.Entries.{Content}
-use Rattle.properties_format.specs.Items.{given}
-use Rattle.properties_format.specs.Lines.{Line}
-use Rattle.properties_format.specs.Groups.{first_number, is_comment_line, joined}
+use Rattle.properties_format.specs.Items.{Content, given}
+use Rattle.properties_format.specs.Lines.{Line, first_number, is_comment_line, joined}
 use Rattle.properties_format.specs.ItemsToCome.{ReaderState, start}
-use Rattle.properties_format.specs.MalformedEscapes.{escapes_from}
+use Rattle.properties_format.specs.Found.{escapes_from}
 use Rattle.properties_format.specs.Computed.Items.{outcome_of}
-use Rattle.properties_format.specs.Computed.MalformedEscapes.{escapes_in}
-use Rattle.properties_format.specs.Computed.Parts.{outcome_key}
+use Rattle.properties_format.specs.Computed.Found.{escapes_in}
+use Rattle.properties_format.specs.Computed.Body.{outcome_key}
 use Rattle.properties_format.proofs.Found.{found-in_groups}
 use Rattle.properties_lines.specs.LineJoiner.{LineState, JoinsNext, JoinsError}
 use Rattle.properties_lines.specs.declared.error.LineError.{LineError}
 use Rattle.properties_items.specs.Errors.{kind_of, IsBareError, IsLineError}
-use Rattle.properties_items.specs.FoundItems.{IsNoItem}
+use Rattle.properties_items.specs.BorrowedItems.{IsNoItem}
 use Rattle.properties_items.specs.declared.error.ErrorKind.TheVariants as kind
 use Rattle.properties_items.specs.declared.error.PropertiesError.{PropertiesError}
-use Rattle.java_properties.specs.KeyLines.{KeyEntry, KeyPlace}
-use Rattle.java_properties.specs.MalformedEscapes.{escape_records, FailsToFind, StopsFinding}
+use Rattle.java_properties.specs.Findings.{KeyEntry, KeyPlace, escape_records, FailsToFind, StopsFinding}
 use Rattle.java_properties.specs.Private.LineByLine.{Collected}
 use Rattle.java_properties.proofs.KeyLines.{entries-added, first-added, first_place, groups-key_lines, key_before, key_entries, keys_in, keys_in-push}
 use Rattle.java_properties.proofs.MalformedEscapes.{collected-lines, collected-next, collected-start, collected-error, collected-lost, found-push}
 use Rattle.java_properties.proofs.SliceReads.{collected-slice, slice_reader, slice-whole}
 use Rattle.java_properties.proofs.SourceFindings.{slice-error}
 use Rattle.properties_tools.specs.Private.FirstKeys.{also_held, none_held, IsIndexed}
-use Rattle.properties_tools.specs.Private.LineFindings.{AddsKey, AddsLine, FindsInLines, HasFindings}
+use Rattle.properties_tools.specs.Private.Collected.{AddsKey, AddsLine, FindsInLines, HasFindings}
 use Rattle.properties_tools.specs.Propedit.Check.{escape_finding, repeat_findings}
 use Rattle.properties_tools.specs.declared.propedit.check.Finding.{Finding}
 use Rattle.properties_tools.specs.declared.propedit.line_findings.LineFindings.{LineFindings}

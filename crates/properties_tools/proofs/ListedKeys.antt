@@ -10,17 +10,15 @@ use Rattle.std.specs.Global.{Vec}
 use Rattle.std.proofs.lemmas.List.Elements.{filter_map-append}
 use Rattle.counted_io.specs.Streams.{Reader, HasRead, has_ended}
 use Rattle.properties_format.specs.Encoding.{Encoding}
-use Rattle.properties_format.specs.Lines.{Line}
-use Rattle.properties_format.specs.Groups.{is_comment_line, joined, first_number}
-use Rattle.properties_format.specs.Entries.{comment, pair, Entry, item, malformed, read_fault}
-use Rattle.properties_format.specs.Items.{Outcome, ignored, given, broken}
+use Rattle.properties_format.specs.Lines.{Line, is_comment_line, joined, first_number}
+use Rattle.properties_format.specs.Items.{comment, pair, Entry, item, malformed, read_fault, Outcome, ignored, given, broken}
 use Rattle.properties_format.specs.Maps.{HasNoPair, PairComesBefore, AreKeys}
 use Rattle.properties_format.specs.ItemsToCome.{ReaderState, start}
-use Rattle.properties_format.specs.EditedPairs.{AreInComments, pair_from}
+use Rattle.properties_format.specs.Edits.{AreInComments, pair_from}
 use Rattle.properties_format.specs.Computed.Items.{outcome_of}
-use Rattle.properties_format.specs.Computed.MalformedEscapes.{escapes_in}
-use Rattle.properties_format.specs.Computed.Maps.{value_in}
-use Rattle.properties_format.specs.Computed.Parts.{outcome_key}
+use Rattle.properties_format.specs.Computed.Found.{escapes_in}
+use Rattle.properties_format.specs.Computed.Maps.{Has, HasNot, AreFirstOf}
+use Rattle.properties_format.specs.Computed.Body.{outcome_key}
 use Rattle.properties_format.proofs.Edits.PairValues.{pairs_in, pairs_in-push, pairs_of-only}
 use Rattle.properties_format.proofs.Found.{found-in_groups}
 use Rattle.properties_format.proofs.Keys.{contained, contains, pair_key, pair_keys, are-keys}
@@ -28,24 +26,24 @@ use Rattle.properties_format.proofs.MalformedEscapes.{escapes-are}
 use Rattle.properties_lines.specs.LineJoiner.{LineState, JoinsNext, JoinsError}
 use Rattle.properties_lines.specs.declared.error.LineError.{LineError}
 use Rattle.properties_items.specs.Errors.{IsBareError, IsLineError}
-use Rattle.properties_items.specs.FoundItems.{outcome_pair, IsNoItem}
+use Rattle.properties_items.specs.BorrowedItems.{outcome_pair, IsNoItem}
 use Rattle.properties_items.specs.declared.error.ErrorKind.TheVariants as kind
 use Rattle.properties_items.specs.declared.error.PropertiesError.{PropertiesError}
-use Rattle.java_properties.specs.MalformedEscapes.{FailsToFind, StopsFinding}
+use Rattle.java_properties.specs.Findings.{FailsToFind, StopsFinding}
 use Rattle.java_properties.specs.Private.LineByLine.{Collected}
 use Rattle.java_properties.proofs.MalformedEscapes.{collected-start, collected-next, collected-lines, collected-lost}
 use Rattle.java_properties.proofs.SliceReads.{collected-slice, slice_reader, slice-whole}
 use Rattle.java_properties.proofs.SoughtPairs.{HasSoughtPairs, StopsAtPair, comments-push, pairs-refused, pairs-error, slice-tells_pairs}
 use Rattle.properties_tools.proofs.LookedUp.{lost}
-use Rattle.properties_format.specs.Computed.Keys.{Has, HasNot, AreFirstOf}
 use Rattle.properties_tools.specs.Propedit.Listing.{is_key_listed, list_status, listed_keys, AreKeysOf}
 use Rattle.properties_tools.specs.Propedit.Texts.{end_byte, ended, ended_all}
 use Rattle.properties_tools.proofs.LastPairs.{first-same, first-new, has_not, has-left, has-last, has-split}
 use Rattle.properties_tools.specs.declared.propedit.request.TextEnd.{TextEnd}
 use Rattle.properties_tools.specs.Private.FirstKeys.{also_held, none_held, AddsKey, IsIndexed}
-use Rattle.properties_tools.specs.Private.ListedKeys.{FindsListed, HasListedText, ListsKey, ListsLine}
+use Rattle.properties_tools.specs.Private.Collected.{FindsListed, HasListedText, ListsKey, ListsLine}
 use Rattle.properties_tools.specs.declared.propedit.first_keys.FirstKeys.{FirstKeys}
 use Rattle.properties_tools.proofs.FirstKeys.{also-none, also-split}
+use Rattle.properties_format.proofs.Maps.{value_in}
 
 -- ---- a logical line that has no key
 

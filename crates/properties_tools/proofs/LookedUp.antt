@@ -5,20 +5,19 @@ use Rattle.std.specs.declared.string.String.{String}
 use native.Mathlib.Numerals.{unary_clauses}
 use Rattle.properties_format.specs.Encoding.{Encoding}
 use Rattle.properties_format.specs.Edits as format
-use Rattle.properties_format.specs.Edits.{put, remove, set_value}
+use Rattle.properties_format.specs.Edits.{put, remove, set_value, AreInComments, HasPairValue, IsFirstInPair}
 use Rattle.properties_format.specs.Escapes.{Malformed}
-use Rattle.properties_format.specs.MalformedEscapes.{MalformedEscape}
-use Rattle.properties_format.specs.EditedPairs.{AreInComments, HasPairValue, IsFirstInPair}
+use Rattle.properties_format.specs.Found.{MalformedEscape}
 use Rattle.properties_format.proofs.MalformedEscapes.{malformed_escapes_of-only}
 use Rattle.java_properties.specs.Errors.{IsBareError}
 use Rattle.java_properties.specs.Maps.{characters}
-use Rattle.java_properties.specs.Values.{IsFirstPairError}
+use Rattle.java_properties.specs.Findings.{IsFirstPairError}
 use Rattle.properties_items.specs.declared.error.ErrorKind.TheVariants as kind
 use Rattle.properties_items.specs.declared.error.PropertiesError.{PropertiesError}
 use Rattle.properties_tools.specs.Propedit.Change.{keys_set, HasKeys, IsFirstAbsent}
 use Rattle.properties_tools.specs.Propedit.Get.{HaveValues}
 use Rattle.properties_tools.specs.Propedit.Sources.{HasSoundBytes, IsSound}
-use Rattle.properties_tools.specs.Private.LookedUp.{first_without, key_set}
+use Rattle.properties_tools.specs.Private.Collected.{first_without, key_set}
 
 -- ---- a sound source
 

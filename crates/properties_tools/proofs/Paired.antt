@@ -4,9 +4,9 @@ use Rattle.std.specs.Prelude.{◌⊎◌, ◌&&◌, not, if◌then◌else◌}
 use Rattle.std.proofs.Math.Bool.{beq}
 use Rattle.std.proofs.lemmas.List.{take_all}
 use Rattle.std.proofs.lemmas.Bool.{cases_Bool}
-use Rattle.properties_format.specs.Surrogates.{is_high, is_low}
+use Rattle.properties_format.specs.Utf16.{is_high, is_low}
 use Rattle.properties_format.proofs.Encodings.Utf16.{low-not_high}
-use Rattle.properties_tools.specs.Propedit.Utf16.{AreCharacters, IsPlainUnit, IsSurrogatePair, IsWellFormedUnits}
+use Rattle.properties_tools.specs.Propedit.Lines.{AreCharacters, IsPlainUnit, IsSurrogatePair, IsWellFormedUnits}
 use Rattle.properties_tools.specs.Private.Flawed.{are_paired}
 
 -- a high surrogate isn't a low one

@@ -1,13 +1,11 @@
 -- Pairs that are written one after another.
-use Rattle.std.proofs.Common.{◌≡◌, ◌⊎◌, ◌+◌, ◌^◌, ◌++◌, ℕ, Bool, true, false, List, [], ◌∷◌, length}
-use Rattle.std.proofs.Common.{refl, ap, sym, ◌∙◌, inl, inr, append-nil, add-zero, zero-add, arith}
+use Rattle.std.proofs.Common.{◌≡◌, ◌⊎◌, ◌+◌, ◌^◌, ◌++◌, ℕ, Bool, true, false, List, [], ◌∷◌, length, refl, ap, sym, ◌∙◌, inl, inr, append-nil, add-zero, zero-add, arith}
 use Rattle.std.specs.Prelude.{Result, Ok, Err}
 use Rattle.counted_io.specs.Streams.{Sink, HasWritten}
 use Rattle.counted_io.proofs.Streams.{faulted-more, written-flushed}
-use Rattle.properties_format.specs.Repertoire.{Repertoire}
-use Rattle.properties_format.specs.Entries.{comment, pair, Entry, item, malformed, read_fault}
-use Rattle.properties_format.specs.Pairs.{Pair, pairs_in, calls_of}
-use Rattle.properties_format.specs.Writing.{pair_call, is_accepted, settings_after, line_count_after}
+use Rattle.properties_format.specs.Encoding.{Repertoire}
+use Rattle.properties_format.specs.Items.{comment, pair, Entry, item, malformed, read_fault}
+use Rattle.properties_format.specs.Writing.{Pair, pairs_in, calls_of, pair_call, is_accepted, settings_after, line_count_after}
 use Rattle.java_properties.specs.Calls.{HasMade}
 use Rattle.java_properties.specs.Errors.{kind_of, IsBareError}
 use Rattle.java_properties.specs.PropertiesWriter.{Writing, next_line, HasWrittenLine, RefusesLine, FailsInLine, IsRefusedBy, Flushes, HasFlushedSink, FailsInFlush}
@@ -15,7 +13,8 @@ use Rattle.properties_items.specs.declared.error.ErrorKind.{ErrorKind}
 use Rattle.properties_items.specs.declared.error.ErrorKind.TheVariants as kind
 use Rattle.properties_items.specs.declared.error.PropertiesError.{PropertiesError}
 use Rattle.java_properties.proofs.Calls.Made.{made-none, pair-made, made-more}
-use Rattle.properties_tools.specs.Filter.{settings_with, pair_writer, pair_calls, pair_count, pair_lines, next_pair_line, TakesAndFlushes, FailsInPair, FailsAfterPairs, RefusesPair}
+use Rattle.java_properties.specs.WholeSources as source
+use Rattle.properties_tools.specs.Filter.{settings_with, pair_writer, pair_calls, pair_count, pair_lines, next_pair_line, TakesAndFlushes, FailsInPair, RefusesPair}
 
 -- the pairs of two lists of entries
 pub pair_calls-append : (xs ys : List Entry) → pair_calls (xs ++ ys) ≡ pair_calls xs ++ pair_calls ys
@@ -114,8 +113,8 @@ module _ {W : Type 0} {sink : Sink W} {r : Repertoire} {output : W} {items : Lis
   pairs-flushed k = (written-flushed pairs-written k.flushed, k.flushed.flushed)
 
   pub pairs-flush-failed : {new : Writing W} {error : PropertiesError} → FailsInFlush sink w error new
-      → FailsAfterPairs sink r output items error new.sink
-  pairs-flush-failed k = record { middle = w.sink; written = pairs-written; source = k.cause; flushed = k.flushed; is = k.is }
+      → source.FailsInFlush sink output (pair_lines r items) error new.sink
+  pairs-flush-failed k = record { middle = w.sink; written = pairs-written; cause = k.cause; flushed = k.flushed; is = k.is }
 
   -- a flush whose result is dropped
   pub pairs-flush : (new : Writing W) (result : Result Unit PropertiesError) → Flushes sink w result new

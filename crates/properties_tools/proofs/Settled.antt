@@ -3,14 +3,12 @@ use Rattle.std.proofs.Common.{◌≡◌, ◌++◌, ℕ, List, [], refl, ◌∙�
 use Rattle.std.specs.Prelude.{◌⊎◌, Result, Ok, Err}
 use Rattle.counted_io.specs.Streams.{Reader, Sink, HasWritten, HasFaulted, IsProperPrefix}
 use Rattle.counted_io.proofs.Streams.{written-failed_flush}
-use Rattle.properties_format.specs.Encoding.{Encoding, output_encoding}
-use Rattle.properties_format.specs.Repertoire.{Repertoire, all_of}
-use Rattle.properties_format.specs.Entries.{Entry}
+use Rattle.properties_format.specs.Encoding.{Encoding, output_encoding, Repertoire, all_of}
+use Rattle.properties_format.specs.Items.{Entry, IsItems}
 use Rattle.properties_format.specs.Lines.{end}
-use Rattle.properties_format.specs.Items.{IsItems}
 use Rattle.properties_format.specs.Computed.Items.{items_of}
 use Rattle.properties_format.specs.Settings.{default_settings}
-use Rattle.properties_format.specs.Pairs.{pairs_in, items_after, ArePairsOfScalars}
+use Rattle.properties_format.specs.Writing.{pairs_in, items_after, ArePairsOfScalars}
 use Rattle.properties_format.proofs.Items.Unique.{items_of-meets, items_of-only}
 use Rattle.properties_format.proofs.ReadBack.Law.{default_settings-good, output_encoding-own}
 use Rattle.properties_format.proofs.ReadBack.Lists.{items_of-pairs, pairs_in-items}

@@ -2,11 +2,10 @@
 use Rattle.std.proofs.Common.{◌≡◌, List, ℕ, false, [], ◌∷◌, ◌++◌, refl, sym, ap, ◌∙◌, inl, inr}
 use Rattle.std.specs.Prelude.{Some, None}
 use Rattle.std.proofs.lemmas.Bool.{cases_Bool, cond-true, cond-false}
-use Rattle.properties_format.specs.EditedPairs.{AreInComments}
+use Rattle.properties_format.specs.Edits.{AreInComments}
 use Rattle.properties_format.specs.Encoding.{Encoding}
-use Rattle.properties_format.specs.MalformedEscapes as format
-use Rattle.java_properties.specs.MalformedEscapes.{escape_record, escape_records}
-use Rattle.java_properties.specs.SourceFindings.{HasMalformed}
+use Rattle.properties_format.specs.Found as format
+use Rattle.java_properties.specs.Findings.{escape_record, escape_records, HasMalformed}
 use Rattle.properties_items.specs.declared.findings.MalformedEscape.{MalformedEscape}
 use Rattle.properties_tools.specs.Propedit.Sources.{first_in_pair, HasSoundBytes, IsFirstMalformed, IsSound}
 

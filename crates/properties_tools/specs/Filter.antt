@@ -1,21 +1,19 @@
 -- What `filter` does: it reads the items of an input, and writes each pair as one line.
-use Rattle.std.specs.Prelude.{◌≡◌, ◌⊎◌, ◌+◌, ◌^◌, ◌==◌, ℕ, Bool, true, List, [], ◌∷◌, ◌++◌, length, Option, Some, None, Result, Ok, Err}
+use Rattle.std.specs.Prelude.{◌≡◌, ◌⊎◌, ◌+◌, ◌^◌, ◌==◌, ℕ, Bool, true, List, [], ◌∷◌, ◌++◌, length, Option, Some, Result, Ok, Err}
 use Rattle.std.specs.declared.io.Error.{Error}
 use Rattle.counted_io.specs.Streams.{Reader, HasRead, Sink, HasWritten, HasFaulted, HasFailedFlush, IsProperPrefix, CameFromWrite, has_ended}
-use Rattle.properties_format.specs.Encoding.{Encoding, output_encoding}
-use Rattle.properties_format.specs.Repertoire.{Repertoire, all_of}
-use Rattle.properties_format.specs.Entries.{pair, Entry, item, AreItems}
+use Rattle.properties_format.specs.Encoding.{Encoding, output_encoding, Repertoire, all_of}
+use Rattle.properties_format.specs.Items.{pair, Entry, item, AreItems, IsItems}
 use Rattle.properties_format.specs.Printing.{printed}
 use Rattle.properties_format.specs.Settings.{Settings, default_settings}
 use Rattle.properties_format.specs.Lines.{end}
-use Rattle.properties_format.specs.Items.{IsItems}
-use Rattle.properties_format.specs.Writing.{Call, wrote}
-use Rattle.properties_format.specs.Pairs.{pairs_in, calls_of, items_after, ArePairsOfScalars}
+use Rattle.properties_format.specs.Writing.{Call, wrote, pairs_in, calls_of, items_after, ArePairsOfScalars}
 use Rattle.properties_format.specs.AsciiOnly.{AreAsciiBytes, AreItemsInBoth}
-use Rattle.java_properties.specs.AsciiOnly.{TakesAscii}
-use Rattle.java_properties.specs.Errors.{cause_of_write, IsError, IsBareError, IsStreamError}
+use Rattle.java_properties.specs.ReadBack.{TakesAscii}
+use Rattle.java_properties.specs.Errors.{cause_of_write, IsError, IsBareError}
 use Rattle.java_properties.specs.PropertiesWriter.{Writing, new_writer, with_settings}
-use Rattle.java_properties.specs.ReadLines.{BeginsItems, ReadsWhole, ReadsUpTo}
+use Rattle.java_properties.specs.ReadLines.{BeginsWith, ReadsWhole, ReadsUpTo}
+use Rattle.java_properties.specs.WholeSources.{FailsInFlush}
 use Rattle.properties_items.specs.declared.error.ErrorKind.TheVariants as kind
 use Rattle.properties_items.specs.declared.error.PropertiesError.{PropertiesError}
 
@@ -62,14 +60,6 @@ pub record FailsInPair {W : Type 0} (sink : Sink W) (r : Repertoire) (old : W) (
   pub given : CameFromWrite sink cause new
   pub is : IsError kind.Io (Some (pair_count items + 1)) (cause_of_write cause) error
 
--- The pairs of these items were written, but the flush after them failed, by this error of the sink's own.
-pub record FailsAfterPairs {W : Type 0} (sink : Sink W) (r : Repertoire) (old : W) (items : List Entry) (error : PropertiesError) (new : W) : Type 0 where
-  pub middle : W
-  pub written : HasWritten sink old (pair_lines r items) middle
-  pub source : Error
-  pub flushed : HasFailedFlush sink middle source new
-  pub is : IsStreamError None source error
-
 -- The pairs of these items were written, but not this one, for which memory ran out or the numbers for lines.
 pub record RefusesPair {W : Type 0} (sink : Sink W) (r : Repertoire) (old : W) (items : List Entry) (error : PropertiesError) (new : W) : Type 0 where
   pub written : HasWritten sink old (pair_lines r items) new
@@ -102,7 +92,7 @@ pub record StopsInWriting {R W : Type 0} (reader : Reader R) (sink : Sink W) (r 
   pub whole : AreItems items
   pub bytes : List ℕ
   pub read : HasRead reader input bytes input'
-  pub begins : BeginsItems r.encoding bytes (items ++ (item number (pair key value) ∷ [])) (has_ended reader input')
+  pub begins : BeginsWith (IsItems r.encoding) bytes (items ++ (item number (pair key value) ∷ [])) (has_ended reader input')
   pub fails : FailsInPair sink r output items key value error output' ⊎ RefusesPair sink r output items error output'
 
 -- The input was read to its end, these are its items, and their pairs were written, but the flush failed.
@@ -110,7 +100,7 @@ pub record StopsInFlush {R W : Type 0} (reader : Reader R) (sink : Sink W) (r : 
     (items : List Entry) (error : PropertiesError) (input' : R) (output' : W) : Type 0 where
   pub whole : AreItems items
   pub reads : ReadsWhole reader r.encoding input items input'
-  pub fails : FailsAfterPairs sink r output items error output'
+  pub fails : FailsInFlush sink output (pair_lines r items) error output'
 
 -- Filtering stopped after these items of the input, of whose pairs the texts are of scalar values.
 pub record StopsAfter {R W : Type 0} (reader : Reader R) (sink : Sink W) (r : Repertoire) (input : R) (output : W)

@@ -1,5 +1,5 @@
--- What `propedit` does, over any streams.
-pub mod Answers
+-- What `propedit` does, over any streams: what a command gives for a source, a text to print and the exit status or why
+-- it fails, and the effects of that.
 pub mod Change
 pub mod Check
 pub mod Failures
@@ -7,25 +7,63 @@ pub mod Get
 pub mod InPlace
 pub mod Lines
 pub mod Listing
-pub mod Pairs
 pub mod Sources
 pub mod Texts
-pub mod Utf16
-use Rattle.std.specs.Prelude.{◌≡◌, ◌≢◌, ◌⊎◌, ℕ, List, Option, Some, None, Result, Ok, Err}
-use Rattle.std.specs.Global.{Vec}
-use Rattle.counted_io.specs.Streams.{Reader, Sink}
+use Rattle.std.specs.Prelude.{◌≡◌, ℕ, List, [], ◌∷◌, Result, Ok, Err, codes, map, string_bytes, ◌≢◌, ◌⊎◌, Option, Some, None}
+use Rattle.std.specs.Option.{option_map}
 use Rattle.properties_format.specs.Encoding.{Encoding}
 use Rattle.properties_text.specs.Encoding.{encoding_of}
-use Rattle.java_properties.specs.WholeSources.{GivesWhole, ReadsSource, WritesSource}
-use Rattle.properties_items.specs.declared.error.PropertiesError.{PropertiesError}
-use Rattle.properties_tools.specs.Propedit.Answers.{name_of, Answers as Gives}
+use Rattle.java_properties.specs.Maps.{characters}
 use Rattle.properties_tools.specs.Propedit.Change.{Changes}
-use Rattle.properties_tools.specs.Propedit.Failures.{failure_status, standard_output, PrintsFailure}
+use Rattle.properties_tools.specs.Propedit.Check.{IsReport}
+use Rattle.properties_tools.specs.Propedit.Failures.{LacksMemory, failure_status, standard_output, PrintsFailure}
+use Rattle.properties_tools.specs.Propedit.Get.{Gets}
+use Rattle.properties_tools.specs.Propedit.Listing.{Lists, ListsValues}
 use Rattle.properties_tools.specs.declared.propedit.answer.Answer.{Answer}
+use Rattle.properties_tools.specs.declared.propedit.request.Command.{Command}
 use Rattle.properties_tools.specs.declared.propedit.request.Change.{Change as AskedChange}
+use Rattle.properties_tools.specs.declared.propedit.request.Command.TheVariants as command
+use Rattle.properties_tools.specs.declared.propedit.request.Source.{Source}
+use Rattle.properties_tools.specs.declared.propedit.request.Source.TheVariants.{StandardInput, File}
 use Rattle.properties_tools.specs.declared.propedit.request.Work.{Work}
 use Rattle.properties_tools.specs.declared.propedit.error.Failure.{Failure}
+use Rattle.std.specs.Global.{Vec}
+use Rattle.counted_io.specs.Streams.{Reader, Sink}
+use Rattle.java_properties.specs.WholeSources.{GivesWhole, ReadsSource, WritesSource}
+use Rattle.properties_items.specs.declared.error.PropertiesError.{PropertiesError}
 use Rattle.properties_tools.specs.declared.propedit.error.Failure.TheVariants.{Input, Output}
+
+-- the name of a source in messages
+abbrev pub name_of : Source → List ℕ
+name_of StandardInput = codes "standard input"
+name_of (File path) = string_bytes path
+
+-- The status of a report: 0 where it is empty.
+abbrev pub report_status : List ℕ → ℕ
+report_status [] = 0
+report_status (byte ∷ bytes) = 1
+
+-- What checking gives: the report and its status; or memory ran out.
+abbrev pub Checks : List ℕ → Encoding → List ℕ → Result Answer Failure → Type 0
+Checks name e source (Ok answer) = IsReport name e source answer.text.items × (answer.status ≡ report_status answer.text.items)
+Checks name e source (Err failure) = LacksMemory failure
+
+-- What a change gives as an answer: the bytes after it, and the status 0.
+abbrev pub ChangesTo : Encoding → List ℕ → AskedChange → Result Answer Failure → Type 0
+ChangesTo e source change (Ok answer) = Changes e source change (Ok answer.text) × (answer.status ≡ 0)
+ChangesTo e source change (Err failure) = Changes e source change (Err failure)
+
+-- What a command gives for a source of this name in this encoding.
+abbrev pub AnswersCommand : List ℕ → Encoding → Command → List ℕ → Result Answer Failure → Type 0
+AnswersCommand name e (command.Get keys default end) source result = Gets e source (map characters keys.items) (option_map characters default) end result
+AnswersCommand name e (command.List prefix end) source result = Lists e source (characters prefix) end result
+AnswersCommand name e (command.ListValues prefix end) source result = ListsValues e source (characters prefix) end result
+AnswersCommand name e command.Check source result = Checks name e source result
+AnswersCommand name e (command.Change change) source result = ChangesTo e source change result
+
+-- What the command of some work gives for its source.
+abbrev pub Answers : Work → List ℕ → Result Answer Failure → Type 0
+Answers work source result = AnswersCommand (name_of work.source) (encoding_of work.encoding) work.command source result
 
 -- ---- how it ends
 
@@ -41,14 +79,14 @@ pub record PrintsAnswer {R W : Type 0} (reader : Reader R) (sink : Sink W) (work
     (answer : Answer) (printed : Result Unit PropertiesError) (input' : R) (output' : W) : Type 0 where
   pub source : List ℕ
   pub read : GivesWhole reader input source input'
-  pub answers : Gives work source (Ok answer)
+  pub answers : Answers work source (Ok answer)
   pub writes : WritesSource sink output answer.text.items printed output'
 
 -- What the source gave to its end has no answer, and nothing was printed.
 pub record HasNoAnswer {R W : Type 0} (reader : Reader R) (work : Work) (input : R) (output : W) (failure : Failure) (input' : R) (output' : W) : Type 0 where
   pub source : List ℕ
   pub read : GivesWhole reader input source input'
-  pub fails : Gives work source (Err failure)
+  pub fails : Answers work source (Err failure)
   pub unwritten : output' ≡ output
 
 -- The source couldn't be read to its end, and nothing was printed. The error is that of a failed read, as reading a whole

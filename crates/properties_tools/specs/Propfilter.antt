@@ -1,8 +1,7 @@
 -- What `propfilter` does, over any streams.
 use Rattle.std.specs.Prelude.{◌≡◌, ◌⊎◌, ℕ, Bool, true, false, List, [], ◌∷◌, Option, Some, None, Result, Ok, Err, codes}
 use Rattle.counted_io.specs.Streams.{Reader, Sink}
-use Rattle.properties_format.specs.Encoding.{Encoding, windows_1252}
-use Rattle.properties_format.specs.Repertoire.{Repertoire, repertoire}
+use Rattle.properties_format.specs.Encoding.{Encoding, windows_1252, Repertoire, repertoire}
 use Rattle.properties_format.specs.Names.{name_of}
 use Rattle.properties_items.specs.declared.error.PropertiesError.{PropertiesError}
 use Rattle.properties_text.specs.Encoding.{encoding_of}

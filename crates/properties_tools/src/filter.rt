@@ -3,7 +3,7 @@
 ghost use Rattle.std.specs.Prelude.{◌≡◌, true, false};
 ghost use Rattle.counted_io.specs.Streams.{IsSameReader, IsSameSink};
 ghost use Rattle.properties_format.specs.ItemsToCome.{start};
-ghost use Rattle.properties_format.specs.Repertoire.{repertoire, all_of, ascii_in};
+ghost use Rattle.properties_format.specs.Encoding.{repertoire, all_of, ascii_in};
 ghost use Rattle.properties_text.specs.Encoding.{encoding_of};
 ghost use Rattle.properties_tools.specs.Filter.{pair_writer, Filters, FiltersToAscii, Settles};
 

@@ -5,7 +5,7 @@ use Rattle.std.specs.Map.{update}
 use Rattle.std.specs.Str.{chars}
 use Rattle.std.specs.String.{string_cmp}
 use Rattle.std.proofs.Math.ListN.{set}
-use Rattle.properties_tools.specs.Private.LastPairs.{place_at}
+use Rattle.java_properties.specs.Private.LineByLine.{number_at}
 use Rattle.properties_tools.specs.Propedit.Texts.{ended}
 use Rattle.properties_tools.specs.declared.propedit.request.TextEnd.{TextEnd}
 use Rattle.properties_tools.specs.declared.propedit.first_keys.FirstKeys.{FirstKeys}
@@ -35,7 +35,7 @@ in_slot s key = get_or s.slots.items (slot_for (length s.slots.items) key) None
 abbrev pub IsFound : FirstKeys → List ℕ → Type 0
 IsFound s key =
     (p : Place) × (in_slot s (encode_utf8_all key) ≡ Some p)
-    × ((bytes_at s.text.items p ≡ encode_utf8_all key) ⊎ ((n : ℕ) × (place_at s.others.entries key ≡ Some n)))
+    × ((bytes_at s.text.items p ≡ encode_utf8_all key) ⊎ ((n : ℕ) × (number_at s.others.entries key ≡ Some n)))
 
 -- These keys are held, each with the number of its line, and no others.
 pub record IsIndexed (held : List ℕ → Option ℕ) (s : FirstKeys) : Type 0 where
@@ -44,7 +44,7 @@ pub record IsIndexed (held : List ℕ → Option ℕ) (s : FirstKeys) : Type 0 w
   pub within : (i : ℕ) (p : Place) → get_or s.slots.items i None ≡ Some p → p.start + p.length ≤ length s.text.items
   pub sound : (i : ℕ) (p : Place) → get_or s.slots.items i None ≡ Some p
       → (key : List ℕ) × (held key ≡ Some p.line_number) × (bytes_at s.text.items p ≡ encode_utf8_all key)
-  pub among : (key : List ℕ) (n : ℕ) → place_at s.others.entries key ≡ Some n → held key ≡ Some n
+  pub among : (key : List ℕ) (n : ℕ) → number_at s.others.entries key ≡ Some n → held key ≡ Some n
   pub every : (key : List ℕ) (n : ℕ) → held key ≡ Some n → IsFound s key
 
 abbrev pub IndexesSome : FirstKeys → Type 0
@@ -67,7 +67,7 @@ abbrev pub KeptPlace : List ℕ → Place → FirstKeys → FirstKeys → Type 0
 KeptPlace key place old new =
     ((in_slot old key ≡ None) × (new.slots.items ≡ set old.slots.items (slot_for (length old.slots.items) key) (Some place)) × (new.others ≡ old.others))
     ⊎ (((p : Place) × (in_slot old key ≡ Some p)) × (new.slots.items ≡ old.slots.items) × IsOrdered string_cmp new.others
-    × ((k : List ℕ) → place_at new.others.entries k ≡ update bytes_eq (place_at old.others.entries) (chars key) (Some place.line_number) k))
+    × ((k : List ℕ) → number_at new.others.entries k ≡ update bytes_eq (number_at old.others.entries) (chars key) (Some place.line_number) k))
 
 abbrev pub KeepsKey : List ℕ → Place → FirstKeys → FirstKeys → Type 0
 KeepsKey key place old new = (new.text ≡ old.text) × KeptPlace key place old new

@@ -3,8 +3,7 @@ use Rattle.std.specs.Prelude.{◌≡◌, ℕ, ◌+◌, ◌≤◌, ◌&&◌, not,
 use Rattle.std.specs.Str.{is_utf8}
 use Rattle.properties_format.specs.Body.{HeldLine}
 use Rattle.properties_format.specs.Encoding.{Encoding, windows_1252, utf_8, utf_16le, utf_16be}
-use Rattle.properties_format.specs.Surrogates.{is_high, is_low}
-use Rattle.properties_format.specs.Utf16.{low_first, high_first}
+use Rattle.properties_format.specs.Utf16.{is_high, is_low, low_first, high_first}
 use Rattle.properties_text.specs.Encoding.{encoding_of}
 use Rattle.properties_lines.specs.Private.HeldLines.{IsInBody, lines_left}
 use Rattle.properties_lines.specs.Scanner.{HasRightFlags, bytes_of}
@@ -18,10 +17,8 @@ use Rattle.properties_tools.specs.declared.propedit.utf_8.Flaw.TheVariants.{IllF
 
 -- the unit that two bytes make
 abbrev pub unit_in : Encoding → ℕ → ℕ → ℕ
-unit_in windows_1252 = low_first
-unit_in utf_8 = low_first
-unit_in utf_16le = low_first
 unit_in utf_16be = high_first
+unit_in other = low_first
 
 -- Whether each surrogate is one of a pair, and no byte is left over. A high surrogate may come before the bytes.
 abbrev pub are_paired : (ℕ → ℕ → ℕ) → Bool → List ℕ → Bool

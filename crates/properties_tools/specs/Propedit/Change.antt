@@ -3,11 +3,9 @@ use Rattle.std.specs.Prelude.{◌≡◌, ◌⊎◌, ℕ, true, List, [], ◌∷�
 use Rattle.std.specs.Global.{Global, Vec}
 use Rattle.std.specs.declared.string.String.{String}
 use Rattle.properties_format.specs.Converting.{IsConverted}
-use Rattle.properties_format.specs.EditedPairs.{HasPairValue, IsEditPairsResult}
+use Rattle.properties_format.specs.Edits.{HasPairValue, IsEditPairsResult, put, remove, set_value}
 use Rattle.properties_format.specs.Edits as format
-use Rattle.properties_format.specs.Edits.{put, remove, set_value}
-use Rattle.properties_format.specs.Encoding.{Encoding}
-use Rattle.properties_format.specs.Repertoire.{repertoire}
+use Rattle.properties_format.specs.Encoding.{Encoding, repertoire}
 use Rattle.properties_text.specs.Converted.{is_readable}
 use Rattle.properties_text.specs.Printing.{in_format}
 use Rattle.java_properties.specs.Editing.{ArePairsMade, IsRefusal, edits_in}

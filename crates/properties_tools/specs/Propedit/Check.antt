@@ -7,13 +7,12 @@ use Rattle.std.specs.List.Sorted.{IsNonDecreasingBy, IsStableByKey}
 use Rattle.std.specs.Ordering.{nat_cmp}
 use Rattle.std.specs.declared.string.String.{String}
 use Rattle.properties_format.specs.Encoding.{Encoding}
-use Rattle.properties_format.specs.MalformedEscapes as format
-use Rattle.properties_format.specs.MalformedEscapes.{AreMalformedEscapes}
+use Rattle.properties_format.specs.Found as format
+use Rattle.properties_format.specs.Found.{AreMalformedEscapes}
 use Rattle.properties_format.specs.Text.{line_feed}
 use Rattle.java_properties.specs.DisplayTexts.{description}
 use Rattle.java_properties.specs.Errors.{IsBareError}
-use Rattle.java_properties.specs.KeyLines.{AreKeyLines, KeyEntry}
-use Rattle.java_properties.specs.MalformedEscapes.{escape_records}
+use Rattle.java_properties.specs.Findings.{AreKeyLines, KeyEntry, escape_records}
 use Rattle.properties_items.specs.declared.error.ErrorKind.TheVariants as kind
 use Rattle.properties_items.specs.declared.error.PropertiesError.{PropertiesError}
 use Rattle.properties_items.specs.declared.findings.MalformedEscape.{MalformedEscape}
@@ -42,10 +41,8 @@ first_words e source has_zero =
 
 -- and of those after it, which don't say it again
 abbrev pub words_after : Words → Words
-words_after WithEncoding = NotUtf8
-words_after WithMark = NotUtf8
-words_after NotUtf8 = NotUtf8
 words_after NotUtf16 = NotUtf16
+words_after other = NotUtf8
 
 -- of the ill-formed lines, where these words are said of the first
 abbrev pub ill_formed_findings : Words → List ℕ → List Finding
@@ -104,11 +101,6 @@ fault_words (Repeats first) = codes "repeats the key of line " ++ decimal first
 abbrev pub finding_line : List ℕ → Finding → List ℕ
 finding_line name f = escaped name ++ (codes ":" ++ (decimal f.line_number ++ (codes ": " ++ (fault_words f.fault ++ (line_feed ∷ [])))))
 
--- the lines of findings
-abbrev pub finding_lines : List ℕ → List Finding → List ℕ
-finding_lines name [] = []
-finding_lines name (f ∷ fs) = finding_line name f ++ finding_lines name fs
-
 -- ---- the report
 
 -- The text has the first line of a source with U+0000, its ill-formed lines, its malformed escapes and its repeated keys, in
@@ -124,7 +116,7 @@ pub record IsReport (name : List ℕ) (e : Encoding) (source text : List ℕ) : 
   pub are_keys : AreKeyLines e source keys
   pub findings : List Finding
   pub arranged : ArrangesByLine (all_findings (first_words e source (is_some zero)) zero numbers (escape_records escapes) keys) findings
-  pub is : text ≡ finding_lines name findings
+  pub is : text ≡ flat_map (finding_line name) findings
 
 -- What reporting returns. It fails only if memory runs out.
 abbrev pub Reports : {Z : Type 0} → Encoding → List ℕ → List ℕ → Result (String Z) PropertiesError → Type 0

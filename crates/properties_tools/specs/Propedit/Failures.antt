@@ -34,14 +34,8 @@ IsIoFailure source failure =
 
 -- 1 for a key that no pair has, and else 2
 abbrev pub failure_status : Failure → ℕ
-failure_status (HoldsZero number) = 2
-failure_status (NotUtf8 number) = 2
-failure_status (NotUtf8ByMark number) = 2
-failure_status (NotUtf16 number) = 2
-failure_status (Malformed escape) = 2
 failure_status (Absent key) = 1
-failure_status (Input error) = 2
-failure_status (Output error) = 2
+failure_status other = 2
 
 -- ---- its reason
 
@@ -105,14 +99,8 @@ standard_output = codes "standard output"
 
 -- what it is a failure of: the source of this name, or the output
 abbrev pub place_of : List ℕ → Failure → List ℕ
-place_of name (HoldsZero number) = name
-place_of name (NotUtf8 number) = name
-place_of name (NotUtf8ByMark number) = name
-place_of name (NotUtf16 number) = name
-place_of name (Malformed escape) = name
-place_of name (Absent key) = name
-place_of name (Input error) = name
 place_of name (Output error) = standard_output
+place_of name other = name
 
 -- ---- what is printed
 
@@ -135,16 +123,11 @@ pub record IsMessage (name : List ℕ) (failure : Failure) (text : List ℕ) : T
 abbrev pub IsMessageLine : List ℕ → Failure → List ℕ → Type 0
 IsMessageLine name failure line = (text : List ℕ) × IsMessage name failure text × (line ≡ printed_line text)
 
--- The message of a failure was printed as a line, as far as the sink took it.
-pub record PrintsMessage {W : Type 0} (sink : Sink W) (old : W) (name : List ℕ) (failure : Failure) (new : W) : Type 0 where
-  pub text : List ℕ
-  pub is_message : IsMessage name failure text
-  pub prints : HasPrintedLine sink old (printed_line text) new
+-- Such a line was printed, or the line that says that there is no memory for it, as far as the sink took it.
+abbrev pub PrintsLine : {W : Type 0} → Sink W → W → (List ℕ → Type 0) → W → Type 0
+PrintsLine sink old IsLine new =
+    ((line : List ℕ) × IsLine line × HasPrintedLine sink old line new) ⊎ HasPrintedLine sink old (printed_line memory_words) new
 
--- That memory ran out was printed as a line, as far as the sink took it.
-abbrev pub PrintsOutOfMemory : {W : Type 0} → Sink W → W → W → Type 0
-PrintsOutOfMemory sink old new = HasPrintedLine sink old (printed_line memory_words) new
-
--- The message of a failure is printed as a line, or that there is no memory for it.
+-- The message of a failure is printed.
 abbrev pub PrintsFailure : {W : Type 0} → Sink W → W → List ℕ → Failure → W → Type 0
-PrintsFailure sink old name failure new = PrintsMessage sink old name failure new ⊎ PrintsOutOfMemory sink old new
+PrintsFailure sink old name failure new = PrintsLine sink old (IsMessageLine name failure) new

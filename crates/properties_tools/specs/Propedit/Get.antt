@@ -1,7 +1,7 @@
 -- What `get` gives: the value of each key, or a default where no pair has it.
 use Rattle.std.specs.Prelude.{◌≡◌, ℕ, List, [], ◌∷◌, map, Option, Some, None, Result, Ok, Err}
 use Rattle.std.specs.List.{flat_map}
-use Rattle.properties_format.specs.EditedPairs.{HasPairValue}
+use Rattle.properties_format.specs.Edits.{HasPairValue}
 use Rattle.properties_format.specs.Encoding.{Encoding}
 use Rattle.properties_tools.specs.Propedit.Sources.{IsSound, IsUnsound}
 use Rattle.properties_tools.specs.Propedit.Texts.{ended}
@@ -33,9 +33,8 @@ pub record Prints (end : TextEnd) (texts : List (Option (List ℕ))) (answer : A
 -- Each of these keys has its value in the source.
 abbrev pub HaveValues : Encoding → List ℕ → List (List ℕ) → List (Option (List ℕ)) → Type 0
 HaveValues e source [] [] = Unit {0}
-HaveValues e source [] (value ∷ values) = ⊥
-HaveValues e source (key ∷ keys) [] = ⊥
 HaveValues e source (key ∷ keys) (value ∷ values) = HasPairValue e source key value × HaveValues e source keys values
+HaveValues e source keys values = ⊥
 
 -- The source is sound, and for each of these keys its value in the source is printed, or the default where no pair has it.
 pub record GetsValues (e : Encoding) (source : List ℕ) (keys : List (List ℕ)) (default : Option (List ℕ)) (end : TextEnd) (answer : Answer) : Type 0 where

@@ -5,9 +5,9 @@ use Rattle.std.specs.Global.{Global}
 use Rattle.std.specs.declared.string.String.{String}
 use Rattle.counted_io.specs.Streams.{Sink}
 use Rattle.properties_format.specs.Encoding.{Encoding}
-use Rattle.properties_tools.specs.Messages.{escaped, printed_line, HasPrintedLine}
+use Rattle.properties_tools.specs.Messages.{escaped, printed_line}
 use Rattle.properties_tools.specs.Propedit.Change.{Changes}
-use Rattle.properties_tools.specs.Propedit.Failures.{failure_status, message, PrintsFailure, PrintsOutOfMemory}
+use Rattle.properties_tools.specs.Propedit.Failures.{failure_status, message, PrintsFailure, PrintsLine}
 use Rattle.properties_tools.specs.declared.propedit.request.Change.{Change}
 use Rattle.properties_tools.specs.declared.propedit.error.Failure.{Failure}
 use Rattle.properties_tools.specs.declared.propedit.error.Failure.TheVariants.{Absent}
@@ -20,20 +20,11 @@ use Rattle.properties_tools.specs.declared.propedit.in_place.ReplaceError.{Repla
 -- What failed, where the temporary file has this name. Nothing is specified about an error of the system.
 abbrev pub problem_display : List ℕ → Problem → Option (List ℕ)
 problem_display temporary problem.Held = Some (escaped temporary ++ codes " exists: another run is at work, or was killed; if none is, remove it")
-problem_display temporary (problem.NotCreated error) = None
-problem_display temporary (problem.NotWritten error) = None
-problem_display temporary (problem.Owner error) = None
-problem_display temporary (problem.Group error) = None
-problem_display temporary (problem.Mode error) = None
-problem_display temporary (problem.NotRead error) = None
 problem_display temporary problem.Changed = Some (codes "changed while it was edited")
 problem_display temporary problem.Taken = Some (escaped temporary ++ codes " was removed or replaced")
-problem_display temporary (problem.NotRenamed error) = None
-problem_display temporary (problem.NotLinked error) = None
 problem_display temporary problem.Appeared = Some (codes "was made by another program meanwhile")
 problem_display temporary problem.Made = Some (codes "is made")
-problem_display temporary (problem.ReplacedUnsynced error) = None
-problem_display temporary (problem.MadeUnsynced error) = None
+problem_display temporary other = None
 
 -- what is added where the temporary file is left
 abbrev pub left_display : List ℕ → Bool → List ℕ
@@ -52,15 +43,9 @@ pub record IsProblemLine (path : List ℕ) (error : ReplaceError) (line : List �
   pub printed : IfSome (replace_display error) (λ known. words ≡ known)
   pub is : line ≡ printed_line (message path None words)
 
--- Such a line was printed, as far as the sink took it.
-pub record PrintsProblemLine {W : Type 0} (sink : Sink W) (old : W) (path : List ℕ) (error : ReplaceError) (new : W) : Type 0 where
-  pub line : List ℕ
-  pub is_line : IsProblemLine path error line
-  pub prints : HasPrintedLine sink old line new
-
--- Why a file is not replaced is printed as a line, or that there is no memory for it.
+-- Why a file is not replaced is printed.
 abbrev pub PrintsProblem : {W : Type 0} → Sink W → W → List ℕ → ReplaceError → W → Type 0
-PrintsProblem sink old path error new = PrintsProblemLine sink old path error new ⊎ PrintsOutOfMemory sink old new
+PrintsProblem sink old path error new = PrintsLine sink old (IsProblemLine path error) new
 
 -- The change is refused for some bytes: they have no pair with a key that has to be there. That is printed as a line.
 pub record PrintsAbsent {W : Type 0} (sink : Sink W) (old : W) (path : List ℕ) (e : Encoding) (change : Change) (new : W) : Type 0 where

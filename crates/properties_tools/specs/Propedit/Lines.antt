@@ -1,19 +1,38 @@
 -- The lines of a source whose bytes are not those of a text: they are ill-formed in the encoding in force, or one of them
--- is 0 in UTF-8.
-use Rattle.std.specs.Prelude.{◌≡◌, ◌⊎◌, ℕ, nat_eq, ◌==◌, ◌&&◌, not, Bool, true, false, List, [], ◌∷◌, Option, Some, None, Result, Ok, Err}
+-- is 0 in UTF-8. In well-formed UTF-16 each high surrogate is before a low one, and no other surrogate and no odd byte is
+-- there.
+-- Source: The Unicode Standard, D91 (UTF-16) and D85 (well-formed).
+use Rattle.std.specs.Prelude.{◌≡◌, ◌⊎◌, ℕ, true, false, List, [], ◌∷◌, ◌++◌, nat_eq, ◌==◌, ◌&&◌, not, Bool, Option, Some, None, Result, Ok, Err}
+use Rattle.properties_format.specs.Utf16.{is_high, is_low, low_first, high_first}
 use Rattle.std.specs.Global.{Vec}
 use Rattle.std.specs.List.{list_any, starts_with}
 use Rattle.properties_format.specs.Encoding.{Encoding, windows_1252, utf_8, utf_16le, utf_16be, byte_order_mark}
 use Rattle.properties_format.specs.Cut.{IsCut}
 use Rattle.properties_format.specs.Lines.{end, Line, Lines, numbered_lines}
 use Rattle.properties_format.specs.Utf8.{IsWellFormedText}
-use Rattle.properties_format.specs.Utf16.{low_first, high_first}
 use Rattle.java_properties.specs.Errors.{IsBareError}
 use Rattle.properties_items.specs.declared.error.ErrorKind.TheVariants as kind
 use Rattle.properties_items.specs.declared.error.PropertiesError.{PropertiesError}
-use Rattle.properties_tools.specs.Propedit.Utf16.{IsWellFormedUnits}
 use Rattle.properties_tools.specs.declared.propedit.utf_8.Flaw.{Flaw}
 use Rattle.properties_tools.specs.declared.propedit.utf_8.Flaw.TheVariants.{IllFormed, Zero}
+
+-- The bytes are a unit that isn't a surrogate.
+abbrev pub IsPlainUnit : (ℕ → ℕ → ℕ) → List ℕ → Type 0
+IsPlainUnit unit bytes = (a : ℕ) × (b : ℕ) × (bytes ≡ a ∷ b ∷ []) × (is_high (unit a b) ≡ false) × (is_low (unit a b) ≡ false)
+
+-- The bytes are a high surrogate and a low one.
+abbrev pub IsSurrogatePair : (ℕ → ℕ → ℕ) → List ℕ → Type 0
+IsSurrogatePair unit bytes =
+    (a : ℕ) × (b : ℕ) × (c : ℕ) × (d : ℕ) × (bytes ≡ a ∷ b ∷ c ∷ d ∷ []) × (is_high (unit a b) ≡ true) × (is_low (unit c d) ≡ true)
+
+-- The bytes are these characters in order, each of them a unit or a pair.
+abbrev pub AreCharacters : (ℕ → ℕ → ℕ) → List ℕ → List (List ℕ) → Type 0
+AreCharacters unit bytes [] = bytes ≡ []
+AreCharacters unit bytes (c ∷ cs) = (rest : List ℕ) × (bytes ≡ c ++ rest) × (IsPlainUnit unit c ⊎ IsSurrogatePair unit c) × AreCharacters unit rest cs
+
+-- All of the bytes are well-formed UTF-16, in which two bytes make a unit so.
+abbrev pub IsWellFormedUnits : (ℕ → ℕ → ℕ) → List ℕ → Type 0
+IsWellFormedUnits unit bytes = (characters : List (List ℕ)) × AreCharacters unit bytes characters
 
 -- ---- of the bytes of a line
 
@@ -62,16 +81,13 @@ starts_with_bom source = starts_with nat_eq source (239 ∷ 187 ∷ 191 ∷ [])
 
 -- whether an encoding is UTF-8, and whether it is one of the two of UTF-16
 abbrev pub is_utf_8 : Encoding → Bool
-is_utf_8 windows_1252 = false
 is_utf_8 utf_8 = true
-is_utf_8 utf_16le = false
-is_utf_8 utf_16be = false
+is_utf_8 other = false
 
 abbrev pub is_utf_16 : Encoding → Bool
-is_utf_16 windows_1252 = false
-is_utf_16 utf_8 = false
 is_utf_16 utf_16le = true
 is_utf_16 utf_16be = true
+is_utf_16 other = false
 
 -- Whether a flaw is sought. A byte order mark says that the source isn't UTF-16, so a byte 0 is no flaw after one.
 abbrev pub is_sought : Flaw → Encoding → List ℕ → Bool

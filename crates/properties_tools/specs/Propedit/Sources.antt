@@ -1,16 +1,16 @@
 -- When a source that is held whole is refused.
-use Rattle.std.specs.Prelude.{◌≡◌, ◌⊎◌, ℕ, Bool, true, false, if◌then◌else◌, List, [], ◌∷◌, ◌++◌, Option, Some, None, Result, Ok, Err}
-use Rattle.properties_format.specs.EditedPairs.{AreInComments, EscapesAre}
+use Rattle.std.specs.Prelude.{◌≡◌, ℕ, Bool, true, false, if◌then◌else◌, List, [], ◌∷◌, ◌++◌, Option, Some, None, Result, Ok, Err}
+use Rattle.properties_format.specs.Edits.{AreInComments, EscapesAre}
 use Rattle.properties_format.specs.Encoding.{Encoding, byte_order_mark}
-use Rattle.properties_format.specs.MalformedEscapes as format
-use Rattle.properties_format.specs.MalformedEscapes.{AreMalformedEscapes}
+use Rattle.properties_format.specs.Found as format
+use Rattle.properties_format.specs.Found.{AreMalformedEscapes}
 use Rattle.java_properties.specs.Errors.{IsBareError}
-use Rattle.java_properties.specs.MalformedEscapes.{escape_record}
+use Rattle.java_properties.specs.Findings.{escape_record}
 use Rattle.properties_items.specs.declared.error.ErrorKind.TheVariants as kind
 use Rattle.properties_items.specs.declared.findings.MalformedEscape.{MalformedEscape}
 use Rattle.properties_tools.specs.Propedit.Lines.{is_utf_16, starts_with_bom, AreFlawedLines, IsFirstFlawed}
 use Rattle.properties_tools.specs.declared.propedit.error.Failure.{Failure}
-use Rattle.properties_tools.specs.declared.propedit.error.Failure.TheVariants.{Absent, HoldsZero, NotUtf8, NotUtf8ByMark, NotUtf16, Malformed, Input, Output}
+use Rattle.properties_tools.specs.declared.propedit.error.Failure.TheVariants.{HoldsZero, NotUtf8, NotUtf8ByMark, NotUtf16, Malformed, Input}
 use Rattle.properties_tools.specs.declared.propedit.utf_8.Flaw.TheVariants.{IllFormed, Zero}
 
 -- ---- refusals for bytes
@@ -25,21 +25,9 @@ pub record IsFirstIllFormed (e : Encoding) (source : List ℕ) (number : ℕ) : 
   pub without_zeros : AreFlawedLines Zero e source []
   pub first : IsFirstFlawed IllFormed e source (Some number)
 
--- the failure of a line that is not UTF-8
-abbrev pub IsNotUtf8 : List ℕ → ℕ → Failure → Type 0
-IsNotUtf8 source number failure =
-    ((starts_with_bom source ≡ false) × (failure ≡ NotUtf8 number))
-    ⊎ ((starts_with_bom source ≡ true) × (failure ≡ NotUtf8ByMark number))
-
 -- whether UTF-16 is in force
 abbrev pub is_in_utf_16 : Encoding → List ℕ → Bool
 is_in_utf_16 e source = is_utf_16 (byte_order_mark e source).encoding
-
--- the failure of an ill-formed line
-abbrev pub IsIllFormedLine : Encoding → List ℕ → ℕ → Failure → Type 0
-IsIllFormedLine e source number failure =
-    ((is_in_utf_16 e source ≡ true) × (failure ≡ NotUtf16 number))
-    ⊎ ((is_in_utf_16 e source ≡ false) × IsNotUtf8 source number failure)
 
 -- Why a source is refused for its bytes: its first line with a byte 0, if no byte order mark says that it is UTF-8; where
 -- there is none, its first ill-formed line.
@@ -48,10 +36,7 @@ HasUnsoundBytes e source (HoldsZero number) = IsFirstFlawed Zero e source (Some 
 HasUnsoundBytes e source (NotUtf8 number) = IsFirstIllFormed e source number × (is_in_utf_16 e source ≡ false) × (starts_with_bom source ≡ false)
 HasUnsoundBytes e source (NotUtf8ByMark number) = IsFirstIllFormed e source number × (is_in_utf_16 e source ≡ false) × (starts_with_bom source ≡ true)
 HasUnsoundBytes e source (NotUtf16 number) = IsFirstIllFormed e source number × (is_in_utf_16 e source ≡ true)
-HasUnsoundBytes e source (Malformed escape) = ⊥
-HasUnsoundBytes e source (Absent key) = ⊥
-HasUnsoundBytes e source (Input error) = ⊥
-HasUnsoundBytes e source (Output error) = ⊥
+HasUnsoundBytes e source other = ⊥
 
 abbrev pub RefusesBytes : Encoding → List ℕ → Result Unit Failure → Type 0
 RefusesBytes e source (Ok done) = HasSoundBytes e source
@@ -83,14 +68,9 @@ pub record IsFirstMalformed (e : Encoding) (source : List ℕ) (found : Malforme
 -- Why a source is refused, or not even looked through: its bytes; where these are sound, the first malformed escape of a
 -- pair; or memory ran out.
 abbrev pub IsUnsound : Encoding → List ℕ → Failure → Type 0
-IsUnsound e source (HoldsZero number) = HasUnsoundBytes e source (HoldsZero number)
-IsUnsound e source (NotUtf8 number) = HasUnsoundBytes e source (NotUtf8 number)
-IsUnsound e source (NotUtf8ByMark number) = HasUnsoundBytes e source (NotUtf8ByMark number)
-IsUnsound e source (NotUtf16 number) = HasUnsoundBytes e source (NotUtf16 number)
 IsUnsound e source (Malformed escape) = IsFirstMalformed e source escape
-IsUnsound e source (Absent key) = ⊥
 IsUnsound e source (Input error) = IsBareError kind.Memory error
-IsUnsound e source (Output error) = ⊥
+IsUnsound e source other = HasUnsoundBytes e source other
 
 abbrev pub RefusesUnsound : Encoding → List ℕ → Result Unit Failure → Type 0
 RefusesUnsound e source (Ok done) = IsSound e source

@@ -2,7 +2,7 @@
 
 ghost use Rattle.std.specs.Prelude.{◌≡◌};
 ghost use Rattle.properties_text.specs.Encoding.{encoding_of};
-ghost use Rattle.properties_tools.specs.Propedit.Answers.{Answers, Checks, ChangesTo, name_of};
+ghost use Rattle.properties_tools.specs.Propedit.{Answers, Checks, ChangesTo, name_of};
 
 use crate::propedit::answer::Answer;
 use crate::propedit::change::change;

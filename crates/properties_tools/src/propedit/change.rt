@@ -5,7 +5,7 @@ ghost use Rattle.std.specs.Option.{option_map};
 ghost use Rattle.java_properties.specs.Editing.{edit_in, edits_in};
 ghost use Rattle.java_properties.specs.Maps.{characters};
 ghost use Rattle.properties_text.specs.Encoding.{encoding_of};
-ghost use Rattle.properties_tools.specs.Private.LookedUp.{first_without, key_set, value_texts, RefusesIfAbsent};
+ghost use Rattle.properties_tools.specs.Private.Collected.{first_without, key_set, value_texts, RefusesIfAbsent};
 ghost use Rattle.properties_tools.specs.Propedit.Change.{keys_set, Changes, ChangesByEdits, Converts};
 ghost use Rattle.properties_tools.specs.Propedit.Texts.{borrowed_characters};
 

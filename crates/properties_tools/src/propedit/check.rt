@@ -1,9 +1,10 @@
 // What is wrong in a source, as lines.
 
 ghost use Rattle.std.specs.Prelude.{◌≡◌, ◌++◌, OnOk};
+ghost use Rattle.std.specs.List.{flat_map};
 ghost use Rattle.std.specs.String.{string_bytes};
 ghost use Rattle.properties_text.specs.Encoding.{encoding_of};
-ghost use Rattle.properties_tools.specs.Propedit.Check.{comment_words, finding_line, finding_lines, first_words, ill_formed_findings, ill_formed_text, words_after, zero_findings, ArrangesByLine, Reports};
+ghost use Rattle.properties_tools.specs.Propedit.Check.{comment_words, finding_line, first_words, ill_formed_findings, ill_formed_text, words_after, zero_findings, ArrangesByLine, Reports};
 
 use crate::messages::Escaped;
 use crate::propedit::error::{HOLDS_ZERO, NOT_UTF_8, NOT_UTF_8_BY_MARK, NOT_UTF_16};
@@ -142,7 +143,7 @@ fn sort(findings: &mut Vec<Finding>) -> Result<(), AllocError>
 }
 
 fn push_lines(text: &mut String, name: &str, findings: &[Finding]) -> Result<(), AllocError>
-    ensures { OnOk result (string_bytes text.new ≡ string_bytes text.old ++ finding_lines name.now findings.now) }
+    ensures { OnOk result (string_bytes text.new ≡ string_bytes text.old ++ flat_map (finding_line name.now) findings.now) }
 {
     for finding in findings {
         push_line(text, name, finding)?;

@@ -4,7 +4,7 @@ ghost use Rattle.std.specs.Prelude.{◌≡◌, map, IfOk};
 ghost use Rattle.std.specs.Option.{option_map};
 ghost use Rattle.java_properties.specs.Maps.{characters};
 ghost use Rattle.properties_text.specs.Encoding.{encoding_of};
-ghost use Rattle.properties_tools.specs.Private.LookedUp.{value_texts};
+ghost use Rattle.properties_tools.specs.Private.Collected.{value_texts};
 ghost use Rattle.properties_tools.specs.Propedit.Get.{value_or, Gets, Prints};
 ghost use Rattle.properties_tools.specs.Propedit.Texts.{borrowed_characters};
 

@@ -2,14 +2,13 @@
 
 ghost use Rattle.std.specs.Prelude.{◌≡◌, Bool, Some, OnOk};
 ghost use Rattle.std.specs.Str.{chars};
-ghost use Rattle.properties_format.specs.Computed.Parts.{outcome_key};
+ghost use Rattle.properties_format.specs.Computed.Body.{outcome_key};
 ghost use Rattle.properties_format.specs.Items.{given};
-ghost use Rattle.properties_items.specs.BorrowedItems.{borrowed_content};
-ghost use Rattle.properties_items.specs.FoundItems.{IsNoItem};
+ghost use Rattle.properties_items.specs.BorrowedItems.{borrowed_content, IsNoItem};
 ghost use Rattle.properties_text.specs.Encoding.{encoding_of};
 ghost use Rattle.properties_tools.specs.Propedit.Check.{has_replacement};
 ghost use Rattle.properties_tools.specs.Private.FirstKeys.{IndexesSome};
-ghost use Rattle.properties_tools.specs.Private.LineFindings.{AddsKey, AddsLine, FindsInLines};
+ghost use Rattle.properties_tools.specs.Private.Collected.{AddsKey, AddsLine, FindsInLines};
 
 use crate::propedit::check::{Fault, Finding};
 use crate::propedit::first_keys::FirstKeys;

@@ -3,13 +3,13 @@
 ghost use Rattle.std.specs.Prelude.{◌≡◌, OnOk};
 ghost use Rattle.std.specs.Cow.{cow_str_bytes};
 ghost use Rattle.std.specs.Str.{chars};
-ghost use Rattle.properties_format.specs.Computed.Parts.{outcome_key};
+ghost use Rattle.properties_format.specs.Computed.Body.{outcome_key};
 ghost use Rattle.properties_format.specs.Items.{given};
 ghost use Rattle.properties_items.specs.BorrowedItems.{borrowed_content};
 ghost use Rattle.properties_text.specs.Encoding.{encoding_of};
 ghost use Rattle.properties_tools.specs.Propedit.Listing.{is_key_listed, Lists};
 ghost use Rattle.properties_tools.specs.Private.FirstKeys.{IndexesSome};
-ghost use Rattle.properties_tools.specs.Private.ListedKeys.{FindsListed, ListsKey, ListsLine};
+ghost use Rattle.properties_tools.specs.Private.Collected.{FindsListed, ListsKey, ListsLine};
 
 use crate::propedit::answer::Answer;
 use crate::propedit::error::Failure;

@@ -5,8 +5,8 @@ ghost use Rattle.std.specs.BTreeMap.{IsOrdered};
 ghost use Rattle.std.specs.Str.{chars};
 ghost use Rattle.std.specs.String.{string_cmp};
 ghost use Rattle.properties_text.specs.Encoding.{encoding_of};
-ghost use Rattle.properties_tools.specs.Propedit.Pairs.{ended_pair, is_pair_listed, separator_byte, ListsValues, PrintsPairs};
-ghost use Rattle.properties_tools.specs.Private.LastPairs.{pair_of, pairs_of, with_pair, FindsLastPairs, FindsLinePair, HasPlaces, PutsLine};
+ghost use Rattle.properties_tools.specs.Propedit.Listing.{ended_pair, is_pair_listed, listed_pairs, separator_byte, ListsValues, PrintsAll};
+ghost use Rattle.properties_tools.specs.Private.Collected.{pair_of, pairs_of, with_pair, FindsLastPairs, FindsLinePair, HasPlaces, PutsLine};
 
 use crate::propedit::answer::{Answer, push_ended, push_followed};
 use crate::propedit::error::Failure;
@@ -133,7 +133,7 @@ fn listed(
     prefix: &str,
     end: TextEnd,
 ) -> Result<Answer, AllocError>
-    ensures { IfOk result (PrintsPairs end (chars prefix.now) (pairs_of pairs.now)) }
+    ensures { IfOk result (PrintsAll (ended_pair end) (listed_pairs (chars prefix.now) (pairs_of pairs.now))) }
 {
     let mut text = Vec::new(alloc);
     for pair in pairs {

@@ -1,8 +1,8 @@
-// What is in a source that is held whole.
+// Refuses a source for its bytes, or for a malformed escape in a pair.
 
 ghost use Rattle.std.specs.Prelude.{◌≡◌};
 ghost use Rattle.properties_text.specs.Encoding.{encoding_of};
-ghost use Rattle.properties_tools.specs.Propedit.Sources.{is_in_utf_16, first_in_pair, IsIllFormedLine, IsNotUtf8, RefusesBytes, RefusesUnsound};
+ghost use Rattle.properties_tools.specs.Propedit.Sources.{is_in_utf_16, first_in_pair, RefusesBytes, RefusesUnsound};
 
 use crate::propedit::error::Failure;
 use crate::propedit::utf_8::{Flaw, first_flawed_line, has_mark};
@@ -43,21 +43,16 @@ pub fn refuse_bytes(source: &[u8], encoding: Encoding) -> Result<(), Failure>
     if let Some(number) = first_flawed_line(source, encoding, Flaw::Zero) {
         return Err(Failure::HoldsZero(number));
     }
-    if let Some(number) = first_flawed_line(source, encoding, Flaw::IllFormed) {
-        return Err(ill_formed(source, encoding, number));
-    }
-    Ok(())
-}
-
-// Returns the failure of an ill-formed line.
-fn ill_formed(source: &[u8], encoding: Encoding, number: usize) -> Failure
-    ensures { IsIllFormedLine (encoding_of encoding) source.now number result }
-{
+    let Some(number) = first_flawed_line(source, encoding, Flaw::IllFormed) else {
+        return Ok(());
+    };
     if in_utf_16(source, encoding) {
-        Failure::NotUtf16(number)
-    } else {
-        not_utf_8(source, number)
+        return Err(Failure::NotUtf16(number));
     }
+    if has_mark(source) {
+        return Err(Failure::NotUtf8ByMark(number));
+    }
+    Err(Failure::NotUtf8(number))
 }
 
 /// Returns whether UTF-16 is in force.
@@ -68,16 +63,5 @@ pub(crate) fn in_utf_16(source: &[u8], encoding: Encoding) -> bool
     match in_force {
         Encoding::UTF_16LE | Encoding::UTF_16BE => true,
         _ => false,
-    }
-}
-
-// Returns the failure of a line that is not UTF-8.
-fn not_utf_8(source: &[u8], number: usize) -> Failure
-    ensures { IsNotUtf8 source.now number result }
-{
-    if has_mark(source) {
-        Failure::NotUtf8ByMark(number)
-    } else {
-        Failure::NotUtf8(number)
     }
 }

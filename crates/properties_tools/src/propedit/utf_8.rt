@@ -1,7 +1,7 @@
 // The lines of a source whose bytes are not those of a text.
 
 ghost use Rattle.std.specs.Prelude.{◌≡◌, false};
-ghost use Rattle.properties_format.specs.Surrogates.{is_high, is_low};
+ghost use Rattle.properties_format.specs.Utf16.{is_high, is_low};
 ghost use Rattle.properties_text.specs.Encoding.{encoding_of};
 ghost use Rattle.properties_lines.specs.Scanner.{bytes_of};
 ghost use Rattle.properties_tools.specs.Propedit.Lines as spec;

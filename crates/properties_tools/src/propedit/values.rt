@@ -1,7 +1,7 @@
 // The values of some keys of a source.
 
 ghost use Rattle.properties_text.specs.Encoding.{encoding_of};
-ghost use Rattle.properties_tools.specs.Private.LookedUp.{FindsValues};
+ghost use Rattle.properties_tools.specs.Private.Collected.{FindsValues};
 
 use java_properties::{Encoding, PropertiesError, value_among_pairs};
 use std::alloc::Global;

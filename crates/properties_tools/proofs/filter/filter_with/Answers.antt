@@ -2,7 +2,7 @@ use Rattle.std.proofs.Common.{rules}
 use Rattle.counted_io.specs.Streams.{reader, sink}
 use Rattle.properties_tools.proofs.Borrowed.{filters-borrowed, filters-same}
 use Rattle.properties_tools.proofs.filter.filter_with.Goals as goal
-use Rattle.properties_format.specs.Repertoire.{repertoire}
+use Rattle.properties_format.specs.Encoding.{repertoire}
 
 pub returns-clause-filters : goal.returns-clause-filters
 returns-clause-filters g c =

@@ -1,6 +1,6 @@
 use Rattle.std.proofs.Common.{refl, inl}
 use Rattle.std.specs.Prelude.{Err}
-use Rattle.properties_format.specs.Repertoire.{repertoire}
+use Rattle.properties_format.specs.Encoding.{repertoire}
 use Rattle.properties_text.specs.Encoding.{encoding_of}
 use Rattle.counted_io.specs.Streams.{reader, sink}
 use Rattle.properties_tools.proofs.FilterErrors.{filter-shown}

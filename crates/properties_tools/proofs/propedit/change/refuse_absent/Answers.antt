@@ -7,7 +7,7 @@ use Rattle.properties_text.specs.Encoding.{encoding_of}
 use Rattle.java_properties.specs.Maps.{characters}
 use Rattle.properties_tools.specs.Propedit.Change.{HasKeys, IsFirstAbsent}
 use Rattle.properties_tools.specs.Propedit.Texts.{borrowed_characters}
-use Rattle.properties_tools.specs.Private.LookedUp.{first_without, value_texts}
+use Rattle.properties_tools.specs.Private.Collected.{first_without, value_texts}
 use Rattle.properties_tools.proofs.LookedUp.{as-many, none-absent, one-absent}
 use Rattle.properties_tools.proofs.propedit.change.refuse_absent.Goals as goal
 

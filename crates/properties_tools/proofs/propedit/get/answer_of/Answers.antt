@@ -6,7 +6,7 @@ use Rattle.std.proofs.lemmas.List.{flat_map_more, map_more, map-append}
 use Rattle.java_properties.specs.Maps.{characters}
 use Rattle.properties_tools.specs.Propedit.Get.{ended_if, found_status, value_or}
 use Rattle.properties_tools.specs.Propedit.Texts.{borrowed_characters}
-use Rattle.properties_tools.specs.Private.LookedUp.{value_texts}
+use Rattle.properties_tools.specs.Private.Collected.{value_texts}
 use Rattle.properties_tools.specs.declared.propedit.request.TextEnd.{TextEnd}
 use Rattle.properties_tools.proofs.propedit.get.answer_of.Goals.{in-Some+in_ok-push_ended-in-Some, in-None}
 use Rattle.properties_tools.proofs.propedit.get.answer_of.Goals as goal

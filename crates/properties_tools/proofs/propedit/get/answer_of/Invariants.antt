@@ -2,7 +2,7 @@ use Rattle.std.proofs.Common.{◌≡◌, take}
 use Rattle.std.specs.Prelude.{map}
 use Rattle.std.specs.List.{flat_map}
 use Rattle.std.specs.Option.{option_map}
-use Rattle.properties_tools.specs.Private.LookedUp.{value_texts}
+use Rattle.properties_tools.specs.Private.Collected.{value_texts}
 use Rattle.properties_tools.specs.Propedit.Get.{ended_if, found_status, value_or}
 use Rattle.properties_tools.specs.Propedit.Texts.{borrowed_characters}
 use Rattle.properties_tools.proofs.propedit.get.answer_of.Given as goal

@@ -1,6 +1,6 @@
 use Rattle.std.proofs.Common.{sym, ◌∙◌}
 use Rattle.properties_text.specs.Encoding.{encoding_of}
-use Rattle.properties_tools.specs.Private.LookedUp.{value_texts}
+use Rattle.properties_tools.specs.Private.Collected.{value_texts}
 use Rattle.properties_tools.proofs.LookedUp.{sound-with}
 use Rattle.properties_tools.proofs.propedit.get.get.Goals as goal
 

@@ -1,14 +1,14 @@
 use Rattle.std.proofs.Common.{◌≡◌, ◌∙◌, ap, refl, sym, subst, inl, inr, true, false, Bool, ℕ, List, []}
 use Rattle.std.specs.Str.{chars, IsUtf8}
 use Rattle.std.proofs.lemmas.Result.{err_from_is_err_and}
-use Rattle.properties_format.specs.Groups.{is_comment_line}
-use Rattle.properties_format.specs.EditedPairs.{AreInComments}
-use Rattle.properties_format.specs.MalformedEscapes.{escapes_from}
-use Rattle.properties_format.specs.Computed.Parts.{outcome_key}
+use Rattle.properties_format.specs.Lines.{is_comment_line}
+use Rattle.properties_format.specs.Edits.{AreInComments}
+use Rattle.properties_format.specs.Found.{escapes_from}
+use Rattle.properties_format.specs.Computed.Body.{outcome_key}
 use Rattle.properties_text.proofs.Texts.Joins.{is_comment_line-text}
 use Rattle.properties_items.specs.BorrowedItems.{borrowed_content, found_content}
 use Rattle.properties_items.proofs.FoundItems.{found-item}
-use Rattle.properties_tools.specs.Private.ListedKeys.{ListsKey}
+use Rattle.properties_tools.specs.Private.Collected.{ListsKey}
 use Rattle.properties_tools.proofs.LastPairs.{comment-none, comment-escapes}
 use Rattle.properties_tools.proofs.ListedKeys.{lists-none}
 use Rattle.properties_tools.proofs.propedit.list.add_line.Goals as goal

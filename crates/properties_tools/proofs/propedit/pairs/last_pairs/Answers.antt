@@ -6,7 +6,7 @@ use Rattle.properties_text.specs.Encoding.{encoding_of}
 use Rattle.properties_lines.specs.LineJoiner.{LineState}
 use Rattle.java_properties.proofs.Items.{stopped, ended}
 use Rattle.java_properties.proofs.SliceReads.{slice_of}
-use Rattle.properties_tools.specs.Private.LastPairs.{pairs_of}
+use Rattle.properties_tools.specs.Private.Collected.{pairs_of}
 use Rattle.properties_tools.proofs.LastPairs.{collected-at, pairs-none, pairs-more, pairs-lost, pairs-failed, pairs-read, slice-pairs}
 use Rattle.properties_tools.proofs.propedit.pairs.last_pairs.Goals as goal
 

@@ -5,7 +5,7 @@ use Rattle.std.specs.String.{string_cmp}
 use Rattle.properties_text.specs.Encoding.{encoding_of}
 use Rattle.properties_lines.specs.LineReader.{lines_left}
 use Rattle.java_properties.proofs.SliceReads.{slice_of, slice_reader}
-use Rattle.properties_tools.specs.Private.LastPairs.{pairs_of, HasPlaces}
+use Rattle.properties_tools.specs.Private.Collected.{pairs_of, HasPlaces}
 use Rattle.properties_tools.proofs.LastPairs.{HasCollected}
 use Rattle.properties_tools.proofs.propedit.pairs.last_pairs.Given as goal
 

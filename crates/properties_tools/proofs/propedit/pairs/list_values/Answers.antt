@@ -1,4 +1,4 @@
-use Rattle.properties_tools.specs.Private.LastPairs.{pairs_of}
+use Rattle.properties_tools.specs.Private.Collected.{pairs_of}
 use Rattle.properties_tools.proofs.propedit.pairs.list_values.Goals as goal
 
 pub returns-in_ok-listed-in-Ok : goal.returns-in_ok-listed-in-Ok

@@ -1,8 +1,8 @@
 use Rattle.std.proofs.Common.{◌≡◌, take}
 use Rattle.std.specs.List.{flat_map}
 use Rattle.std.specs.Str.{chars}
-use Rattle.properties_tools.specs.Propedit.Pairs.{ended_pair, listed_pairs}
-use Rattle.properties_tools.specs.Private.LastPairs.{pairs_of}
+use Rattle.properties_tools.specs.Propedit.Listing.{ended_pair, listed_pairs}
+use Rattle.properties_tools.specs.Private.Collected.{pairs_of}
 use Rattle.properties_tools.proofs.propedit.pairs.listed.Given as goal
 
 abbrev pub invariant-loop-pair : goal.invariant-loop-pair

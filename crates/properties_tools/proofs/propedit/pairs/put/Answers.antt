@@ -7,8 +7,8 @@ use Rattle.std.specs.Str.{chars}
 use Rattle.std.specs.String.{string_cmp}
 use Rattle.std.proofs.lemmas.List.{map-append, length-map}
 use Rattle.properties_items.specs.Texts.{characters}
-use Rattle.properties_tools.specs.Propedit.Pairs.{keys_of}
-use Rattle.properties_tools.specs.Private.LastPairs.{pair_of, pairs_of, place_of, HasPlaces}
+use Rattle.properties_tools.specs.Propedit.Listing.{keys_of}
+use Rattle.properties_tools.specs.Private.Collected.{pair_of, pairs_of, place_of, HasPlaces}
 use Rattle.properties_tools.proofs.LastPairs.{kept-with, new-with, place-found, place-within, places-new, set-texts}
 use Rattle.properties_tools.proofs.propedit.pairs.put.Goals as goal
 

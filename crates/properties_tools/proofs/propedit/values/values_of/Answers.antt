@@ -4,11 +4,11 @@ use Rattle.std.specs.Option.{option_map}
 use Rattle.std.specs.Str.{chars}
 use Rattle.std.proofs.lemmas.List.{map_more, map-append}
 use Rattle.std.proofs.lemmas.Result.{err_from_is_err_and}
-use Rattle.properties_format.specs.EditedPairs.{HasPairValue}
+use Rattle.properties_format.specs.Edits.{HasPairValue}
 use Rattle.properties_text.specs.Encoding.{encoding_of}
 use Rattle.java_properties.specs.Maps.{characters}
 use Rattle.properties_tools.specs.Propedit.Get.{HaveValues}
-use Rattle.properties_tools.specs.Private.LookedUp.{value_texts}
+use Rattle.properties_tools.specs.Private.Collected.{value_texts}
 use Rattle.properties_tools.proofs.LookedUp.{have-more, lost}
 use Rattle.properties_tools.proofs.propedit.values.values_of.Goals as goal
 

@@ -3,7 +3,7 @@ use Rattle.std.specs.Prelude.{map}
 use Rattle.properties_text.specs.Encoding.{encoding_of}
 use Rattle.java_properties.specs.Maps.{characters}
 use Rattle.properties_tools.specs.Propedit.Get.{HaveValues}
-use Rattle.properties_tools.specs.Private.LookedUp.{value_texts}
+use Rattle.properties_tools.specs.Private.Collected.{value_texts}
 use Rattle.properties_tools.proofs.propedit.values.values_of.Given as goal
 
 abbrev pub invariant-loop-key : goal.invariant-loop-key

@@ -1,6 +1,6 @@
 use Rattle.std.proofs.Common.{◌≡◌, ◌∙◌, ◌++◌, ◌∷◌, [], ap, ap₂, refl, sym}
 use Rattle.std.specs.Str.{chars}
-use Rattle.properties_format.specs.Groups.{is_comment_line}
+use Rattle.properties_format.specs.Lines.{is_comment_line}
 use Rattle.properties_text.proofs.Texts.Joins.{is_comment_line-text}
 use Rattle.properties_tools.specs.Propedit.Check.{escape_finding}
 use Rattle.properties_tools.proofs.LineFindings.{adds-malformed}
