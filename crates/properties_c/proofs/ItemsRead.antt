@@ -3,7 +3,7 @@ use Rattle.std.proofs.Common.{◌≡◌, ◌≢◌, ℕ, ◌+◌, ◌^◌, ◌<�
 use Rattle.std.specs.Prelude.{◌⊎◌}
 use Rattle.std.specs.Borrow.{Bor}
 use Rattle.properties_format.specs.Encoding.{Encoding}
-use Rattle.properties_format.specs.Entries.{malformed}
+use Rattle.properties_format.specs.Items.{malformed}
 use Rattle.properties_format.specs.Escapes.{Malformed, not_enough_digits, not_hex, invalid_character}
 use Rattle.properties_format.specs.Lines.{end}
 use Rattle.java_properties.specs.Errors.{kind_of, malformed_kind}
@@ -12,8 +12,8 @@ use Rattle.properties_items.specs.declared.error.PropertiesError.{PropertiesErro
 use Rattle.properties_items.specs.declared.line.Line.{Line}
 use Rattle.java_properties.proofs.SliceReads.{slice_reader, slice-faultless, slice-numbered}
 use Rattle.properties_c.specs.Crossing.{Crossing, Delivers, Refuses}
-use Rattle.properties_c.specs.PackedItems.{packed_items, reading_status, reading_line}
-use Rattle.properties_c.specs.Private.Lines.{line_bytes}
+use Rattle.properties_c.specs.Packed.{packed_items, reading_status, reading_line}
+use Rattle.properties_c.specs.Private.Results.{line_bytes}
 use Rattle.properties_c.specs.Reading.{GivesItems}
 use Rattle.properties_c.specs.Statuses.{status_of_kind, malformed_status, error_line, line_or_none}
 use Rattle.properties_c.specs.declared.status.Status.{Status}

@@ -2,9 +2,8 @@
 use Rattle.std.proofs.Common.{◌≡◌, ℕ, List, [], ◌∷◌, ◌++◌, length, ap, sym, ◌∙◌, arith, length-append, append_assoc}
 use Rattle.std.proofs.lemmas.List.{nil_from_length}
 use Rattle.properties_format.specs.Edits.{Edit, put, remove, set_value}
-use Rattle.properties_format.specs.Entries.{Content, comment, pair}
-use Rattle.properties_c.specs.PackedLists.{Meaning, MeansEdit, MeansLine, AreMeant, Begins, IsPackedList}
-use Rattle.properties_c.specs.Records.{Record, packed_all}
+use Rattle.properties_format.specs.Items.{Content, comment, pair}
+use Rattle.properties_c.specs.Packed.{Meaning, MeansEdit, MeansLine, AreMeant, Begins, IsPackedList, Record, packed_all}
 use Rattle.properties_c.proofs.Packing.{length-packed}
 use Rattle.properties_c.proofs.Splitting.{packed-only}
 

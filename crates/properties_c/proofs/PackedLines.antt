@@ -7,10 +7,9 @@ use Rattle.std.proofs.lemmas.List.{drop_more, drop-drop}
 use Rattle.std.proofs.lemmas.Str.{encodes-chars, IsUtf8-string_bytes}
 use Rattle.java_properties.specs.ReadLines.{entries_in}
 use Rattle.properties_items.specs.declared.line.Line.{Line}
-use Rattle.properties_c.specs.PackedItems.{packed_items}
-use Rattle.properties_c.specs.Records.{Record, packed}
-use Rattle.properties_c.specs.Private.Lines.{line_record, line_bytes, packed_lines}
-use Rattle.properties_c.specs.Private.Places.{Puts}
+use Rattle.properties_c.specs.Packed.{packed_items, Record, packed}
+use Rattle.properties_c.specs.Private.Results.{line_record, line_bytes, packed_lines}
+use Rattle.properties_c.specs.Private.Lists.{Puts}
 use Rattle.properties_c.proofs.Packing.{Puts-parts}
 
 pub encoded-text : {Z : Type 0} (text : String Z) → encode_utf8_all (chars (string_bytes text)) ≡ string_bytes text

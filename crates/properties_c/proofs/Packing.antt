@@ -1,10 +1,8 @@
 -- How long packed bytes are, and where they stand.
 use Rattle.std.proofs.Common.{◌≡◌, ℕ, ◌+◌, ◌≤◌, List, ◌++◌, length, take, drop, ap, sym, ◌∙◌, refl, arith, length-append, append_assoc}
 use Rattle.std.proofs.lemmas.List.{take_at, drop_at, drop-drop, length-take-le}
-use Rattle.properties_c.specs.Numbers.{number_bytes}
-use Rattle.properties_c.specs.Records.{Record, packed}
-use Rattle.properties_c.specs.Private.Headers.{header_bytes}
-use Rattle.properties_c.specs.Private.Places.{Puts}
+use Rattle.properties_c.specs.Packed.{number_bytes, Record, packed}
+use Rattle.properties_c.specs.Private.Lists.{header_bytes, Puts}
 
 pub length-number_bytes : (n : ℕ) → length (number_bytes n) ≡ 8
 unfolding number_bytes

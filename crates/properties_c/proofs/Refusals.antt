@@ -2,7 +2,7 @@
 use Rattle.std.proofs.Common.{ℕ, List, refl, inl, inr}
 use Rattle.std.specs.Prelude.{◌⊎◌, ℤ}
 use Rattle.properties_c.specs.Crossing.{crossing, Answers, Refuses}
-use Rattle.properties_c.specs.PackedLists.{Meaning, IsBadList, LacksText}
+use Rattle.properties_c.specs.Packed.{Meaning, IsBadList, LacksText}
 use Rattle.properties_c.specs.Private.Lists.{RefusesList}
 use Rattle.properties_c.specs.declared.status.Status.{Status}
 use Rattle.properties_c.specs.declared.status.Status.TheVariants.{NoMemory, NotUtf8, BadList}

@@ -4,17 +4,17 @@ use Rattle.std.specs.Prelude.{if◌then◌else◌}
 use Rattle.std.specs.List.{flat_map}
 use Rattle.std.specs.Borrow.{Bor}
 use Rattle.properties_format.specs.Encoding.{Encoding}
-use Rattle.properties_format.specs.Entries.{Entry, malformed}
+use Rattle.properties_format.specs.Items.{Entry, malformed}
 use Rattle.properties_format.specs.Escapes.{Malformed, not_enough_digits, not_hex, invalid_character}
 use Rattle.properties_format.specs.Lines.{end}
-use Rattle.properties_format.specs.MalformedEscapes as format
+use Rattle.properties_format.specs.Found as format
 use Rattle.java_properties.specs.Errors.{malformed_kind}
-use Rattle.java_properties.specs.MalformedEscapes.{escape_records}
+use Rattle.java_properties.specs.Findings.{escape_records}
 use Rattle.java_properties.specs.ReadLines.{IsReading, ReadsWhole, StopsMalformed}
 use Rattle.properties_items.specs.declared.error.PropertiesError.{PropertiesError}
 use Rattle.java_properties.proofs.SliceReads.{slice_reader, slice-read, slice-whole}
-use Rattle.properties_c.specs.PackedFindings.{escape_bytes, escape_kind, finding_bytes}
-use Rattle.properties_c.specs.Private.Findings.{found_bytes, kind_of_finding}
+use Rattle.properties_c.specs.Packed.{escape_bytes, escape_kind, finding_bytes}
+use Rattle.properties_c.specs.Private.Results.{found_bytes, kind_of_finding}
 
 found-same : (how : Malformed) (number more : ℕ) → finding_bytes (kind_of_finding (malformed_kind how)) number more [] ≡ finding_bytes (escape_kind how) number more []
 found-same not_enough_digits number more = refl

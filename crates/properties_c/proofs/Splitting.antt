@@ -3,10 +3,8 @@ use Rattle.std.proofs.Common.{◌≡◌, ℕ, ◌^◌, ◌<◌, List, ◌++◌, 
 use Rattle.std.specs.Int.{w64, from_le_bytes}
 use Rattle.std.proofs.lemmas.List.{take_at, drop_at, take-append-drop}
 use Rattle.std.proofs.lemmas.Nat.{from_le_bytes-to_le_bytes_8}
-use Rattle.properties_c.specs.Numbers.{number_bytes}
-use Rattle.properties_c.specs.Records.{Record, packed, IsSized}
-use Rattle.properties_c.specs.Private.Headers.{header_bytes, IsSizedHeader}
-use Rattle.properties_c.specs.Private.Lists.{Splits}
+use Rattle.properties_c.specs.Packed.{number_bytes, Record, packed, IsSized}
+use Rattle.properties_c.specs.Private.Lists.{header_bytes, IsSizedHeader, Splits}
 use Rattle.properties_c.specs.declared.records.Header.{Header}
 use Rattle.properties_c.proofs.Packing.{length-number_bytes}
 

@@ -2,14 +2,13 @@
 use Rattle.std.proofs.Common.{◌≡◌, ℕ, ◌<◌, List, [], ◌∷◌, ◌++◌, length, map, sym, ◌∙◌, arith, append_assoc}
 use Rattle.std.proofs.lemmas.List.{append-nil, map-append}
 use Rattle.std.proofs.lemmas.List.Concat.{flat_map-append}
-use Rattle.properties_format.specs.Entries.{Content}
+use Rattle.properties_format.specs.Items.{Content}
 use Rattle.properties_editing.specs.declared.edit.Edit.{Edit}
 use Rattle.java_properties.specs.Calls.{call_in, calls_in}
 use Rattle.java_properties.specs.Editing.{edit_in, edits_in}
 use Rattle.java_properties.specs.PropertiesWriter.{call_of}
 use Rattle.java_properties.specs.declared.writer.calls.Call.{Call}
-use Rattle.properties_c.specs.PackedLists.{Meaning, edits, lines, AreMeant, Begins}
-use Rattle.properties_c.specs.Records.{Record, IsSized}
+use Rattle.properties_c.specs.Packed.{Meaning, edits, lines, AreMeant, Begins, Record, IsSized}
 use Rattle.properties_c.specs.Private.Lists.{Splits, IsFirst, RefusesFirst, RefusesRecord}
 use Rattle.properties_c.specs.declared.status.Status.{Status}
 use Rattle.properties_c.specs.declared.status.Status.TheVariants.{NoMemory, NotUtf8, BadList}

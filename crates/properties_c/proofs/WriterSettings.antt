@@ -2,19 +2,17 @@
 use Rattle.std.proofs.Common.{◌≡◌, not, ℕ, Bool, true, false, List, [], ◌∷◌, map, refl, sym, inl, inr, Result, Err}
 use mathlib.Core.Bool.{beq}
 use Rattle.properties_format.specs.Encoding.{Encoding}
-use Rattle.properties_format.specs.Entries.{Content, comment, pair}
+use Rattle.properties_format.specs.Items.{Content, comment, pair}
 use Rattle.properties_format.specs.Settings.{Settings, IsGoodPrefix, IsGoodSeparator}
-use Rattle.properties_format.specs.Writing.{is_accepted}
-use Rattle.java_properties.specs.PropertiesWriter.{Writing, call_of}
-use Rattle.java_properties.specs.Settings.{SetsText}
+use Rattle.properties_format.specs.Writing.{is_accepted, Call}
+use Rattle.java_properties.specs.PropertiesWriter.{Writing, call_of, SetsText}
 use Rattle.properties_items.specs.Errors.{kind_of}
 use Rattle.properties_items.specs.declared.error.ErrorKind.TheVariants as kind
 use Rattle.properties_items.specs.declared.error.PropertiesError.{PropertiesError}
 use Rattle.std.specs.Prelude.{Ok}
 use Rattle.std.specs.Global.{Vec}
-use Rattle.properties_format.specs.Writing.{Call}
 use Rattle.properties_c.specs.Crossing.{Crossing, Delivers, Refuses}
-use Rattle.properties_c.specs.Private.Writes.{SetsAll, WritesCalls, has_refused_call}
+use Rattle.properties_c.specs.Private.Results.{SetsAll, WritesCalls, has_refused_call}
 use Rattle.properties_c.specs.Statuses.{status_of_kind}
 use Rattle.properties_c.specs.Writing.{WritesLines, has_refused}
 use Rattle.properties_c.specs.declared.status.Status.{Status}

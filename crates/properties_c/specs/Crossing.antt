@@ -1,9 +1,9 @@
 -- What a call leaves in C's memory, and when its result fits there.
-use Rattle.std.specs.Prelude.{◌≡◌, ◌⊎◌, ◌≤◌, ◌<◌, ◌++◌, ℕ, ℤ, List, Result, Ok, Err, drop, length}
+use Rattle.std.specs.Prelude.{◌≡◌, ◌⊎◌, ◌≤◌, ◌<◌, ◌++◌, ℕ, ℤ, List, Option, Result, Ok, Err, drop, length}
 use Rattle.std.specs.Global.{Vec}
 use Rattle.properties_items.specs.Errors.{kind_of}
 use Rattle.properties_items.specs.declared.error.PropertiesError.{PropertiesError}
-use Rattle.properties_c.specs.Statuses.{status_number, status_of_kind, error_line}
+use Rattle.properties_c.specs.Statuses.{status_number, status_of_kind, error_line, text_of, IsStatusAt}
 use Rattle.properties_c.specs.declared.status.Status.{Status}
 use Rattle.properties_c.specs.declared.status.Status.TheVariants.{Done, NoRoom}
 
@@ -54,3 +54,7 @@ Fails error x = Refuses (status_of_kind (kind_of error)) (error_line error) x
 abbrev pub Crosses : Result (Vec ℕ) PropertiesError → Crossing → Type 0
 Crosses (Ok bytes) x = Delivers bytes.items Done 0 x
 Crosses (Err error) x = Fails error x
+
+-- The text of the status with this number was given.
+abbrev pub GivesTextAt : ℤ → Crossing → Type 0
+GivesTextAt number x = (found : Option Status) × IsStatusAt number found × Delivers (text_of found) Done 0 x

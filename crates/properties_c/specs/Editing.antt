@@ -1,17 +1,20 @@
 -- What the exports that edit give.
 use Rattle.std.specs.Prelude.{◌⊎◌, ℕ, Bool, true, false, List, [], ◌∷◌, Result, IsErrAnd}
 use Rattle.std.specs.Global.{Vec}
-use Rattle.properties_format.specs.Encoding.{Encoding}
-use Rattle.properties_format.specs.Repertoire.{Repertoire, repertoire}
-use Rattle.properties_format.specs.Edits.{Edit, put, remove, set_value}
+use Rattle.properties_format.specs.Encoding.{Encoding, Repertoire, repertoire}
+use Rattle.properties_format.specs.Edits.{Edit, remove}
 use Rattle.java_properties.specs.Editing.{EditsPairs, MakesEdits}
 use Rattle.java_properties.specs.Errors.{IsBareError}
 use Rattle.properties_items.specs.declared.error.ErrorKind.TheVariants as kind
 use Rattle.properties_items.specs.declared.error.PropertiesError.{PropertiesError}
-use Rattle.properties_c.specs.Crossing.{Crossing, Crosses}
-use Rattle.properties_c.specs.Inputs.{InEncoding, WithFlags, WithText, for_edits, for_keys}
-use Rattle.properties_c.specs.PackedLists.{edits, WithList}
+use Rattle.properties_c.specs.Crossing.{Crossing, Crosses, Delivers, Refuses}
+use Rattle.properties_c.specs.Inputs.{InEncoding, WithFlags, WithText, for_edits, for_keys, ToTarget}
+use Rattle.properties_c.specs.Packed.{edits, WithList}
 use Rattle.properties_c.specs.declared.encoding.Flags.{Flags}
+use Rattle.properties_format.specs.Converting.{IsConverted}
+use Rattle.properties_text.specs.Printing.{in_format}
+use Rattle.properties_text.specs.declared.print.Repertoire as code
+use Rattle.properties_c.specs.declared.status.Status.TheVariants.{Done, NoMemory}
 
 -- The result of edits, given whether comments are read, and what may stand unescaped in what is put in.
 abbrev pub EditsAs : Bool → Repertoire → List ℕ → List Edit → Result (Vec ℕ) PropertiesError → Type 0
@@ -29,13 +32,10 @@ MakesOne f e source edit result = MakesAll f e source (edit ∷ []) result ⊎ I
 abbrev pub GivesEdited : (Result (Vec ℕ) PropertiesError → Type 0) → Crossing → Type 0
 GivesEdited IsMade x = (outcome : Result (Vec ℕ) PropertiesError) × IsMade outcome × Crosses outcome x
 
-abbrev pub SetsValueAcross : List ℕ → ℕ → ℕ → List ℕ → List ℕ → Crossing → Type 0
-SetsValueAcross source encoding flags key value x =
-    InEncoding encoding (λ e. WithFlags for_edits flags (λ f. WithText key (λ k. WithText value (λ v. GivesEdited (MakesOne f e source (set_value k v)) x) x) x) x) x
-
-abbrev pub SetsKeyAcross : List ℕ → ℕ → ℕ → List ℕ → List ℕ → Crossing → Type 0
-SetsKeyAcross source encoding flags key value x =
-    InEncoding encoding (λ e. WithFlags for_edits flags (λ f. WithText key (λ k. WithText value (λ v. GivesEdited (MakesOne f e source (put k v)) x) x) x) x) x
+-- a put, or the edit that sets a value
+abbrev pub SetsAcross : (List ℕ → List ℕ → Edit) → List ℕ → ℕ → ℕ → List ℕ → List ℕ → Crossing → Type 0
+SetsAcross edit source encoding flags key value x =
+    InEncoding encoding (λ e. WithFlags for_edits flags (λ f. WithText key (λ k. WithText value (λ v. GivesEdited (MakesOne f e source (edit k v)) x) x) x) x) x
 
 abbrev pub RemovesKeyAcross : List ℕ → ℕ → ℕ → List ℕ → Crossing → Type 0
 RemovesKeyAcross source encoding flags key x =
@@ -44,3 +44,15 @@ RemovesKeyAcross source encoding flags key x =
 abbrev pub EditsAcross : List ℕ → ℕ → ℕ → List ℕ → Crossing → Type 0
 EditsAcross source encoding flags list x =
     InEncoding encoding (λ e. WithFlags for_edits flags (λ f. WithList edits list (λ es. GivesEdited (MakesAll f e source es) x) x) x) x
+
+-- ---- What the export that converts gives.
+
+-- The source is converted to a target, readable or not, and the result is given.
+pub record GivesConverted (e : Encoding) (target : code.Repertoire) (readable : Bool) (source : List ℕ) (x : Crossing) : Type 0 where
+  pub bytes : List ℕ
+  pub converted : IsConverted e (in_format target) readable source bytes
+  pub given : Delivers bytes Done 0 x
+
+abbrev pub ConvertsAcross : List ℕ → ℕ → ℕ → Bool → Crossing → Type 0
+ConvertsAcross source encoding target readable x =
+    InEncoding encoding (λ e. ToTarget target (λ t. GivesConverted e t readable source x ⊎ Refuses NoMemory 0 x) x) x

@@ -1,14 +1,8 @@
 pub mod Statuses
 pub mod Crossing
-pub mod Texts
 pub mod Inputs
-pub mod Numbers
-pub mod Records
-pub mod PackedItems
-pub mod PackedFindings
-pub mod PackedLists
 pub mod Reading
 pub mod Editing
-pub mod Converting
 pub mod Writing
 pub mod Private
+pub mod Packed

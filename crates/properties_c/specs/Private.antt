@@ -1,6 +1,2 @@
-pub mod Places
-pub mod Headers
-pub mod Lines
-pub mod Findings
 pub mod Lists
-pub mod Writes
+pub mod Results

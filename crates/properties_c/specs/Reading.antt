@@ -3,18 +3,16 @@ use Rattle.std.specs.Global.{Global}
 use Rattle.std.specs.Prelude.{◌≡◌, ◌⊎◌, ℕ, Bool, true, false, List, Option, Some, None, Result, Ok, Err, encode_utf8_all}
 use Rattle.std.specs.declared.string.String.{String}
 use Rattle.properties_format.specs.Encoding.{Encoding}
-use Rattle.properties_format.specs.Entries.{Entry}
+use Rattle.properties_format.specs.Items.{Entry}
 use Rattle.properties_format.specs.Lines.{end}
-use Rattle.properties_format.specs.MalformedEscapes.{MalformedEscape, AreMalformedEscapes}
-use Rattle.java_properties.specs.KeyLines.{KeyEntry, AreKeyLines}
+use Rattle.properties_format.specs.Found.{MalformedEscape, AreMalformedEscapes}
+use Rattle.java_properties.specs.Findings.{KeyEntry, AreKeyLines, TellsPairValue, TellsValue}
 use Rattle.java_properties.specs.ReadLines.{IsReading}
-use Rattle.java_properties.specs.Values.{TellsPairValue, TellsValue}
 use Rattle.properties_items.specs.Texts.{characters}
 use Rattle.properties_items.specs.declared.error.PropertiesError.{PropertiesError}
 use Rattle.properties_c.specs.Crossing.{Crossing, Delivers, Fails, Refuses}
 use Rattle.properties_c.specs.Inputs.{InEncoding, WithFlags, WithText, for_keys}
-use Rattle.properties_c.specs.PackedItems.{packed_items, reading_status, reading_line}
-use Rattle.properties_c.specs.PackedFindings.{packed_findings}
+use Rattle.properties_c.specs.Packed.{packed_items, reading_status, reading_line, packed_findings}
 use Rattle.properties_c.specs.declared.status.Status.TheVariants.{Done, NoKey, NoMemory}
 
 -- ---- a value

@@ -1,5 +1,5 @@
 -- The statuses of calls: their numbers, and those of errors.
-use Rattle.std.specs.Prelude.{ℕ, ℤ, pos, Option, Some, None}
+use Rattle.std.specs.Prelude.{ℕ, ℤ, pos, Option, Some, None, ◌≡◌, List, codes}
 use Rattle.properties_format.specs.Escapes.{Malformed, not_enough_digits, not_hex, invalid_character}
 use Rattle.properties_items.specs.Errors.{line_of}
 use Rattle.properties_items.specs.declared.error.ErrorKind.{ErrorKind}
@@ -53,3 +53,32 @@ line_or_none (Some line) = line
 -- the line of an error, or 0
 abbrev pub error_line : PropertiesError → ℕ
 error_line error = line_or_none (line_of error)
+
+-- ---- The texts of statuses.
+
+abbrev pub status_text : Status → List ℕ
+status_text Done = codes "No error."
+status_text NoRoom = codes "The room is too small."
+status_text NoKey = codes "No pair has the key."
+status_text NoMemory = codes "Out of memory."
+status_text UnknownEncoding = codes "Unknown encoding or flags."
+status_text NotUtf8 = codes "A text isn't UTF-8."
+status_text BadList = codes "A packed list isn't well formed."
+status_text NotEnoughDigits = codes "Malformed \\uxxxx encoding: not enough digits."
+status_text NotHex = codes "Malformed \\uxxxx encoding: not hex."
+status_text InvalidCharacter = codes "Malformed \\uxxxx encoding: invalid character."
+status_text TooManyLines = codes "Too many lines."
+status_text Unsupported = codes "Encoding can't be edited."
+status_text BadPrefix = codes "Bad comment prefix."
+status_text BadSeparator = codes "Bad key/value separator."
+status_text EmptyKey = codes "Empty key with a blank key/value separator."
+
+-- the text of a status, or that of a number which no status has
+abbrev pub text_of : Option Status → List ℕ
+text_of None = codes "Unknown status."
+text_of (Some s) = status_text s
+
+-- This is the status with this number, or no status has the number.
+abbrev pub IsStatusAt : ℤ → Option Status → Type 0
+IsStatusAt number None = (s : Status) → ¬ status_number s ≡ number
+IsStatusAt number (Some s) = status_number s ≡ number

@@ -2,14 +2,14 @@
 use Rattle.std.specs.Prelude.{◌≡◌, ◌⊎◌, ℕ, Bool, true, false, not, List, map, if◌then◌else◌}
 use Rattle.std.specs.List.{list_any}
 use Rattle.properties_format.specs.Encoding.{Encoding, output_encoding}
-use Rattle.properties_format.specs.Entries.{Content}
+use Rattle.properties_format.specs.Items.{Content}
 use Rattle.properties_format.specs.Settings.{Settings, default_settings, IsGoodPrefix, IsGoodSeparator}
 use Rattle.properties_format.specs.Text.{LineEnding, cr, lf, crlf, is_empty}
 use Rattle.properties_format.specs.Writing.{is_accepted, wrote}
 use Rattle.java_properties.specs.PropertiesWriter.{call_of}
 use Rattle.properties_c.specs.Crossing.{Crossing, Delivers, Refuses}
 use Rattle.properties_c.specs.Inputs.{InEncoding, WithFlags, WithText, for_lines}
-use Rattle.properties_c.specs.PackedLists.{lines, WithList}
+use Rattle.properties_c.specs.Packed.{lines, WithList}
 use Rattle.properties_c.specs.declared.encoding.Flags.{Flags}
 use Rattle.properties_c.specs.declared.status.Status.TheVariants.{Done, NoMemory, BadPrefix, BadSeparator, EmptyKey}
 

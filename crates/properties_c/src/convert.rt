@@ -2,7 +2,7 @@
 
 ghost use Rattle.std.specs.Prelude.{◌≡◌};
 ghost use Rattle.properties_text.specs.Converted.{is_readable};
-ghost use Rattle.properties_c.specs.Converting.{ConvertsAcross};
+ghost use Rattle.properties_c.specs.Editing.{ConvertsAcross};
 ghost use Rattle.properties_c.specs.Crossing.{crossing};
 
 use crate::encoding::{encoding_numbered, target_numbered};

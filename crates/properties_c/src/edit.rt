@@ -5,7 +5,7 @@ ghost use Rattle.java_properties.specs.Editing.{edit_in, edits_in};
 ghost use Rattle.properties_format.specs.Edits.{put, remove, set_value};
 ghost use Rattle.properties_text.specs.Encoding.{encoding_of};
 ghost use Rattle.properties_c.specs.Crossing.{crossing};
-ghost use Rattle.properties_c.specs.Editing.{EditsAcross, MakesAll, MakesOne, RemovesKeyAcross, SetsKeyAcross, SetsValueAcross};
+ghost use Rattle.properties_c.specs.Editing.{EditsAcross, MakesAll, MakesOne, RemovesKeyAcross, SetsAcross};
 
 use crate::encoding::{FOR_EDITS, FOR_KEYS, Flags, encoding_numbered, flags_numbered, text_of};
 use crate::lists::edits_of;
@@ -28,7 +28,7 @@ pub extern "C" fn todrenval_set_value(
     line: &mut usize,
 ) -> i32
     ensures { let x = crossing out.old result length.new line.new out.new in
-        SetsValueAcross source.now encoding flags key.now value.now x }
+        SetsAcross set_value source.now encoding flags key.now value.now x }
 {
     let Some(encoding) = encoding_numbered(encoding) else {
         return refuse(Status::UnknownEncoding, length, line);
@@ -60,7 +60,7 @@ pub extern "C" fn todrenval_set_key(
     line: &mut usize,
 ) -> i32
     ensures { let x = crossing out.old result length.new line.new out.new in
-        SetsKeyAcross source.now encoding flags key.now value.now x }
+        SetsAcross put source.now encoding flags key.now value.now x }
 {
     let Some(encoding) = encoding_numbered(encoding) else {
         return refuse(Status::UnknownEncoding, length, line);

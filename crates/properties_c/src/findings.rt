@@ -3,10 +3,10 @@
 
 ghost use Rattle.std.specs.Prelude.{◌≡◌, ◌++◌, OnOk};
 ghost use Rattle.std.specs.List.{flat_map};
-ghost use Rattle.java_properties.specs.KeyLines.{key_line_entry, key_line_entries};
+ghost use Rattle.java_properties.specs.Findings.{key_line_entry, key_line_entries};
 ghost use Rattle.properties_text.specs.Encoding.{encoding_of};
-ghost use Rattle.properties_c.specs.PackedFindings.{finding_bytes, repeat_bytes};
-ghost use Rattle.properties_c.specs.Private.Findings.{found_bytes, kind_of_finding, FindsAll};
+ghost use Rattle.properties_c.specs.Packed.{finding_bytes, repeat_bytes};
+ghost use Rattle.properties_c.specs.Private.Results.{found_bytes, kind_of_finding, FindsAll};
 
 use crate::numbers::push_number;
 use java_properties::{
@@ -74,7 +74,7 @@ fn push_repeat(bytes: &mut Vec<u8>, key: &KeyLine) -> Result<(), AllocError>
     )
 }
 
-#[tactic(auto, using(std::proofs::Common::append_assoc), unfolding(crate::specs::PackedFindings::finding_bytes))]
+#[tactic(auto, using(std::proofs::Common::append_assoc), unfolding(crate::specs::Packed::finding_bytes))]
 fn push_finding(
     bytes: &mut Vec<u8>,
     kind: usize,

@@ -3,9 +3,8 @@
 ghost use Rattle.std.specs.Prelude.{◌≡◌, ◌⊎◌, ◌≤◌, ◌++◌, length, drop, IfSome};
 ghost use Rattle.java_properties.specs.ReadLines.{entries_in};
 ghost use Rattle.properties_c.specs.Crossing.{crossing, Delivers, Refuses};
-ghost use Rattle.properties_c.specs.PackedItems.{packed_items};
-ghost use Rattle.properties_c.specs.Records.{record_in};
-ghost use Rattle.properties_c.specs.Private.Lines.{line_record, packed_lines};
+ghost use Rattle.properties_c.specs.Packed.{packed_items, record_in};
+ghost use Rattle.properties_c.specs.Private.Results.{line_record, packed_lines};
 ghost use Rattle.properties_c.specs.declared.status.Status.TheVariants.{NoMemory};
 
 use crate::out::{answer, lack_room, refuse};

@@ -1,7 +1,7 @@
 // Packed lists that come from C: edits, and lines to write.
 
 ghost use Rattle.std.specs.Prelude.{◌≡◌};
-ghost use Rattle.properties_c.specs.Records.{record_in};
+ghost use Rattle.properties_c.specs.Packed.{record_in};
 ghost use Rattle.properties_c.specs.Private.Lists.{CopiesText, MakesCall, MakesEdit, ReadsCalls, ReadsEdits, ReadsFirstCall, ReadsFirstEdit};
 ghost use Rattle.properties_c.specs.declared.status.Status.TheVariants.{NoMemory};
 

@@ -1,13 +1,13 @@
 // Numbers in packed bytes: eight bytes each, the lowest first.
 
 ghost use Rattle.std.specs.Prelude.{◌≡◌, ◌+◌, ◌++◌, ◌≤◌, ◌<◌, ◌^◌, length, MatchOption, OnOk};
-ghost use Rattle.properties_c.specs.Numbers.{number_bytes};
-ghost use Rattle.properties_c.specs.Private.Places.{Puts};
+ghost use Rattle.properties_c.specs.Packed.{number_bytes};
+ghost use Rattle.properties_c.specs.Private.Lists.{Puts};
 
 use std::alloc::AllocError;
 
 /// Appends a number.
-#[tactic(auto, unfolding(crate::specs::Numbers::number_bytes))]
+#[tactic(auto, unfolding(crate::specs::Packed::number_bytes))]
 pub fn push_number(bytes: &mut Vec<u8>, number: usize) -> Result<(), AllocError>
     ensures { OnOk result (bytes.new.items ≡ bytes.old.items ++ number_bytes number) }
 {
@@ -28,7 +28,7 @@ pub fn put(out: &mut [u8], at: usize, bytes: &[u8]) -> usize
 }
 
 /// Writes a number from this place on, and returns the place after it.
-#[tactic(auto, unfolding(crate::specs::Numbers::number_bytes))]
+#[tactic(auto, unfolding(crate::specs::Packed::number_bytes))]
 pub fn put_number(out: &mut [u8], at: usize, number: usize) -> usize
     requires { at + 8 ≤ length out.old }
     ensures place { result ≡ at + 8 }

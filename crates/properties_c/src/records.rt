@@ -1,10 +1,8 @@
 // Records of packed lists: a kind, a line, the lengths of a key and a value, and then these.
 
 ghost use Rattle.std.specs.Prelude.{◌≡◌, ◌+◌, ◌++◌, ◌≤◌, ◌<◌, length, IfSome, MatchOption};
-ghost use Rattle.properties_c.specs.Records.{packed, record_in};
-ghost use Rattle.properties_c.specs.Private.Lists.{SplitsRecord};
-ghost use Rattle.properties_c.specs.Private.Places.{Puts};
-ghost use Rattle.properties_c.specs.Private.Headers.{header_bytes, IsSizedHeader};
+ghost use Rattle.properties_c.specs.Packed.{packed, record_in};
+ghost use Rattle.properties_c.specs.Private.Lists.{SplitsRecord, header_bytes, IsSizedHeader, Puts};
 
 use crate::numbers::{put, put_number, split_number};
 

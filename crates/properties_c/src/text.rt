@@ -1,8 +1,8 @@
 // The export that says a status in words.
 
 ghost use Rattle.std.specs.Prelude.{◌≡◌};
-ghost use Rattle.properties_c.specs.Crossing.{crossing};
-ghost use Rattle.properties_c.specs.Texts.{status_text, GivesTextAt, IsStatusAt};
+ghost use Rattle.properties_c.specs.Crossing.{crossing, GivesTextAt};
+ghost use Rattle.properties_c.specs.Statuses.{status_text, IsStatusAt};
 
 use crate::out::deliver;
 use crate::status::Status;

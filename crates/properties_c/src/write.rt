@@ -3,13 +3,13 @@
 ghost use Rattle.std.specs.Prelude.{◌≡◌};
 ghost use Rattle.std.specs.Str.{chars};
 ghost use Rattle.java_properties.specs.Calls.{calls_in};
-ghost use Rattle.properties_items.specs.LineEndings.{ending_of};
+ghost use Rattle.properties_items.specs.Line.{ending_of};
 ghost use Rattle.properties_text.specs.Encoding.{encoding_of};
 ghost use Rattle.properties_c.specs.Crossing.{crossing};
 ghost use Rattle.properties_c.specs.Writing.{given_or as chosen, ending_in, settings_for, WritesAcross};
 ghost use Rattle.java_properties.specs.PropertiesWriter.{new_writer};
 ghost use Rattle.properties_format.specs.Encoding.{output_encoding};
-ghost use Rattle.properties_c.specs.Private.Writes.{SetsAll, WritesCalls};
+ghost use Rattle.properties_c.specs.Private.Results.{SetsAll, WritesCalls};
 
 use crate::encoding::{FOR_LINES, Flags, encoding_numbered, flags_numbered, text_of};
 use crate::lists::calls_of;

@@ -1,9 +1,11 @@
 -- What taking a packed list apart returns.
-use Rattle.std.specs.Prelude.{◌≡◌, ℕ, ◌++◌, List, map, Option, Some, None, Result, Ok, Err}
+use Rattle.std.specs.Prelude.{◌≡◌, ◌+◌, ◌++◌, ℕ, List, take, drop, length, ◌<◌, ◌^◌, map, Option, Some, None, Result, Ok, Err}
+use Rattle.properties_c.specs.Packed.{number_bytes, IsText, Meaning, edits, lines, IsPackedList, IsBadList, LacksText, HasNoRecord, HasNoText, Record, packed, record_in, IsSized}
+use Rattle.properties_c.specs.declared.records.Header.{Header}
 use Rattle.std.specs.Borrow.{Bor}
 use Rattle.std.specs.Global.{Vec}
 use Rattle.std.specs.Str.{IsUtf8}
-use Rattle.properties_format.specs.Entries.{Content}
+use Rattle.properties_format.specs.Items.{Content}
 use Rattle.java_properties.specs.Calls.{call_in, calls_in}
 use Rattle.java_properties.specs.Editing.{edit_in, edits_in}
 use Rattle.java_properties.specs.PropertiesWriter.{call_of}
@@ -11,11 +13,23 @@ use Rattle.properties_editing.specs.declared.edit.Edit.{Edit}
 use Rattle.java_properties.specs.declared.writer.calls.Call.{Call}
 use Rattle.std.specs.declared.string.String.{String}
 use Rattle.properties_items.specs.Texts.{characters}
-use Rattle.properties_c.specs.PackedLists.{IsText, Meaning, edits, lines, IsPackedList, IsBadList, LacksText, HasNoRecord, HasNoText}
-use Rattle.properties_c.specs.Records.{Record, packed, record_in, IsSized}
 use Rattle.properties_c.specs.declared.records.Record as code
 use Rattle.properties_c.specs.declared.status.Status.{Status}
 use Rattle.properties_c.specs.declared.status.Status.TheVariants.{NoMemory, NotUtf8, BadList}
+
+-- The bytes stand from this place on, and everything else is as it was.
+pub record Puts (at : ℕ) (bytes old new : List ℕ) : Type 0 where
+  pub is : new ≡ take at old ++ (bytes ++ drop (at + length bytes) old)
+
+abbrev pub header_bytes : Header → List ℕ
+header_bytes h = number_bytes h.kind ++ (number_bytes h.line ++ (number_bytes h.key_length ++ number_bytes h.value_length))
+
+-- Each number fits in its eight bytes.
+pub record IsSizedHeader (h : Header) : Type 0 where
+  pub kind : h.kind < 2 ^ 64
+  pub line : h.line < 2 ^ 64
+  pub key : h.key_length < 2 ^ 64
+  pub value : h.value_length < 2 ^ 64
 
 -- The list is this record and these bytes after it.
 pub record Splits (list : List ℕ) (first : Record) (rest : List ℕ) : Type 0 where
@@ -27,26 +41,22 @@ abbrev pub SplitsRecord : List ℕ → Option (code.Record × Bor (List ℕ)) �
 SplitsRecord list (Some (first, rest)) = Splits list (record_in first) rest.now
 SplitsRecord list None = (first : Record) (rest : List ℕ) → Splits list first rest → ⊥
 
--- why the first thing isn't there
+-- The status says that what was given is bad in this way, that it lacks a text in this way, or that memory ran out.
+abbrev pub RefusesFor : Type 0 → Type 0 → Status → Type 0
+RefusesFor IsBad Lacks BadList = IsBad
+RefusesFor IsBad Lacks NotUtf8 = Lacks
+RefusesFor IsBad Lacks NoMemory = Unit {0}
+RefusesFor IsBad Lacks other = ⊥
+
+-- why the first thing isn't there, why a record isn't a thing, and why a list isn't taken
 abbrev pub RefusesFirst : {A : Type 0} → Meaning A → List ℕ → Status → Type 0
-RefusesFirst m list BadList = HasNoRecord m list
-RefusesFirst m list NotUtf8 = HasNoText m list
-RefusesFirst m list NoMemory = Unit {0}
-RefusesFirst m list other = ⊥
+RefusesFirst m list = RefusesFor (HasNoRecord m list) (HasNoText m list)
 
--- why a record isn't a thing
 abbrev pub RefusesRecord : {A : Type 0} → Meaning A → Record → Status → Type 0
-RefusesRecord m r BadList = ¬ m.IsKnown r
-RefusesRecord m r NotUtf8 = m.IsKnown r × (IsUtf8 r.key → IsUtf8 r.value → ⊥)
-RefusesRecord m r NoMemory = Unit {0}
-RefusesRecord m r other = ⊥
+RefusesRecord m r = RefusesFor (¬ m.IsKnown r) (m.IsKnown r × (IsUtf8 r.key → IsUtf8 r.value → ⊥))
 
--- why a list isn't taken
 abbrev pub RefusesList : {A : Type 0} → Meaning A → List ℕ → Status → Type 0
-RefusesList m list BadList = IsBadList m list
-RefusesList m list NotUtf8 = LacksText m list
-RefusesList m list NoMemory = Unit {0}
-RefusesList m list other = ⊥
+RefusesList m list = RefusesFor (IsBadList m list) (LacksText m list)
 
 -- The first record of the list is that of this thing.
 pub record IsFirst {A : Type 0} (m : Meaning A) (list : List ℕ) (thing : A) (rest : List ℕ) : Type 0 where
@@ -56,16 +66,10 @@ pub record IsFirst {A : Type 0} (m : Meaning A) (list : List ℕ) (thing : A) (r
 
 -- ---- texts
 
--- why a text isn't copied
-abbrev pub RefusesText : List ℕ → Status → Type 0
-RefusesText bytes NotUtf8 = ¬ IsUtf8 bytes
-RefusesText bytes NoMemory = Unit {0}
-RefusesText bytes other = ⊥
-
 -- the result of copying a text
 abbrev pub CopiesText : {Z : Type 0} → List ℕ → Result (String Z) Status → Type 0
 CopiesText bytes (Ok text) = IsText bytes (characters text)
-CopiesText bytes (Err status) = RefusesText bytes status
+CopiesText bytes (Err status) = RefusesFor ⊥ (¬ IsUtf8 bytes) status
 
 -- ---- edits
 

@@ -9,7 +9,7 @@ use Rattle.properties_text.specs.declared.print.Repertoire.{Repertoire}
 use Rattle.properties_items.specs.Errors.{IsBareError}
 use Rattle.properties_items.specs.declared.error.ErrorKind.TheVariants as kind
 use Rattle.properties_items.specs.declared.error.PropertiesError.{PropertiesError}
-use Rattle.properties_c.specs.Converting.{GivesConverted}
+use Rattle.properties_c.specs.Editing.{GivesConverted}
 use Rattle.properties_c.specs.Crossing.{Crossing, Crosses, Refuses}
 use Rattle.properties_c.specs.declared.status.Status.TheVariants.{NoMemory}
 use Rattle.properties_c.proofs.convert.todrenval_convert.Goals as goal

@@ -1,7 +1,7 @@
 use Rattle.std.proofs.Common.{rules, inl, inr}
 use Rattle.java_properties.specs.Editing.{edits_in}
 use Rattle.properties_text.specs.Encoding.{encoding_of}
-use Rattle.properties_c.specs.PackedLists.{edits}
+use Rattle.properties_c.specs.Packed.{edits}
 use Rattle.properties_c.proofs.Refusals.{list-crossed}
 use Rattle.properties_c.proofs.edit.todrenval_edit.Goals as goal
 

@@ -1,6 +1,6 @@
 use Rattle.std.proofs.Common.{◌≡◌, ◌++◌, drop}
 use Rattle.std.specs.List.{flat_map}
-use Rattle.properties_c.specs.Private.Findings.{found_bytes}
+use Rattle.properties_c.specs.Private.Results.{found_bytes}
 use Rattle.properties_c.proofs.findings.push_escapes.Given as goal
 
 abbrev pub invariant-loop-escape : goal.invariant-loop-escape

@@ -1,7 +1,7 @@
 use Rattle.std.proofs.Common.{◌≡◌, ◌++◌, drop}
 use Rattle.std.specs.List.{flat_map}
-use Rattle.java_properties.specs.KeyLines.{key_line_entries}
-use Rattle.properties_c.specs.PackedFindings.{repeat_bytes}
+use Rattle.java_properties.specs.Findings.{key_line_entries}
+use Rattle.properties_c.specs.Packed.{repeat_bytes}
 use Rattle.properties_c.proofs.findings.push_repeats.Given as goal
 
 abbrev pub invariant-loop-key : goal.invariant-loop-key

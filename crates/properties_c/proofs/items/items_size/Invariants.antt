@@ -1,5 +1,5 @@
 use Rattle.std.proofs.Common.{◌≡◌, ◌+◌, drop, length}
-use Rattle.properties_c.specs.Private.Lines.{packed_lines}
+use Rattle.properties_c.specs.Private.Results.{packed_lines}
 use Rattle.properties_c.proofs.items.items_size.Given as goal
 
 abbrev pub invariant-loop-line : goal.invariant-loop-line

@@ -2,7 +2,7 @@ use Rattle.std.proofs.Common.{refl, rules, string_bytes, arith}
 use Rattle.std.proofs.lemmas.Grind.{common_steps}
 use Rattle.std.proofs.lemmas.List.{nil_from_length}
 use Rattle.std.specs.Str.{chars}
-use Rattle.properties_format.specs.Entries.{comment, pair}
+use Rattle.properties_format.specs.Items.{comment, pair}
 use Rattle.properties_c.proofs.lists.call_of.Goals as goal
 
 pub returns-in_ok-copy_of-in-0 : goal.returns-in_ok-copy_of-in-0

@@ -1,6 +1,6 @@
 use Rattle.std.proofs.Common.{length}
 use Rattle.java_properties.specs.Editing.{edits_in}
-use Rattle.properties_c.specs.PackedLists.{edits, Begins}
+use Rattle.properties_c.specs.Packed.{edits, Begins}
 use Rattle.properties_c.proofs.lists.edits_of.Given as goal
 
 abbrev pub invariant-loop-rest : goal.invariant-loop-rest

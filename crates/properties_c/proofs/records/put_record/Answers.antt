@@ -1,5 +1,5 @@
 use Rattle.std.proofs.Common.{arith}
-use Rattle.properties_c.specs.Records.{record_in}
+use Rattle.properties_c.specs.Packed.{record_in}
 use Rattle.properties_c.proofs.Packing.{sizes, packed-header, Puts-append}
 use Rattle.properties_c.proofs.records.put_record.Goals as goal
 

@@ -4,7 +4,7 @@ use Rattle.std.specs.Str.{chars}
 use Rattle.java_properties.specs.Calls.{calls_in}
 use Rattle.java_properties.specs.PropertiesWriter.{call_of}
 use Rattle.properties_text.specs.Encoding.{encoding_of}
-use Rattle.properties_c.specs.PackedLists.{lines}
+use Rattle.properties_c.specs.Packed.{lines}
 use Rattle.properties_c.specs.Writing.{settings_for}
 use Rattle.properties_c.proofs.Refusals.{list-crossed}
 use Rattle.properties_c.proofs.WriterSettings.{lines-crossed}
