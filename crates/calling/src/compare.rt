@@ -1,7 +1,7 @@
 // Compares lists of pairs by the bytes that they are written as. Reading inverts writing, so different lists have
 // different bytes.
 
-ghost use Rattle.calling.specs.Comparing.{ComparesPairs};
+ghost use Rattle.calling.specs.Results.{ComparesPairs};
 
 use counted_io::CountedWrite;
 use java_properties::{PropertiesWriter, laws};

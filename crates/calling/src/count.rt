@@ -4,7 +4,7 @@ ghost use Rattle.std.specs.Prelude.{IfErr, IfOk};
 ghost use Rattle.counted_io.specs.Streams.{IsSameReader};
 ghost use Rattle.properties_text.specs.Encoding.{encoding_of};
 ghost use Rattle.java_properties.specs.ReadLines.{StopsReading};
-ghost use Rattle.calling.specs.Counts.{CountsItems};
+ghost use Rattle.calling.specs.Results.{CountsItems};
 
 use counted_io::CountedRead;
 use java_properties::{Encoding, PropertiesError, read_lines};

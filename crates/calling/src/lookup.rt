@@ -10,7 +10,7 @@ ghost use Rattle.java_properties.specs.Errors.{IsBareError};
 ghost use Rattle.java_properties.specs.Maps.{ReadsValue, characters, value_at};
 ghost use Rattle.java_properties.specs.ReadLines.{StopsReading};
 ghost use Rattle.properties_items.specs.declared.error.ErrorKind.TheVariants.{Memory};
-ghost use Rattle.calling.specs.Lookups.{borrowed_characters};
+ghost use Rattle.calling.specs.Results.{borrowed_characters};
 
 use counted_io::CountedRead;
 use java_properties::{Encoding, PropertiesError, read, read_sorted};

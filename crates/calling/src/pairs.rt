@@ -3,7 +3,7 @@
 ghost use Rattle.std.specs.Prelude.{IfOk};
 ghost use Rattle.counted_io.specs.Streams.{IsSameReader};
 ghost use Rattle.properties_text.specs.Encoding.{encoding_of};
-ghost use Rattle.calling.specs.PairsAlone.{HoldsPairs};
+ghost use Rattle.calling.specs.Results.{HoldsPairs};
 
 use counted_io::{Counted, CountedRead};
 use java_properties::{Encoding, PropertiesError};

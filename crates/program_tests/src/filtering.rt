@@ -2,7 +2,7 @@
 
 use crate::same::{Bytes, same};
 use crate::streams::{AMPLE, OTHER, Plan, reader, sink};
-use counted_io::{CountedWrite, ScriptedReader, ScriptedSink, SinkFault, Tail};
+use counted_io::{ScriptedSink, SinkFault, Tail};
 use java_properties::{Cause, Encoding, ErrorKind, PropertiesError};
 use properties_tools::filter::{filter, filter_ascii};
 use std::alloc::{AllocError, Global};
@@ -24,36 +24,14 @@ fn ending_of(answer: &Result<(), PropertiesError>) -> Ending {
     Some((error.kind(), error.line_number(), cause))
 }
 
-// How a call ends whose write failed so in this line.
-fn write_failed(line_number: usize, how: SinkFault) -> Ending {
-    let cause = match how {
-        SinkFault::Fault(kind) => Some(kind),
-        SinkFault::Nothing => None,
-    };
-    Some((ErrorKind::Io, Some(line_number), cause))
-}
-
-/// Filters in this encoding, to ASCII only or not.
-pub fn filter_by<W: CountedWrite>(
-    alloc: Global,
-    input: &mut ScriptedReader,
-    output: &mut W,
-    encoding: Encoding,
-    ascii_only: bool,
-) -> Result<(), PropertiesError> {
-    if ascii_only {
-        filter_ascii(alloc, input, output, encoding)
-    } else {
-        filter(alloc, input, output, encoding)
-    }
-}
+const WINDOWS_1252: Encoding = Encoding::WINDOWS_1252;
 
 // An encoding, whether ASCII-only output is asked for, an input, and what is written.
 const FILTERED: &[(Encoding, bool, &[u8], &[u8])] = &[
-    (Encoding::WINDOWS_1252, false, b"", b""),
+    (WINDOWS_1252, false, b"", b""),
     // Comments are dropped, and lines joined.
     (
-        Encoding::WINDOWS_1252,
+        WINDOWS_1252,
         false,
         b"a=1\n# c\r\nb\\u0020c\r\n\\u65e5 = x\\\r\n  \xe9",
         b"a=1\nb\\ c=\n\\u65e5=x\xe9\n",
@@ -65,18 +43,8 @@ const FILTERED: &[(Encoding, bool, &[u8], &[u8])] = &[
         b"a=1\nb\\ c=\n\xe6\x97\xa5=x\xef\xbf\xbd\n",
     ),
     // What is written is filtered to itself.
-    (
-        Encoding::WINDOWS_1252,
-        false,
-        b" a : b c \n",
-        b"a=b\\ c\\ \n",
-    ),
-    (
-        Encoding::WINDOWS_1252,
-        false,
-        b"a=b\\ c\\ \n",
-        b"a=b\\ c\\ \n",
-    ),
+    (WINDOWS_1252, false, b" a : b c \n", b"a=b\\ c\\ \n"),
+    (WINDOWS_1252, false, b"a=b\\ c\\ \n", b"a=b\\ c\\ \n"),
     // UTF-16 is written as UTF-8.
     (
         Encoding::UTF_16LE,
@@ -95,50 +63,41 @@ const FILTERED: &[(Encoding, bool, &[u8], &[u8])] = &[
     ),
 ];
 
-fn check_filtered(
-    rt: &impl Abort,
-    alloc: Global,
-    most_read: usize,
-    most_written: usize,
-) -> Result<(), AllocError> {
+// Filters what comes in pieces of this size at most, and goes in such pieces.
+fn check_filtered<R: Abort + AllocGlobal>(rt: &R, most: usize) -> Result<(), AllocError> {
+    let alloc = rt.alloc();
     for (number, row) in (1usize..).zip(FILTERED) {
         let (encoding, ascii_only, input, wanted) = *row;
-        let mut input = reader(alloc, input, most_read, Tail::End)?;
-        let plan = Plan {
-            most: most_written,
-            ..AMPLE
+        let mut input = reader(alloc, input, most, Tail::End)?;
+        let mut output = sink(alloc, Plan { most, ..AMPLE });
+        let answer = if ascii_only {
+            filter_ascii(alloc, &mut input, &mut output, encoding)
+        } else {
+            filter(alloc, &mut input, &mut output, encoding)
         };
-        let mut output = sink(alloc, plan);
-        let answer = filter_by(alloc, &mut input, &mut output, encoding, ascii_only);
-        same(
-            rt,
-            number,
-            (ending_of(&answer), Bytes(output.bytes())),
-            (None, Bytes(wanted)),
-        );
+        let found = (ending_of(&answer), Bytes(output.bytes()));
+        same(rt, number, found, (None, Bytes(wanted)));
     }
     Ok(())
 }
 
 #[test]
 fn pairs_are_written_one_a_line(rt: HostRuntime) -> Result<(), Fail> {
-    check_filtered(&rt, rt.alloc(), 1024, 1024)?;
-    check_filtered(&rt, rt.alloc(), 1, 1)?;
+    check_filtered(&rt, 1024)?;
+    check_filtered(&rt, 1)?;
     Ok(())
 }
 
+// How many bytes a sink takes at a write, the write that fails, and how each flush fails.
+type Sink = (usize, Option<usize>, Option<io::ErrorKind>);
+
 // An input in windows-1252, what comes after it, the sink, how the call ends, what was written, and
 // how many I/O errors the sink counted.
-const STOPPED: &[(&[u8], Tail, Plan, Ending, &[u8], usize)] = &[
+const STOPPED: &[(&[u8], Tail, Sink, Ending, &[u8], usize)] = &[
     (
         b"a=1\nb=2\n",
         Tail::End,
-        Plan {
-            most: 2,
-            fail_at: Some(3),
-            how: OTHER,
-            flush_fault: None,
-        },
+        (2, Some(3), None),
         Some((ErrorKind::Io, Some(2), Some(io::ErrorKind::Other))),
         b"a=1\n",
         1,
@@ -146,12 +105,7 @@ const STOPPED: &[(&[u8], Tail, Plan, Ending, &[u8], usize)] = &[
     (
         b"a=1\nb=2\n",
         Tail::End,
-        Plan {
-            most: 2,
-            fail_at: Some(4),
-            how: OTHER,
-            flush_fault: None,
-        },
+        (2, Some(4), None),
         Some((ErrorKind::Io, Some(2), Some(io::ErrorKind::Other))),
         b"a=1\nb=",
         1,
@@ -160,10 +114,7 @@ const STOPPED: &[(&[u8], Tail, Plan, Ending, &[u8], usize)] = &[
     (
         b"a=1\n",
         Tail::End,
-        Plan {
-            flush_fault: Some(io::ErrorKind::Other),
-            ..AMPLE
-        },
+        (1024, None, Some(io::ErrorKind::Other)),
         Some((ErrorKind::Io, None, Some(io::ErrorKind::Other))),
         b"a=1\n",
         1,
@@ -171,10 +122,7 @@ const STOPPED: &[(&[u8], Tail, Plan, Ending, &[u8], usize)] = &[
     (
         b"a=1\n",
         Tail::End,
-        Plan {
-            flush_fault: Some(io::ErrorKind::Interrupted),
-            ..AMPLE
-        },
+        (1024, None, Some(io::ErrorKind::Interrupted)),
         Some((ErrorKind::Io, None, Some(io::ErrorKind::Interrupted))),
         b"a=1\n",
         1,
@@ -183,10 +131,7 @@ const STOPPED: &[(&[u8], Tail, Plan, Ending, &[u8], usize)] = &[
     (
         b"a=1\n",
         Tail::Fault(io::ErrorKind::TimedOut),
-        Plan {
-            flush_fault: Some(io::ErrorKind::Other),
-            ..AMPLE
-        },
+        (1024, None, Some(io::ErrorKind::Other)),
         Some((ErrorKind::Io, Some(2), Some(io::ErrorKind::TimedOut))),
         b"a=1\n",
         1,
@@ -195,41 +140,27 @@ const STOPPED: &[(&[u8], Tail, Plan, Ending, &[u8], usize)] = &[
     (
         b"a=1\nk=\\u12\nb=2",
         Tail::End,
-        Plan { most: 1, ..AMPLE },
+        (1, None, None),
         Some((ErrorKind::NotEnoughDigits, Some(2), None)),
         b"a=1\n",
         0,
     ),
     // Nothing is written of nothing.
-    (
-        b"",
-        Tail::End,
-        Plan {
-            fail_at: Some(1),
-            how: OTHER,
-            ..AMPLE
-        },
-        None,
-        b"",
-        0,
-    ),
+    (b"", Tail::End, (1024, Some(1), None), None, b"", 0),
 ];
-
-fn check_stopped(rt: &impl Abort, alloc: Global) -> Result<(), AllocError> {
-    for (number, row) in (1usize..).zip(STOPPED) {
-        let (input, tail, plan, ending, wanted, faults) = *row;
-        let mut input = reader(alloc, input, 1024, tail)?;
-        let mut output = sink(alloc, plan);
-        let answer = filter(alloc, &mut input, &mut output, Encoding::WINDOWS_1252);
-        let found = (ending_of(&answer), Bytes(output.bytes()), output.faults());
-        same(rt, number, found, (ending, Bytes(wanted), faults));
-    }
-    Ok(())
-}
 
 #[test]
 fn errors_come_with_their_line(rt: HostRuntime) -> Result<(), Fail> {
-    check_stopped(&rt, rt.alloc())?;
+    let alloc = rt.alloc();
+    for (number, row) in (1usize..).zip(STOPPED) {
+        let (input, tail, (most, fail_at, flush_fault), ending, wanted, faults) = *row;
+        let mut input = reader(alloc, input, 1024, tail)?;
+        let mut output = ScriptedSink::new(alloc, most, fail_at, OTHER);
+        output.set_flush_fault(flush_fault);
+        let answer = filter(alloc, &mut input, &mut output, WINDOWS_1252);
+        let found = (ending_of(&answer), Bytes(output.bytes()), output.faults());
+        same(&rt, number, found, (ending, Bytes(wanted), faults));
+    }
     Ok(())
 }
 
@@ -243,18 +174,15 @@ const CUT_OFF: &[(&[u8], usize, &[u8])] = &[
     (b"a=1\nb\\\n=2\n", 4, b"a=1\nb=2\n"),
 ];
 
-fn check_cut_off(rt: &impl Abort, alloc: Global, encoding: Encoding) -> Result<(), AllocError> {
+fn check_cut_off<R: Abort + AllocGlobal>(rt: &R, encoding: Encoding) -> Result<(), AllocError> {
+    let alloc = rt.alloc();
     for (number, row) in (1usize..).zip(CUT_OFF) {
         let (input, line_number, wanted) = *row;
-        let tail = Tail::Fault(io::ErrorKind::TimedOut);
-        let mut input = reader(alloc, input, 1, tail)?;
+        let fault = io::ErrorKind::TimedOut;
+        let mut input = reader(alloc, input, 1, Tail::Fault(fault))?;
         let mut output = sink(alloc, AMPLE);
         let answer = filter(alloc, &mut input, &mut output, encoding);
-        let ending = Some((
-            ErrorKind::Io,
-            Some(line_number),
-            Some(io::ErrorKind::TimedOut),
-        ));
+        let ending = Some((ErrorKind::Io, Some(line_number), Some(fault)));
         let found = (ending_of(&answer), Bytes(output.bytes()), input.faults());
         same(rt, number, found, (ending, Bytes(wanted), 1));
     }
@@ -263,8 +191,8 @@ fn check_cut_off(rt: &impl Abort, alloc: Global, encoding: Encoding) -> Result<(
 
 #[test]
 fn each_read_may_fail(rt: HostRuntime) -> Result<(), Fail> {
-    check_cut_off(&rt, rt.alloc(), Encoding::WINDOWS_1252)?;
-    check_cut_off(&rt, rt.alloc(), Encoding::UTF_8)?;
+    check_cut_off(&rt, WINDOWS_1252)?;
+    check_cut_off(&rt, Encoding::UTF_8)?;
     Ok(())
 }
 
@@ -292,21 +220,25 @@ fn taken_before(
 }
 
 // The write of this number fails, and no later one is tried.
-fn check_failing_write(
-    rt: &impl Abort,
-    alloc: Global,
+fn check_failing_write<R: Abort + AllocGlobal>(
+    rt: &R,
     most: usize,
     fail_at: usize,
     how: SinkFault,
 ) -> Result<(), AllocError> {
+    let alloc = rt.alloc();
     let mut input = b"a=1\n# c\r\nb\\u0020c\n\\u65e5 = x".as_slice();
     let mut output = ScriptedSink::new(alloc, most, Some(fail_at), how);
-    let answer = filter(alloc, &mut input, &mut output, Encoding::WINDOWS_1252);
+    let answer = filter(alloc, &mut input, &mut output, WINDOWS_1252);
     let (taken, failing) = taken_before(alloc, most, fail_at)?;
+    let cause = match how {
+        SinkFault::Fault(kind) => Some(kind),
+        SinkFault::Nothing => None,
+    };
     let found = (ending_of(&answer), Bytes(output.bytes()), output.faults());
     let taken = Bytes(taken.as_slice());
     let wanted = match failing {
-        Some(line_number) => (write_failed(line_number, how), taken, 1),
+        Some(line_number) => (Some((ErrorKind::Io, Some(line_number), cause)), taken, 1),
         None => (None, taken, 0),
     };
     same(rt, fail_at, found, wanted);
@@ -316,23 +248,15 @@ fn check_failing_write(
     Ok(())
 }
 
-fn check_failing_writes(rt: &impl Abort, alloc: Global, how: SinkFault) -> Result<(), AllocError> {
-    for most in 1..=3 {
-        for fail_at in 1..=22 {
-            check_failing_write(rt, alloc, most, fail_at, how)?;
-        }
-    }
-    Ok(())
-}
-
 #[test]
 fn each_write_may_fail(rt: HostRuntime) -> Result<(), Fail> {
-    for how in [
-        OTHER,
-        SinkFault::Fault(io::ErrorKind::Interrupted),
-        SinkFault::Nothing,
-    ] {
-        check_failing_writes(&rt, rt.alloc(), how)?;
+    let interrupted = SinkFault::Fault(io::ErrorKind::Interrupted);
+    for how in [OTHER, interrupted, SinkFault::Nothing] {
+        for most in 1..=3 {
+            for fail_at in 1..=22 {
+                check_failing_write(&rt, most, fail_at, how)?;
+            }
+        }
     }
     Ok(())
 }

@@ -1,8 +1,8 @@
 // Files that are edited in place.
 
 use crate::same::{Bytes, same};
-use crate::streams::{AMPLE, owned, sink};
-use counted_io::CountedWrite;
+use crate::streams::{AMPLE, sink, words_of};
+use counted_io::ScriptedSink;
 use propedit_arguments::asked_for;
 use properties_tools::propedit::in_place::{Target, edit_file};
 use properties_tools::propedit::request::{Missing, Request};
@@ -12,10 +12,18 @@ use std::os::unix::fs::{MetadataExt, PermissionsExt, symlink};
 use std::process::Abort;
 use std::test::Fail;
 
-// Makes a file of these bytes, unless a test that was cut off has left one.
-fn make(rt: &HostRuntime, path: &str, bytes: &[u8]) -> io::Result<()> {
+// The bytes of a file, and its permissions.
+type State<'a> = (&'a [u8], u32);
+
+fn set_mode(rt: &HostRuntime, path: &str, mode: u32) -> io::Result<()> {
+    fs::set_permissions(rt, path, Permissions::from_mode(mode))
+}
+
+// Makes a file, unless a test that was cut off has left one.
+fn make(rt: &HostRuntime, path: &str, (bytes, mode): State<'_>) -> io::Result<()> {
     let _ = fs::remove_file(rt, path);
-    File::create_new(rt, path)?.write_all(bytes)
+    File::create_new(rt, path)?.write_all(bytes)?;
+    set_mode(rt, path, mode)
 }
 
 fn content(rt: &HostRuntime, path: &str) -> io::Result<Vec<u8>> {
@@ -24,19 +32,12 @@ fn content(rt: &HostRuntime, path: &str) -> io::Result<Vec<u8>> {
     Ok(bytes)
 }
 
-fn set_mode(rt: &HostRuntime, path: &str, mode: u32) -> io::Result<()> {
-    fs::set_permissions(rt, path, Permissions::from_mode(mode))
-}
-
-fn mode_of(rt: &HostRuntime, path: &str) -> io::Result<u32> {
-    Ok(fs::metadata(rt, path)?.permissions().mode() & 0o7777)
-}
-
-// What there is after a file was to be replaced: the text of the error, or nothing; the bytes of
+// What there is after a file was to be replaced: the text of the error, or nothing; the bytes that were read; those of
 // the file, its permissions, and whether a new file is left beside it.
 #[derive(Drop)]
 struct Outcome {
     said: String,
+    read: Vec<u8>,
     bytes: Vec<u8>,
     mode: u32,
     is_left: bool,
@@ -45,6 +46,7 @@ struct Outcome {
 // Puts these bytes into a file that was read.
 fn replace(rt: &HostRuntime, target: Target, path: &str, bytes: &[u8]) -> Result<Outcome, Fail> {
     let alloc = rt.alloc();
+    let read = target.bytes().to_vec(alloc)?;
     let said = match target.replace(rt, bytes) {
         Ok(()) => String::new(alloc),
         Err(error) => format!(in alloc; "{error}")?,
@@ -52,8 +54,9 @@ fn replace(rt: &HostRuntime, target: Target, path: &str, bytes: &[u8]) -> Result
     let beside = format!(in alloc; "{path}.propedit")?;
     Ok(Outcome {
         said,
+        read,
         bytes: content(rt, path)?,
-        mode: mode_of(rt, path)?,
+        mode: fs::metadata(rt, path)?.permissions().mode() & 0o7777,
         is_left: fs::exists(rt, beside.as_str())?,
     })
 }
@@ -62,77 +65,60 @@ fn check_outcome(
     abort: &impl Abort,
     row: usize,
     outcome: &Outcome,
+    read: &[u8],
     said: &str,
-    bytes: &[u8],
-    mode: u32,
+    (bytes, mode): State<'_>,
 ) {
     let found = (
+        Bytes(outcome.read.as_slice()),
         outcome.said.as_str(),
         Bytes(outcome.bytes.as_slice()),
         outcome.mode,
         outcome.is_left,
     );
-    same(abort, row, found, (said, Bytes(bytes), mode, false));
-}
-
-const KEPT: &str = "kept.properties";
-
-// A file with these permissions takes other bytes and keeps them.
-fn check_kept(abort: &impl Abort, rt: &HostRuntime, row: usize, mode: u32) -> Result<(), Fail> {
-    make(rt, KEPT, b"port = 80\n")?;
-    set_mode(rt, KEPT, mode)?;
-    let target = Target::read(rt, rt.alloc(), KEPT, Missing::Refuse)?;
-    same(abort, row, Bytes(target.bytes()), Bytes(b"port = 80\n"));
-    let outcome = replace(rt, target, KEPT, b"port=8080\n")?;
-    check_outcome(abort, row, &outcome, "", b"port=8080\n", mode);
-    fs::remove_file(rt, KEPT)?;
-    Ok(())
+    let wanted = (Bytes(read), said, Bytes(bytes), mode, false);
+    same(abort, row, found, wanted);
 }
 
 #[test]
 fn a_replaced_file_keeps_its_permissions(rt: HostRuntime) -> Result<(), Fail> {
-    for (number, mode) in (1usize..).zip([0o600, 0o644, 0o664, 0o640].as_slice()) {
-        check_kept(&rt, &rt, number, *mode)?;
+    let path = "kept.properties";
+    let bytes = b"port = 80\n".as_slice();
+    for (number, mode) in (1usize..).zip([0o600, 0o644, 0o664, 0o640]) {
+        make(&rt, path, (bytes, mode))?;
+        let target = Target::read(&rt, rt.alloc(), path, Missing::Refuse)?;
+        let outcome = replace(&rt, target, path, b"port=8080\n")?;
+        check_outcome(&rt, number, &outcome, bytes, "", (b"port=8080\n", mode));
     }
+    fs::remove_file(&rt, path)?;
     Ok(())
 }
 
-const CHANGED: &str = "changed.properties";
+const CHANGED: &str = "changed while it was edited";
 
-// A file that has these bytes and permissions by the time that it is to be replaced keeps them.
-fn check_changed(
-    abort: &impl Abort,
-    rt: &HostRuntime,
-    row: usize,
-    bytes: &[u8],
-    mode: u32,
-) -> Result<(), Fail> {
-    make(rt, CHANGED, b"a=1")?;
-    set_mode(rt, CHANGED, 0o644)?;
-    let target = Target::read(rt, rt.alloc(), CHANGED, Missing::Refuse)?;
-    File::create(rt, CHANGED)?.write_all(bytes)?;
-    set_mode(rt, CHANGED, mode)?;
-    let outcome = replace(rt, target, CHANGED, b"a=2")?;
-    check_outcome(
-        abort,
-        row,
-        &outcome,
-        "changed while it was edited",
-        bytes,
-        mode,
-    );
-    fs::remove_file(rt, CHANGED)?;
-    Ok(())
+// Reads a file in the first state, brings it into the second, and then puts other bytes into it.
+fn change(rt: &HostRuntime, path: &str, read: State<'_>, now: State<'_>) -> Result<Outcome, Fail> {
+    make(rt, path, read)?;
+    let target = Target::read(rt, rt.alloc(), path, Missing::Refuse)?;
+    let (bytes, mode) = now;
+    File::create(rt, path)?.write_all(bytes)?;
+    set_mode(rt, path, mode)?;
+    replace(rt, target, path, b"a=2")
 }
+
+// The states that a file is in by the time that it is to be replaced.
+const STATES: &[State<'static>] = &[(b"a=3", 0o644), (b"a=1", 0o600)];
 
 #[test]
 fn a_file_that_changed_meanwhile_stays(rt: HostRuntime) -> Result<(), Fail> {
-    check_changed(&rt, &rt, 1, b"a=3", 0o644)?;
-    check_changed(&rt, &rt, 2, b"a=1", 0o600)?;
+    let path = "changed.properties";
+    for (number, now) in (1usize..).zip(STATES) {
+        let outcome = change(&rt, path, (b"a=1", 0o644), *now)?;
+        check_outcome(&rt, number, &outcome, b"a=1", CHANGED, *now);
+    }
+    fs::remove_file(&rt, path)?;
     Ok(())
 }
-
-const LARGE: &str = "large.properties";
 
 fn large(rt: &HostRuntime, size: usize, last: u8) -> Result<Vec<u8>, Fail> {
     let mut bytes = Vec::new(rt.alloc());
@@ -141,32 +127,10 @@ fn large(rt: &HostRuntime, size: usize, last: u8) -> Result<Vec<u8>, Fail> {
     Ok(bytes)
 }
 
-// A file has so many bytes before this last one when it is read, and then so many. It is replaced if it is the same.
-fn check_large(
-    abort: &impl Abort,
-    rt: &HostRuntime,
-    row: usize,
-    (before, now, last): (usize, usize, u8),
-) -> Result<(), Fail> {
-    make(rt, LARGE, large(rt, before, b'#')?.as_slice())?;
-    set_mode(rt, LARGE, 0o644)?;
-    let target = Target::read(rt, rt.alloc(), LARGE, Missing::Refuse)?;
-    let bytes = large(rt, now, last)?;
-    File::create(rt, LARGE)?.write_all(bytes.as_slice())?;
-    let outcome = replace(rt, target, LARGE, b"a=2")?;
-    if before == now && last == b'#' {
-        check_outcome(abort, row, &outcome, "", b"a=2", 0o644);
-    } else {
-        let said = "changed while it was edited";
-        check_outcome(abort, row, &outcome, said, bytes.as_slice(), 0o644);
-    }
-    fs::remove_file(rt, LARGE)?;
-    Ok(())
-}
-
 const BLOCK: usize = 1 << 16;
 
-// What is compared ends before, at and after the end of a block.
+// How many bytes a file has before a last `#` when it is read, and then before this last one. What is compared ends
+// before, at and after the end of a block.
 const SIZES: &[(usize, usize, u8)] = &[
     (BLOCK - 1, BLOCK - 1, b'#'),
     (BLOCK - 1, BLOCK, b'#'),
@@ -178,205 +142,189 @@ const SIZES: &[(usize, usize, u8)] = &[
     (2 * BLOCK - 1, BLOCK - 1, b'#'),
 ];
 
+// It is replaced if it is the same.
 #[test]
 fn a_large_file_is_compared_to_its_end(rt: HostRuntime) -> Result<(), Fail> {
+    let path = "large.properties";
     for (number, row) in (1usize..).zip(SIZES) {
-        check_large(&rt, &rt, number, *row)?;
+        let (before, now, last) = *row;
+        let read = large(&rt, before, b'#')?;
+        let bytes = large(&rt, now, last)?;
+        let (read, bytes) = (read.as_slice(), bytes.as_slice());
+        let outcome = change(&rt, path, (read, 0o644), (bytes, 0o644))?;
+        if before == now && last == b'#' {
+            check_outcome(&rt, number, &outcome, read, "", (b"a=2", 0o644));
+        } else {
+            check_outcome(&rt, number, &outcome, read, CHANGED, (bytes, 0o644));
+        }
     }
+    fs::remove_file(&rt, path)?;
     Ok(())
 }
 
 // The link stays a link, and its target a file, which takes the bytes.
-fn check_link(abort: &impl Abort, rt: &HostRuntime, path: &str, link: &str) -> Result<(), Fail> {
-    make(rt, path, b"a=1")?;
-    set_mode(rt, path, 0o644)?;
-    let _ = fs::remove_file(rt, link);
-    symlink(rt, path, link)?;
-    let target = Target::read(rt, rt.alloc(), link, Missing::Refuse)?;
-    let outcome = replace(rt, target, path, b"a=2")?;
-    check_outcome(abort, 1, &outcome, "", b"a=2", 0o644);
-    let is_link = fs::symlink_metadata(rt, link)?.is_symlink();
-    let is_file = fs::symlink_metadata(rt, path)?.is_file();
-    same(abort, 1, (is_link, is_file), (true, true));
-    fs::remove_file(rt, link)?;
-    fs::remove_file(rt, path)?;
+#[test]
+fn the_target_of_a_link_is_replaced(rt: HostRuntime) -> Result<(), Fail> {
+    let (path, link) = ("target.properties", "link.properties");
+    make(&rt, path, (b"a=1", 0o644))?;
+    let _ = fs::remove_file(&rt, link);
+    symlink(&rt, path, link)?;
+    let target = Target::read(&rt, rt.alloc(), link, Missing::Refuse)?;
+    let outcome = replace(&rt, target, path, b"a=2")?;
+    check_outcome(&rt, 1, &outcome, b"a=1", "", (b"a=2", 0o644));
+    let is_link = fs::symlink_metadata(&rt, link)?.is_symlink();
+    let is_file = fs::symlink_metadata(&rt, path)?.is_file();
+    same(&rt, 1, (is_link, is_file), (true, true));
+    fs::remove_file(&rt, link)?;
+    fs::remove_file(&rt, path)?;
     Ok(())
 }
 
 #[test]
-fn the_target_of_a_link_is_replaced(rt: HostRuntime) -> Result<(), Fail> {
-    check_link(&rt, &rt, "target.properties", "link.properties")
+fn a_file_that_another_program_made_meanwhile_stays(rt: HostRuntime) -> Result<(), Fail> {
+    let path = "appeared.properties";
+    let _ = fs::remove_file(&rt, path);
+    let target = Target::read(&rt, rt.alloc(), path, Missing::Create)?;
+    make(&rt, path, (b"a=3", 0o644))?;
+    let outcome = replace(&rt, target, path, b"a=2")?;
+    let said = "was made by another program meanwhile";
+    check_outcome(&rt, 1, &outcome, b"", said, (b"a=3", 0o644));
+    fs::remove_file(&rt, path)?;
+    Ok(())
 }
 
 #[test]
 fn regular_files_alone_are_read(rt: HostRuntime) {
     let paths = ["no such file", "no such folder/a", ".", "/dev/null"];
-    for (number, path) in (1usize..).zip(paths.as_slice()) {
+    for (number, path) in (1usize..).zip(paths) {
         let is_refused = Target::read(&rt, rt.alloc(), path, Missing::Refuse).is_err();
         same(&rt, number, is_refused, true);
     }
 }
 
-const EDITED: &str = "edited.properties";
-
-// Arguments that edit the file, its bytes, the status, what is printed on standard error, and the
-// bytes of the file then.
-type Row = (
-    &'static [&'static str],
-    &'static [u8],
-    u8,
-    &'static str,
-    &'static [u8],
-);
-
-const EDITS: &[Row] = &[
-    (
-        &["-i", EDITED, "set", "a", "3"],
-        b"# x\na : 1\nb = 2",
-        0,
-        "",
-        b"# x\na : 3\nb = 2",
-    ),
-    (
-        &["-a", "-i", EDITED, "set", "a", "\u{e9}"],
-        b"# \xc3\xa9\na : 1",
-        0,
-        "",
-        b"# \xc3\xa9\na : \\u00e9",
-    ),
-    // Nothing changes.
-    (
-        &["-i", EDITED, "set", "a", "3"],
-        b"# x\na=3",
-        0,
-        "",
-        b"# x\na=3",
-    ),
-    (
-        &["-e", "windows-1252", "-i", EDITED, "remove", "a"],
-        b"b=\xff\na=1",
-        0,
-        "",
-        b"b=\xff\n",
-    ),
-    (
-        &["-i", EDITED, "set", "a", "3"],
-        b"b=1\na=\xff",
-        2,
-        "propedit: edited.properties:2: not UTF-8; -e windows-1252 reads it\n",
-        b"b=1\na=\xff",
-    ),
-    (
-        &["-i", "no such file", "set", "a", "3"],
-        b"a=1",
-        2,
-        "propedit: no such file: No such file or directory (os error 2)\n",
-        b"a=1",
-    ),
-    // A key that no pair has is refused if that is asked for.
-    (
-        &["-x", "-i", EDITED, "set", "a", "3", "set", "b", "1"],
-        b"# x\na=1",
-        1,
-        "propedit: edited.properties: no pair has the key 'b'\n",
-        b"# x\na=1",
-    ),
-    (
-        &["-x", "-i", EDITED, "set", "a", "3"],
-        b"# x\na=1",
-        0,
-        "",
-        b"# x\na=3",
-    ),
-    // A missing file that is to be made isn't made if nothing changes.
-    (
-        &["-i", "no such file", "--create", "remove", "a"],
-        b"a=1",
-        0,
-        "",
-        b"a=1",
-    ),
-];
-
-const HELD: Row = (
-    &["-i", EDITED, "set", "a", "3"],
-    b"a=1",
-    2,
-    "propedit: edited.properties: edited.properties.propedit exists: another run is at work, \
-     or was killed; if none is, remove it\n",
-    b"a=1",
-);
-
-// Edits the file that the words name, and returns the status.
-fn edit<E: CountedWrite>(rt: &HostRuntime, words: &[&str], errors: &mut E) -> Result<u8, Fail> {
+// Edits the file that the words name. Returns the status, what took the errors, and what a file has then.
+fn edit(rt: &HostRuntime, words: &str, path: &str) -> Result<(u8, ScriptedSink, Vec<u8>), Fail> {
     let alloc = rt.alloc();
-    match asked_for(alloc, owned(alloc, words)?.as_slice()) {
-        Ok(Request::EditFile(file)) => Ok(edit_file(rt, alloc, &file, errors)),
+    let mut errors = sink(alloc, AMPLE);
+    match asked_for(alloc, words_of(alloc, words)?.as_slice()) {
+        Ok(Request::EditFile(file)) => {
+            let status = edit_file(rt, alloc, &file, &mut errors);
+            Ok((status, errors, content(rt, path)?))
+        }
         _ => Err(Fail::from("no edits in place")),
     }
 }
 
-fn check_edit(abort: &impl Abort, rt: &HostRuntime, number: usize, row: Row) -> Result<(), Fail> {
-    let (words, bytes, status, said, after) = row;
-    make(rt, EDITED, bytes)?;
-    let mut errors = sink(rt.alloc(), AMPLE);
-    let found = edit(rt, words, &mut errors)?;
-    let now = content(rt, EDITED)?;
-    let found = (found, Bytes(errors.bytes()), Bytes(now.as_slice()));
-    let wanted = (status, Bytes(said.as_bytes()), Bytes(after));
-    same(abort, number, found, wanted);
-    fs::remove_file(rt, EDITED)?;
-    Ok(())
+fn check_edit(
+    abort: &impl Abort,
+    row: usize,
+    words: &str,
+    edited: &(u8, ScriptedSink, Vec<u8>),
+    wanted: (u8, &str, &[u8]),
+) {
+    let (status, errors, bytes) = edited;
+    let errors = Bytes(errors.bytes());
+    let found = (words, *status, errors, Bytes(bytes.as_slice()));
+    let (status, said, bytes) = wanted;
+    let wanted = (words, status, Bytes(said.as_bytes()), Bytes(bytes));
+    same(abort, row, found, wanted);
 }
+
+const EDITED: &str = "edited.properties";
+
+// The words, what the file has before the edit, and what it has then.
+const EDITS: &[(&str, &[u8], &[u8])] = &[
+    (
+        "-i edited.properties set a 3",
+        b"# x\na : 1\nb = 2",
+        b"# x\na : 3\nb = 2",
+    ),
+    (
+        "-a -i edited.properties set a \u{e9}",
+        b"# \xc3\xa9\na : 1",
+        b"# \xc3\xa9\na : \\u00e9",
+    ),
+    // Nothing changes.
+    ("-i edited.properties set a 3", b"# x\na=3", b"# x\na=3"),
+    (
+        "-e windows-1252 -i edited.properties remove a",
+        b"b=\xff\na=1",
+        b"b=\xff\n",
+    ),
+    ("-x -i edited.properties set a 3", b"# x\na=1", b"# x\na=3"),
+    // A missing file that is to be made isn't made if nothing changes.
+    ("-i 'no such file' --create remove a", b"a=1", b"a=1"),
+];
+
+// The words, what the file has before and after them, the status, and the error.
+const REFUSED: &[(&str, &[u8], u8, &str)] = &[
+    (
+        "-i edited.properties set a 3",
+        b"b=1\na=\xff",
+        2,
+        "propedit: edited.properties:2: not UTF-8; -e windows-1252 reads it\n",
+    ),
+    (
+        "-i 'no such file' set a 3",
+        b"a=1",
+        2,
+        "propedit: no such file: No such file or directory (os error 2)\n",
+    ),
+    // A key that no pair has is refused if that is asked for.
+    (
+        "-x -i edited.properties set a 3 set b 1",
+        b"# x\na=1",
+        1,
+        "propedit: edited.properties: no pair has the key 'b'\n",
+    ),
+];
+
+const HELD: &str = "propedit: edited.properties: edited.properties.propedit exists: \
+    another run is at work, or was killed; if none is, remove it\n";
 
 // Where a file has the name of the new one, neither is written over.
 #[test]
 fn files_are_edited_whole_or_not_at_all(rt: HostRuntime) -> Result<(), Fail> {
-    for (number, row) in (1usize..).zip(EDITS) {
-        check_edit(&rt, &rt, number, *row)?;
+    for (number, (words, bytes, after)) in (1usize..).zip(EDITS) {
+        make(&rt, EDITED, (bytes, 0o644))?;
+        let edited = edit(&rt, words, EDITED)?;
+        check_edit(&rt, number, words, &edited, (0, "", after));
+    }
+    for (number, (words, bytes, status, said)) in (1usize..).zip(REFUSED) {
+        make(&rt, EDITED, (bytes, 0o644))?;
+        let edited = edit(&rt, words, EDITED)?;
+        check_edit(&rt, number, words, &edited, (*status, said, bytes));
     }
     let other = "edited.properties.propedit";
-    make(&rt, other, b"of another")?;
-    check_edit(&rt, &rt, 11, HELD)?;
+    make(&rt, EDITED, (b"a=1", 0o644))?;
+    make(&rt, other, (b"of another", 0o644))?;
+    let words = "-i edited.properties set a 3";
+    let edited = edit(&rt, words, EDITED)?;
+    check_edit(&rt, 1, words, &edited, (2, HELD, b"a=1"));
     let now = content(&rt, other)?;
-    same(&rt, 11, Bytes(now.as_slice()), Bytes(b"of another"));
+    same(&rt, 1, Bytes(now.as_slice()), Bytes(b"of another"));
+    fs::remove_file(&rt, EDITED)?;
     fs::remove_file(&rt, other)?;
     Ok(())
 }
 
 const MADE: &str = "made.properties";
 
+const MAKES: &[(&str, &[u8])] = &[
+    ("-i made.properties --create set a 1", b"a=1\n"),
+    ("-i made.properties --create set a 2", b"a=2\n"),
+];
+
 // A missing file is made if that is asked for, and a file that is there is edited.
 #[test]
 fn a_missing_file_is_made(rt: HostRuntime) -> Result<(), Fail> {
     let _ = fs::remove_file(&rt, MADE);
-    for (number, wanted) in (1usize..).zip([b"a=1\n".as_slice(), b"a=2\n"].as_slice()) {
-        let value = if number == 1 { "1" } else { "2" };
-        let mut errors = sink(rt.alloc(), AMPLE);
-        let words = ["-i", MADE, "--create", "set", "a", value];
-        let status = edit(&rt, words.as_slice(), &mut errors)?;
-        let now = content(&rt, MADE)?;
-        let found = (status, Bytes(errors.bytes()), Bytes(now.as_slice()));
-        same(&rt, number, found, (0, Bytes(b""), Bytes(wanted)));
+    for (number, (words, wanted)) in (1usize..).zip(MAKES) {
+        let edited = edit(&rt, words, MADE)?;
+        check_edit(&rt, number, words, &edited, (0, "", wanted));
         // It has no other name.
         same(&rt, number, fs::metadata(&rt, MADE)?.nlink(), 1);
     }
     fs::remove_file(&rt, MADE)?;
-    Ok(())
-}
-
-const APPEARED: &str = "appeared.properties";
-
-#[test]
-fn a_file_that_another_program_made_meanwhile_stays(rt: HostRuntime) -> Result<(), Fail> {
-    let _ = fs::remove_file(&rt, APPEARED);
-    let target = Target::read(&rt, rt.alloc(), APPEARED, Missing::Create)?;
-    same(&rt, 1, Bytes(target.bytes()), Bytes(b""));
-    make(&rt, APPEARED, b"a=3")?;
-    set_mode(&rt, APPEARED, 0o644)?;
-    let outcome = replace(&rt, target, APPEARED, b"a=2")?;
-    let said = "was made by another program meanwhile";
-    check_outcome(&rt, 1, &outcome, said, b"a=3", 0o644);
-    fs::remove_file(&rt, APPEARED)?;
     Ok(())
 }

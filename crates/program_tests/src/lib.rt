@@ -4,13 +4,17 @@
 #![tactic(auto)]
 
 #[cfg(test)]
+mod checking;
+#[cfg(test)]
 mod converting;
+#[cfg(test)]
+mod editing;
 #[cfg(test)]
 mod filtering;
 #[cfg(test)]
-mod in_place;
+mod getting;
 #[cfg(test)]
-mod keys;
+mod in_place;
 #[cfg(test)]
 mod listing;
 #[cfg(test)]

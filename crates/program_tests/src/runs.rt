@@ -1,63 +1,20 @@
 // Runs of both programs over streams.
 
 use crate::same::{Bytes, same};
-use crate::streams::{AMPLE, Plan, owned, reader, sink};
-use counted_io::{CountedRead, CountedWrite, Tail};
+use crate::streams::{AMPLE, Plan, reader, sink, words_of};
+use counted_io::{CountedRead, CountedWrite, ScriptedSink, Tail};
 use propedit_arguments::{asked_for, explain};
 use properties_tools::propedit::request::Request;
 use properties_tools::{propedit, propfilter};
 use std::alloc::{AllocError, Global};
 use std::process::Abort;
+use std::test::Fail;
 
 #[derive(Clone, Copy)]
 pub enum Program {
     Propfilter,
     Propedit,
 }
-
-impl Program {
-    /// Runs it as its `main` does, but of a source that is a file the input has the bytes, and no
-    /// files are checked or edited.
-    pub fn run<R: CountedRead, W: CountedWrite, E: CountedWrite>(
-        self,
-        alloc: Global,
-        words: &[String],
-        input: &mut R,
-        output: &mut W,
-        errors: &mut E,
-    ) -> Result<u8, AllocError> {
-        match self {
-            Program::Propfilter => Ok(propfilter::run(alloc, words, input, output, errors)),
-            Program::Propedit => edit(alloc, words, input, output, errors),
-        }
-    }
-}
-
-fn edit<R: CountedRead, W: CountedWrite, E: CountedWrite>(
-    alloc: Global,
-    words: &[String],
-    input: &mut R,
-    output: &mut W,
-    errors: &mut E,
-) -> Result<u8, AllocError> {
-    match asked_for(alloc, words) {
-        Ok(Request::Work(work)) => Ok(propedit::run(alloc, &work, input, output, errors)),
-        Ok(_) => Ok(FILES),
-        Err(error) => Ok(explain(alloc, error, output, errors)),
-    }
-}
-
-// What stands for the status where files are to be checked or edited.
-const FILES: u8 = 3;
-
-/// The arguments, the input, the status, the output, and what is printed on standard error.
-pub type Row = (
-    &'static [&'static str],
-    &'static [u8],
-    u8,
-    &'static [u8],
-    &'static str,
-);
 
 /// How the streams of a run behave.
 #[derive(Clone, Copy)]
@@ -75,96 +32,76 @@ pub const SOUND: Streams = Streams {
     errors: AMPLE,
 };
 
-/// Compares the runs of a program over sound streams with the rows.
-pub fn check_runs(
-    rt: &impl Abort,
+// What stands for the status where files are to be checked or edited.
+const FILES: u8 = 3;
+
+fn edit<R: CountedRead, W: CountedWrite, E: CountedWrite>(
+    alloc: Global,
+    words: &[String],
+    input: &mut R,
+    output: &mut W,
+    errors: &mut E,
+) -> u8 {
+    match asked_for(alloc, words) {
+        Ok(Request::Work(work)) => propedit::run(alloc, &work, input, output, errors),
+        Ok(_) => FILES,
+        Err(error) => explain(alloc, error, output, errors),
+    }
+}
+
+/// Runs a program as its `main` does, but of a source that is a file the input has the bytes, and no files are checked
+/// or edited. Returns the status, and the sinks of the output and of the errors.
+pub fn run(
     alloc: Global,
     program: Program,
-    rows: &[Row],
-) -> Result<(), AllocError> {
-    for (number, row) in (1usize..).zip(rows) {
-        check_run(rt, alloc, number, program, SOUND, *row)?;
-    }
-    Ok(())
+    streams: Streams,
+    words: &str,
+    input: &[u8],
+) -> Result<(u8, ScriptedSink, ScriptedSink), AllocError> {
+    let words = words_of(alloc, words)?;
+    let words = words.as_slice();
+    let mut input = reader(alloc, input, 1024, streams.tail)?;
+    let mut output = sink(alloc, streams.output);
+    let mut errors = sink(alloc, streams.errors);
+    let status = match program {
+        Program::Propfilter => propfilter::run(alloc, words, &mut input, &mut output, &mut errors),
+        Program::Propedit => edit(alloc, words, &mut input, &mut output, &mut errors),
+    };
+    Ok((status, output, errors))
 }
 
-/// Compares a run of a program with each of these arguments with one status, one output, and one
-/// text on standard error.
-pub fn check_words(
-    rt: &impl Abort,
-    alloc: Global,
-    program: Program,
-    words: &[&'static [&'static str]],
-    wanted: (u8, &'static str, &'static str),
-) -> Result<(), AllocError> {
-    let (status, output, errors) = wanted;
-    for (number, words) in (1usize..).zip(words) {
-        let row = (*words, b"a=1".as_slice(), status, output.as_bytes(), errors);
-        check_run(rt, alloc, number, program, SOUND, row)?;
-    }
-    Ok(())
-}
-
-/// Arguments that are refused, and the first line that says why.
-pub type Refusal = (&'static [&'static str], &'static str);
-
-/// Compares runs of `propedit` with wrong arguments with the first lines that they are to print.
-pub fn check_refusals(rt: &impl Abort, alloc: Global, rows: &[Refusal]) -> Result<(), AllocError> {
-    for (number, (words, line)) in (1usize..).zip(rows) {
-        let words = owned(alloc, words)?;
-        let mut input = reader(alloc, b"a=1", 1024, Tail::End)?;
-        let mut output = sink(alloc, AMPLE);
-        let mut errors = sink(alloc, AMPLE);
-        let status = edit(
-            alloc,
-            words.as_slice(),
-            &mut input,
-            &mut output,
-            &mut errors,
-        )?;
-        let found = (status, output.bytes(), errors.bytes());
-        same_refusal(rt, number, found, line);
-    }
-    Ok(())
-}
-
-/// Compares what a refused run gave with the status of a usage error, no output, and the line that
-/// says why.
-fn same_refusal<'a>(
-    rt: &impl Abort,
-    number: usize,
-    found: (u8, &'a [u8], &'a [u8]),
-    line: &'a str,
-) {
-    let (status, output, errors) = found;
-    let said = errors.split(|byte| *byte == b'\n').next().unwrap_or(b"");
-    let found = (status, Bytes(output), Bytes(said));
-    same(rt, number, found, (2, Bytes(b""), Bytes(line.as_bytes())));
-}
+/// The words, as `words_of` divides them, the input, the status, the output, and what is printed on standard error.
+pub type Run<'a> = (&'a str, &'a [u8], u8, &'a [u8], &'a str);
 
 /// Compares a run of a program with the row of this number.
-pub fn check_run(
-    rt: &impl Abort,
-    alloc: Global,
+pub fn check_run<R: Abort + AllocGlobal>(
+    rt: &R,
     number: usize,
     program: Program,
     streams: Streams,
-    row: Row,
-) -> Result<(), AllocError> {
+    row: Run<'_>,
+) -> Result<(), Fail> {
     let (words, input, status, output, errors) = row;
-    let words = owned(alloc, words)?;
-    let mut input = reader(alloc, input, 1024, streams.tail)?;
-    let mut output_sink = sink(alloc, streams.output);
-    let mut error_sink = sink(alloc, streams.errors);
-    let found = program.run(
-        alloc,
-        words.as_slice(),
-        &mut input,
-        &mut output_sink,
-        &mut error_sink,
-    )?;
-    let found = (found, Bytes(output_sink.bytes()), Bytes(error_sink.bytes()));
-    let wanted = (status, Bytes(output), Bytes(errors.as_bytes()));
+    let (found, printed, said) = run(rt.alloc(), program, streams, words, input)?;
+    let found = (words, found, Bytes(printed.bytes()), Bytes(said.bytes()));
+    let wanted = (words, status, Bytes(output), Bytes(errors.as_bytes()));
     same(rt, number, found, wanted);
+    Ok(())
+}
+
+/// The words, the input, the status, and the output of a run that prints nothing on standard error.
+pub type Row = (&'static str, &'static [u8], u8, &'static [u8]);
+
+/// Compares the runs of a program over sound streams with the rows.
+pub fn check_runs<R: Abort + AllocGlobal>(
+    rt: &R,
+    program: Program,
+    rows: &[Row],
+) -> Result<(), Fail> {
+    for (number, row) in (1usize..).zip(rows) {
+        let (words, input, status, output) = *row;
+        let row = (words, input, status, output, "");
+        check_run(rt, number, program, SOUND, row)?;
+    }
     Ok(())
 }

@@ -28,6 +28,13 @@ pub const AMPLE: Plan = Plan {
     flush_fault: None,
 };
 
+/// A sink that takes two bytes, one at a time, and then none.
+pub const FULL: Plan = Plan {
+    most: 1,
+    fail_at: Some(3),
+    ..AMPLE
+};
+
 pub fn sink(alloc: Global, plan: Plan) -> ScriptedSink {
     let mut sink = ScriptedSink::new(alloc, plan.most, plan.fail_at, plan.how);
     sink.set_flush_fault(plan.flush_fault);
@@ -48,10 +55,19 @@ pub fn reader(
     Ok(ScriptedReader::new(pieces, tail))
 }
 
-pub fn owned(alloc: Global, words: &[&str]) -> Result<Vec<String>, AllocError> {
-    let mut texts = Vec::new(alloc);
-    for word in words {
-        texts.push(String::from_str(alloc, word)?)?;
+/// The words of a line, as a shell divides it: what stands between blanks, or between single quotes.
+pub fn words_of(alloc: Global, line: &str) -> Result<Vec<String>, AllocError> {
+    let mut words = Vec::new(alloc);
+    let mut is_quoted = false;
+    for part in line.split('\'') {
+        if is_quoted {
+            words.push(String::from_str(alloc, part)?)?;
+        } else {
+            for word in part.split_ascii_whitespace() {
+                words.push(String::from_str(alloc, word)?)?;
+            }
+        }
+        is_quoted = !is_quoted;
     }
-    Ok(texts)
+    Ok(words)
 }

@@ -16,6 +16,8 @@ mod reading;
 #[cfg(test)]
 mod same;
 #[cfg(test)]
+mod script;
+#[cfg(test)]
 mod streams;
 #[cfg(test)]
 mod values;

@@ -1,10 +1,12 @@
 // Values as they print themselves, for people and for debugging, if no row of a table prints them.
 
 use crate::same::same;
-use counted_io::{Counted, ScriptedReader, ScriptedSink, SinkFault, Tail};
+use crate::script::{TIMES_OUT, script};
+use counted_io::{Counted, ScriptedSink, SinkFault};
+use java_properties::ErrorKind::*;
 use java_properties::{
-    Cause, CopyError, Encoding, ErrorKind, LineEnding, PropertiesError, PropertiesIter,
-    PropertiesWriter, Stopped, read_lines, remove_key,
+    Cause, CopyError, Encoding, LineEnding, PropertiesError, PropertiesIter, PropertiesWriter,
+    Stopped, read_lines, remove_key,
 };
 use std::alloc::{AllocError, Global};
 use std::fmt::{Debug, Display};
@@ -48,45 +50,29 @@ fn check_rows<T: Debug + Display>(
 #[test]
 fn kinds_of_errors_are_printed_and_debugged(rt: HostRuntime) -> Result<(), Fail> {
     let rows = [
-        (ErrorKind::Io, "I/O error", "Io"),
+        (Io, "I/O error", "Io"),
         (
-            ErrorKind::NotEnoughDigits,
+            NotEnoughDigits,
             "Malformed \\uxxxx encoding: not enough digits.",
             "NotEnoughDigits",
         ),
+        (NotHex, "Malformed \\uxxxx encoding: not hex.", "NotHex"),
         (
-            ErrorKind::NotHex,
-            "Malformed \\uxxxx encoding: not hex.",
-            "NotHex",
-        ),
-        (
-            ErrorKind::InvalidCharacter,
+            InvalidCharacter,
             "Malformed \\uxxxx encoding: invalid character.",
             "InvalidCharacter",
         ),
+        (BadCommentPrefix, "Bad comment prefix", "BadCommentPrefix"),
+        (BadKvSeparator, "Bad key/value separator", "BadKvSeparator"),
         (
-            ErrorKind::BadCommentPrefix,
-            "Bad comment prefix",
-            "BadCommentPrefix",
-        ),
-        (
-            ErrorKind::BadKvSeparator,
-            "Bad key/value separator",
-            "BadKvSeparator",
-        ),
-        (
-            ErrorKind::EmptyKey,
+            EmptyKey,
             "Empty key with a blank key/value separator.",
             "EmptyKey",
         ),
-        (ErrorKind::TooManyLines, "Too many lines.", "TooManyLines"),
-        (ErrorKind::Failed, "The writer has failed.", "Failed"),
-        (ErrorKind::Memory, "Out of memory.", "Memory"),
-        (
-            ErrorKind::Unsupported,
-            "Encoding can't be edited.",
-            "Unsupported",
-        ),
+        (TooManyLines, "Too many lines.", "TooManyLines"),
+        (Failed, "The writer has failed.", "Failed"),
+        (Memory, "Out of memory.", "Memory"),
+        (Unsupported, "Encoding can't be edited.", "Unsupported"),
     ];
     check_rows(&rt, rt.alloc(), rows.as_slice())
 }
@@ -249,9 +235,7 @@ fn error_before_a_fault(
     alloc: Global,
     bytes: &[u8],
 ) -> Result<PropertiesError, AllocError> {
-    let piece = Vec::from_slice(alloc, bytes)?;
-    let tail = Tail::Fault(io::ErrorKind::TimedOut);
-    let mut input = ScriptedReader::new(vec![in alloc; piece]?, tail);
+    let mut input = script(alloc, bytes, bytes.len(), TIMES_OUT)?;
     Ok(error_of(rt, read_lines(alloc, &mut input, Encoding::UTF_8)).error)
 }
 
@@ -270,9 +254,12 @@ fn stopped_at(rt: &impl Abort, alloc: Global, bytes: &[u8]) -> Stopped {
 
 // The error of a separator that is refused.
 fn refused_separator(rt: &impl Abort, alloc: Global, separator: &str) -> PropertiesError {
+    error_of(rt, writer_of_bytes(rt, alloc).set_kv_separator(separator))
+}
+
+fn writer_of_bytes(rt: &impl Abort, alloc: Global) -> PropertiesWriter<Counted<Vec<u8>>> {
     let output = Counted::new(Vec::new(alloc));
-    let mut writer = PropertiesWriter::new(alloc, output).expect(rt, "a writer");
-    error_of(rt, writer.set_kv_separator(separator))
+    PropertiesWriter::new(alloc, output).expect(rt, "a writer")
 }
 
 // The error of a line that a sink takes no byte of, and that of the line after it.
@@ -288,8 +275,7 @@ fn errors_of_a_full_sink(rt: &impl Abort, alloc: Global) -> (PropertiesError, Pr
 fn error_of_copying(rt: &impl Abort, alloc: Global) -> CopyError {
     let input: &[u8] = b"=1";
     let mut items = PropertiesIter::new(alloc, input).expect(rt, "an iterator");
-    let output = Counted::new(Vec::new(alloc));
-    let mut writer = PropertiesWriter::new(alloc, output).expect(rt, "a writer");
+    let mut writer = writer_of_bytes(rt, alloc);
     writer.set_kv_separator(" ").expect(rt, "a separator");
     error_of(rt, writer.copy_pairs(&mut items))
 }

@@ -5,9 +5,10 @@
 ghost use Rattle.std.specs.Prelude.{◌<◌};
 
 use crate::same::same;
+use java_properties::Encoding::WINDOWS_1252;
 use java_properties::{
-    Document, Edit, Encoding, PropertiesError, edit_all, edit_all_ascii, edit_pairs, remove_key,
-    set_key, set_value, value_among_pairs, value_of,
+    Document, Edit, PropertiesError, edit_all, edit_all_ascii, edit_pairs, remove_key, set_key,
+    set_value, value_among_pairs, value_of,
 };
 use std::alloc::{AllocError, Global};
 use std::process::Abort;
@@ -64,7 +65,7 @@ fn check_edits(
     numbers: &mut Numbers,
     source: &[u8],
 ) -> Result<(), Fail> {
-    let mut document = Document::parse(alloc, source, Encoding::WINDOWS_1252)?;
+    let mut document = Document::parse(alloc, source, WINDOWS_1252)?;
     let mut edits = Vec::new(alloc);
     let mut wanted = source.to_vec(alloc)?;
     for _ in 0..6 {
@@ -74,9 +75,9 @@ fn check_edits(
         edits.push(edit)?;
         check_document(rt, alloc, &document, &wanted)?;
     }
-    let listed = edit_all(alloc, source, Encoding::WINDOWS_1252, &edits)?;
+    let listed = edit_all(alloc, source, WINDOWS_1252, &edits)?;
     same(rt, listed.as_slice(), wanted.as_slice());
-    let paired = edit_pairs(alloc, source, Encoding::WINDOWS_1252, false, &edits)?;
+    let paired = edit_pairs(alloc, source, WINDOWS_1252, false, &edits)?;
     same(rt, paired.as_slice(), wanted.as_slice());
     check_ascii(rt, alloc, source, &edits, &document)?;
     check_source(rt, alloc, &document, KEYS[numbers.below(7)])
@@ -91,41 +92,36 @@ fn check_ascii(
     edits: &[Edit],
     other: &Document,
 ) -> Result<(), Fail> {
-    let mut document = Document::parse(alloc, source, Encoding::WINDOWS_1252)?;
+    let mut document = Document::parse(alloc, source, WINDOWS_1252)?;
     document.set_ascii_only(true);
     for edit in edits {
         change(&mut document, edit)?;
     }
-    let listed = edit_all_ascii(alloc, source, Encoding::WINDOWS_1252, edits)?;
+    let listed = edit_all_ascii(alloc, source, WINDOWS_1252, edits)?;
     same(rt, listed.as_slice(), document.source());
     if source.is_ascii() {
         same(rt, listed.is_ascii(), true);
     }
-    for key in KEYS {
-        check_value(rt, document.get(key), other.get(key));
-    }
+    check_values(rt, &document, other);
     Ok(())
 }
 
 fn change(document: &mut Document, edit: &Edit) -> Result<(), AllocError> {
     match edit {
-        Edit::Put(key, value) => document.put(key.as_str(), value.as_str()),
-        Edit::SetValue(key, value) => document.set_value(key.as_str(), value.as_str()),
+        Edit::Put(key, value) => document.put(key, value),
+        Edit::SetValue(key, value) => document.set_value(key, value),
         Edit::Remove(key) => {
-            let _ = document.remove(key.as_str());
+            let _ = document.remove(key);
             Ok(())
         }
     }
 }
 
 fn changed(alloc: Global, source: &[u8], edit: &Edit) -> Result<Vec<u8>, PropertiesError> {
-    let encoding = Encoding::WINDOWS_1252;
     match edit {
-        Edit::Put(key, value) => set_key(alloc, source, encoding, key.as_str(), value.as_str()),
-        Edit::SetValue(key, value) => {
-            set_value(alloc, source, encoding, key.as_str(), value.as_str())
-        }
-        Edit::Remove(key) => remove_key(alloc, source, encoding, key.as_str()),
+        Edit::Put(key, value) => set_key(alloc, source, WINDOWS_1252, key, value),
+        Edit::SetValue(key, value) => set_value(alloc, source, WINDOWS_1252, key, value),
+        Edit::Remove(key) => remove_key(alloc, source, WINDOWS_1252, key),
     }
 }
 
@@ -137,14 +133,16 @@ fn check_document(
     wanted: &[u8],
 ) -> Result<(), Fail> {
     same(rt, document.source(), wanted);
-    let opened = Document::parse(alloc, wanted, Encoding::WINDOWS_1252)?;
-    for key in KEYS {
-        check_value(rt, document.get(key), opened.get(key));
-    }
+    let opened = Document::parse(alloc, wanted, WINDOWS_1252)?;
+    check_values(rt, document, &opened);
     let keys = document.keys()?;
     let others = opened.keys()?;
     check_keys(rt, &keys, &others);
     Ok(())
+}
+
+fn check_keys(rt: &impl Abort, found: &[&str], wanted: &[&str]) {
+    same(rt, found, wanted);
 }
 
 // What a document says of a key, its bytes say too.
@@ -154,26 +152,16 @@ fn check_source(
     document: &Document,
     key: &str,
 ) -> Result<(), Fail> {
-    let value = value_of(alloc, document.source(), Encoding::WINDOWS_1252, key)?;
-    check_value(rt, value.as_deref(), document.get(key));
-    let value = value_among_pairs(alloc, document.source(), Encoding::WINDOWS_1252, key)?;
-    check_value(rt, value.as_deref(), document.get(key));
+    let value = value_of(alloc, document.source(), WINDOWS_1252, key)?;
+    same(rt, value.as_deref(), document.get(key));
+    let value = value_among_pairs(alloc, document.source(), WINDOWS_1252, key)?;
+    same(rt, value.as_deref(), document.get(key));
     Ok(())
 }
 
-fn check_value(rt: &impl Abort, found: Option<&str>, wanted: Option<&str>) {
-    let is_same = match (found, wanted) {
-        (Some(value), Some(other)) => value == other,
-        (None, None) => true,
-        (Some(_), None) | (None, Some(_)) => false,
-    };
-    same(rt, is_same, true);
-}
-
-fn check_keys(rt: &impl Abort, found: &[&str], wanted: &[&str]) {
-    same(rt, found.len(), wanted.len());
-    for (key, other) in found.iter().zip(wanted) {
-        check_value(rt, Some(*key), Some(*other));
+fn check_values(rt: &impl Abort, document: &Document, other: &Document) {
+    for key in KEYS {
+        same(rt, document.get(key), other.get(key));
     }
 }
 

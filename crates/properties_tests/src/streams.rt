@@ -2,7 +2,8 @@
 
 use crate::failure::{Failure, failure_of};
 use crate::same::same;
-use counted_io::{ScriptedReader, ScriptedSink, SinkFault, Tail};
+use crate::script::{TIMES_OUT, script};
+use counted_io::{ScriptedSink, SinkFault, Tail};
 use java_properties::{Encoding, ErrorKind, read_source, write_source};
 use std::alloc::Global;
 use std::io;
@@ -35,12 +36,11 @@ fn check_read(
     bytes: &[u8],
     wanted: Option<Failure>,
 ) -> Result<(), Fail> {
-    let piece = Vec::from_slice(alloc, bytes)?;
     let tail = match wanted {
         None => Tail::End,
-        Some(_) => Tail::Fault(io::ErrorKind::TimedOut),
+        Some(_) => TIMES_OUT,
     };
-    let mut input = ScriptedReader::new(vec![in alloc; piece]?, tail);
+    let mut input = script(alloc, bytes, bytes.len(), tail)?;
     match read_source(alloc, &mut input, Encoding::WINDOWS_1252) {
         Ok(source) => {
             same(rt, source.as_slice(), bytes);

@@ -1,34 +1,24 @@
 // A source, and what it is converted to.
 
 use crate::items::error_text;
-use crate::notation::{Clause, Halt, quoted};
+use crate::notation::{Halt, Row, quoted};
 use crate::outcome::Outcome;
-use java_properties::{Encoding, Repertoire, Spelling, convert};
-use std::alloc::Global;
+use java_properties::{Repertoire, Spelling, convert};
 
 /// The source is converted as the clause after it says: `to ascii`, or `readable to utf-8`.
-pub fn check_converting(
-    alloc: Global,
-    encoding: Encoding,
-    clauses: &[Clause],
-    outcome: &mut Outcome,
-) -> Result<(), Halt> {
-    let [first, to] = clauses else {
+pub fn check_converting(row: Row<'_>, outcome: &mut Outcome) -> Result<(), Halt> {
+    let (source, [to]) = row.source()? else {
         return Err(Halt::Unreadable);
     };
-    let ("", [source], []) = (
-        first.word.as_str(),
-        first.texts.as_slice(),
-        to.texts.as_slice(),
-    ) else {
+    let (word, []) = to.parts() else {
         return Err(Halt::Unreadable);
     };
-    let (target, spelling) = conversion(to.word.as_str()).ok_or(Halt::Unreadable)?;
-    let came = match convert(alloc, source.as_slice(), encoding, target, spelling) {
-        Ok(bytes) => quoted(alloc, bytes.as_slice())?,
-        Err(error) => error_text(alloc, &error)?,
+    let (target, spelling) = conversion(word).ok_or(Halt::Unreadable)?;
+    let came = match convert(row.alloc, source.bytes, row.encoding, target, spelling) {
+        Ok(bytes) => quoted(row.alloc, bytes.as_slice())?,
+        Err(error) => error_text(row.alloc, &error)?,
     };
-    outcome.compare(alloc, "converted", came.as_str())?;
+    outcome.compare("converted", &came)?;
     Ok(())
 }
 

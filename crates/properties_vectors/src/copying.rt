@@ -1,7 +1,7 @@
 // Pairs that are copied, by `copy_pairs` and by the calls that it replaces.
 
 use crate::items::error_text;
-use crate::notation::{Clause, Halt, quoted};
+use crate::notation::{Clause, Halt, Row, quoted};
 use crate::outcome::Outcome;
 use crate::script::{SIZES, Script};
 use crate::sinks::{FAULTS, ROOMY, Sink, front_sink};
@@ -10,10 +10,13 @@ use counted_io::{CountedRead, CountedWrite, Tail};
 use java_properties::{ContentRef, CopyError, Encoding, PropertiesIter, PropertiesWriter};
 use std::alloc::{AllocError, Global};
 
-// What pairs are copied to: a writer in this encoding, to this sink, after these calls.
+// What pairs are copied from and to: a reader in one encoding, and a writer in another, to this sink, after these
+// calls.
 #[derive(Clone, Copy)]
-struct Target<'a> {
-    encoding: Encoding,
+struct Task<'a> {
+    alloc: Global,
+    from: Encoding,
+    to: Encoding,
     sink: Sink,
     calls: &'a [Clause],
 }
@@ -35,38 +38,31 @@ struct Copied {
 }
 
 /// A text is copied in pieces of each size. Where the row names no sink, it is copied to sinks that fail too.
-pub fn check_copying(
-    alloc: Global,
-    encoding: Encoding,
-    clauses: &[Clause],
-    outcome: &mut Outcome,
-) -> Result<(), Halt> {
-    let (named, clauses) = front_sink(alloc, clauses)?;
-    let [input, into, calls @ ..] = clauses else {
+pub fn check_copying(row: Row<'_>, outcome: &mut Outcome) -> Result<(), Halt> {
+    let (named, row) = front_sink(row)?;
+    let (source, [into, calls @ ..]) = row.source()? else {
         return Err(Halt::Unreadable);
     };
-    let ("", [bytes]) = (input.word.as_str(), input.texts.as_slice()) else {
-        return Err(Halt::Unreadable);
-    };
-    let mut target = Target {
-        encoding: output_of(into.word.as_str()).ok_or(Halt::Unreadable)?,
+    let mut task = Task {
+        alloc: row.alloc,
+        from: row.encoding,
+        to: output_of(into.word.as_str()).ok_or(Halt::Unreadable)?,
         sink: named.unwrap_or(ROOMY),
         calls,
     };
-    let bytes = bytes.as_slice();
     let mut writes = 0;
     for size in SIZES {
-        let script = Script::of_bytes(alloc, bytes, size, Tail::End)?;
-        let came = copy_in_both_ways(alloc, encoding, &script, target, outcome)?;
-        outcome.compare(alloc, "copied", came.text.as_str())?;
+        let script = Script::of_bytes(row.alloc, source.bytes, size, Tail::End)?;
+        let came = copy_in_both_ways(task, &script, outcome)?;
+        outcome.compare("copied", came.text.as_str())?;
         writes = came.writes;
     }
     if named.is_none() {
-        let script = Script::of_bytes(alloc, bytes, bytes.len(), Tail::End)?;
+        let script = Script::of_bytes(row.alloc, source.bytes, source.bytes.len(), Tail::End)?;
         for before in 0..writes {
             for how in FAULTS {
-                target.sink = Sink::failing(usize::MAX, before.saturating_add(1), how);
-                copy_in_both_ways(alloc, encoding, &script, target, outcome)?;
+                task.sink = Sink::failing(usize::MAX, before.saturating_add(1), how);
+                copy_in_both_ways(task, &script, outcome)?;
             }
         }
     }
@@ -76,17 +72,19 @@ pub fn check_copying(
 /// Checks that copying gives what reading and writing give, in both output encodings.
 pub fn check_into_both_encodings(
     alloc: Global,
-    encoding: Encoding,
+    from: Encoding,
     script: &Script,
     outcome: &mut Outcome,
 ) -> Result<(), Halt> {
-    for output in [Encoding::WINDOWS_1252, Encoding::UTF_8] {
-        let target = Target {
-            encoding: output,
+    for to in [Encoding::WINDOWS_1252, Encoding::UTF_8] {
+        let task = Task {
+            alloc,
+            from,
+            to,
             sink: ROOMY,
             calls: &[],
         };
-        copy_in_both_ways(alloc, encoding, script, target, outcome)?;
+        copy_in_both_ways(task, script, outcome)?;
     }
     Ok(())
 }
@@ -98,18 +96,16 @@ fn output_of(word: &str) -> Option<Encoding> {
 
 // Copies everything in both ways, compares the two, and returns the first.
 fn copy_in_both_ways(
-    alloc: Global,
-    encoding: Encoding,
+    task: Task<'_>,
     script: &Script,
-    target: Target<'_>,
     outcome: &mut Outcome,
 ) -> Result<Copied, Halt> {
-    let by_copying = copied_by(alloc, encoding, script, target, CopyWay::CopyPairs)?;
-    let by_writing = copied_by(alloc, encoding, script, target, CopyWay::AdvanceAndWrite)?;
-    let came = shown(alloc, &by_copying)?;
-    let wanted = shown(alloc, &by_writing)?;
+    let by_copying = copied_by(task, script, CopyWay::CopyPairs)?;
+    let by_writing = copied_by(task, script, CopyWay::AdvanceAndWrite)?;
+    let came = shown(task.alloc, &by_copying)?;
+    let wanted = shown(task.alloc, &by_writing)?;
     if came != wanted {
-        outcome.fail(format!(in alloc; "copied: {came}; written: {wanted}")?);
+        outcome.fail(format!(in task.alloc; "copied: {came}; written: {wanted}")?);
     }
     Ok(by_copying)
 }
@@ -124,20 +120,14 @@ fn shown(alloc: Global, came: &Copied) -> Result<String, AllocError> {
     format!(in alloc; "{text} by {reads} reads and {writes} writes, {input} and {sink} faults")
 }
 
-fn copied_by(
-    alloc: Global,
-    encoding: Encoding,
-    script: &Script,
-    target: Target<'_>,
-    way: CopyWay,
-) -> Result<Copied, Halt> {
-    let input = script.reader(alloc)?;
-    let Ok(mut items) = PropertiesIter::new_with_encoding(alloc, input, encoding) else {
+fn copied_by(task: Task<'_>, script: &Script, way: CopyWay) -> Result<Copied, Halt> {
+    let alloc = task.alloc;
+    let Ok(mut items) = PropertiesIter::new_with_encoding(alloc, script.reader()?, task.from) else {
         return Err(Halt::Memory);
     };
-    let mut writer = writer_to(alloc, target.encoding, target.sink.open(alloc))?;
-    for clause in target.calls {
-        let _ = call(&mut writer, clause)?;
+    let mut writer = writer_to(alloc, task.to, task.sink.open(alloc))?;
+    for clause in task.calls {
+        let _ = call(alloc, &mut writer, clause)?;
     }
     let errors = copy_all(alloc, &mut items, &mut writer, way)?;
     let input = items.into_inner();
@@ -175,16 +165,11 @@ fn copy_all<R: CountedRead, W: CountedWrite>(
 }
 
 fn error_shown(alloc: Global, error: &CopyError) -> Result<String, AllocError> {
-    match error {
-        CopyError::Read(error) => {
-            let text = error_text(alloc, error)?;
-            format!(in alloc; "; read {text}")
-        }
-        CopyError::Write(error) => {
-            let text = error_text(alloc, error)?;
-            format!(in alloc; "; write {text}")
-        }
-    }
+    let (call, error) = match error {
+        CopyError::Read(error) => ("read", error),
+        CopyError::Write(error) => ("write", error),
+    };
+    format!(in alloc; "; {call} {}", error_text(alloc, error)?)
 }
 
 fn copy_pairs<R: CountedRead, W: CountedWrite>(

@@ -1,11 +1,12 @@
 // Items and errors, as a right side has them.
 
-use crate::notation::shown;
+use crate::notation::{Clause, shown};
 use counted_io::CountedRead;
 use java_properties::{
-    Cause, Encoding, ErrorKind, Line, LineContent, PropertiesError, Stopped, read_lines,
+    Cause, Encoding, ErrorKind, Line, LineContent, PropertiesError, Stopped, read, read_lines,
 };
 use std::alloc::{AllocError, Global};
+use std::collections::BTreeMap;
 use std::io;
 
 /// What is made of an input.
@@ -30,7 +31,7 @@ pub enum Kind {
 }
 
 /// An item or an error under the number of its line, and its texts as they are shown.
-#[derive(Drop)]
+#[derive(Clone, Drop)]
 pub struct Item {
     pub number: usize,
     pub kind: Kind,
@@ -93,15 +94,6 @@ impl Item {
             text: format!(in alloc; "Io in line {number} by {fault:?}")?,
         })
     }
-
-    /// Returns the item with its text copied.
-    pub fn copy(&self, alloc: Global) -> Result<Item, AllocError> {
-        Ok(Item {
-            number: self.number,
-            kind: self.kind,
-            text: String::from_str(alloc, self.text.as_str())?,
-        })
-    }
 }
 
 /// Returns all that an error says, as `Io in line 2 by StorageFull`.
@@ -139,34 +131,57 @@ pub fn joined(alloc: Global, reading: Reading, items: &[Item]) -> Result<String,
     Ok(all)
 }
 
-/// The items that `read_lines` gives, and its error.
+/// The lines that `read_lines` gives, and its error.
+pub fn whole_lines<R: CountedRead>(
+    alloc: Global,
+    encoding: Encoding,
+    input: &mut R,
+) -> (Vec<Line>, Option<PropertiesError>) {
+    match read_lines(alloc, input, encoding) {
+        Ok(lines) => (lines, None),
+        Err(Stopped { lines, error }) => (lines, Some(error)),
+    }
+}
+
+/// The same as items.
 pub fn whole_items<R: CountedRead>(
     alloc: Global,
     encoding: Encoding,
     input: &mut R,
 ) -> Result<Vec<Item>, AllocError> {
-    match read_lines(alloc, input, encoding) {
-        Ok(lines) => items_of(alloc, lines.as_slice()),
-        Err(Stopped { lines, error }) => {
-            let mut items = items_of(alloc, lines.as_slice())?;
-            items.push(Item::of_error(alloc, &error)?)?;
-            Ok(items)
-        }
-    }
-}
-
-fn items_of(alloc: Global, lines: &[Line]) -> Result<Vec<Item>, AllocError> {
+    let (lines, error) = whole_lines(alloc, encoding, input);
     let mut items = Vec::new(alloc);
-    for line in lines {
+    for line in &lines {
         items.push(Item::of_line(alloc, line)?)?;
+    }
+    if let Some(error) = &error {
+        items.push(Item::of_error(alloc, error)?)?;
     }
     Ok(items)
 }
 
-/// The items that are read of these bytes, each after a semicolon.
-pub fn items_after(alloc: Global, encoding: Encoding, bytes: &[u8]) -> Result<String, AllocError> {
-    let mut input = bytes;
-    let items = whole_items(alloc, encoding, &mut input)?;
-    let items = joined(alloc, Reading::Items, items.as_slice())?;
-    format!(in alloc; "; {items}")
+/// The items that clauses have read of these bytes, each reading after a semicolon.
+pub fn items_after(alloc: Global, clauses: &[Clause], bytes: &[u8]) -> Result<String, AllocError> {
+    let mut all = String::new(alloc);
+    for clause in clauses {
+        if let Some(encoding) = clause.reading() {
+            let mut input = bytes;
+            let items = whole_items(alloc, encoding, &mut input)?;
+            all.push_str("; ")?;
+            all.push_str(joined(alloc, Reading::Items, items.as_slice())?.as_str())?;
+        }
+    }
+    Ok(all)
+}
+
+/// The map that `read` gives, sorted by its keys.
+pub fn read_and_sort<R: CountedRead>(
+    alloc: Global,
+    input: &mut R,
+) -> Result<BTreeMap<String, String>, PropertiesError> {
+    let mut sorted = BTreeMap::new(alloc);
+    for (key, value) in read(alloc, input)?.iter() {
+        sorted.insert(key.clone()?, value.clone()?)?;
+    }
+    Ok(sorted)
 }

@@ -1,30 +1,20 @@
 // Labels of encodings.
 
-use crate::notation::{Clause, Halt, text};
+use crate::notation::{Halt, Row, text};
 use crate::outcome::Outcome;
 use java_properties::Encoding;
-use std::alloc::Global;
 
 /// Whether a text is a label of the encoding.
-pub fn check_label(
-    alloc: Global,
-    encoding: Encoding,
-    clauses: &[Clause],
-    outcome: &mut Outcome,
-) -> Result<(), Halt> {
-    let [clause] = clauses else {
+pub fn check_label(row: Row<'_>, outcome: &mut Outcome) -> Result<(), Halt> {
+    let [clause] = row.clauses else {
         return Err(Halt::Unreadable);
     };
-    let ("", [label]) = (clause.word.as_str(), clause.texts.as_slice()) else {
-        return Err(Halt::Unreadable);
-    };
-    let came = if Encoding::for_label(text(label)?) == Some(encoding) {
+    let label = text(clause.bytes()?)?;
+    let came = if Encoding::for_label(label) == Some(row.encoding) {
         "yes"
     } else {
         "no"
     };
-    if outcome.differs(came) {
-        outcome.fail(String::from_str(alloc, came)?);
-    }
+    outcome.compare("as a label", came)?;
     Ok(())
 }

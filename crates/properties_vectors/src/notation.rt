@@ -42,12 +42,69 @@ impl Clause {
         }
     }
 
+    /// Returns the word and the texts.
+    pub fn parts(&self) -> (&str, &[Vec<u8>]) {
+        (self.word.as_str(), self.texts.as_slice())
+    }
+
+    /// Returns the bytes of a clause that is a text alone.
+    pub fn bytes(&self) -> Result<&[u8], Halt> {
+        match self.parts() {
+            ("", [bytes]) => Ok(bytes.as_slice()),
+            _ => Err(Halt::Unreadable),
+        }
+    }
+
+    /// Returns the encoding in which a clause, as `read utf-8`, has bytes read.
+    pub fn reading(&self) -> Option<Encoding> {
+        Encoding::from_name(self.word.as_str().strip_prefix("read ")?)
+    }
+
     fn unless_empty(self) -> Result<Clause, Halt> {
         if self.word.is_empty() && self.texts.is_empty() {
             Err(Halt::Unreadable)
         } else {
             Ok(self)
         }
+    }
+}
+
+/// The left side of a row, in one of the encodings of its heading.
+#[derive(Clone, Copy)]
+pub struct Row<'a> {
+    pub alloc: Global,
+    pub encoding: Encoding,
+    pub clauses: &'a [Clause],
+}
+
+/// The source that a row begins with.
+#[derive(Clone, Copy)]
+pub struct Source<'a> {
+    pub alloc: Global,
+    pub encoding: Encoding,
+    pub bytes: &'a [u8],
+}
+
+impl<'a> Row<'a> {
+    /// Returns the source that the row begins with, and the clauses after it.
+    pub fn source(self) -> Result<(Source<'a>, &'a [Clause]), Halt> {
+        let [first, steps @ ..] = self.clauses else {
+            return Err(Halt::Unreadable);
+        };
+        let source = Source {
+            alloc: self.alloc,
+            encoding: self.encoding,
+            bytes: first.bytes()?,
+        };
+        Ok((source, steps))
+    }
+
+    /// Returns the row before the clause at this place, if one is named, and the clauses from there on.
+    pub fn split(self, place: Option<usize>) -> (Row<'a>, &'a [Clause]) {
+        let place = place.unwrap_or(self.clauses.len());
+        let clauses = self.clauses.get(..place).unwrap_or_default();
+        let rest = self.clauses.get(place..).unwrap_or_default();
+        (Row { clauses, ..self }, rest)
     }
 }
 
@@ -156,11 +213,6 @@ fn push_character(alloc: Global, bytes: &mut Vec<u8>, character: char) -> Result
     bytes.extend_from_slice(text.as_bytes())
 }
 
-/// Returns the encoding in which a clause, as `read utf-8`, has bytes read.
-pub fn reading_of(word: &str) -> Option<Encoding> {
-    Encoding::from_name(word.strip_prefix("read ")?)
-}
-
 /// Returns the text in quotes, as a right side has it. A thousand equal characters or more at its front are counted.
 pub fn shown(alloc: Global, text: &str) -> Result<String, AllocError> {
     if let Some(first) = text.chars().next() {
@@ -191,11 +243,11 @@ pub fn quoted(alloc: Global, bytes: &[u8]) -> Result<String, AllocError> {
 }
 
 /// Returns the text that these bytes are.
-pub fn text(bytes: &Vec<u8>) -> Result<&str, Halt> {
-    str::from_utf8(bytes.as_slice()).or(Err(Halt::Unreadable))
+pub fn text(bytes: &[u8]) -> Result<&str, Halt> {
+    str::from_utf8(bytes).or(Err(Halt::Unreadable))
 }
 
 /// Returns the text that these bytes are, as a string of its own.
-pub fn owned(alloc: Global, bytes: &Vec<u8>) -> Result<String, Halt> {
+pub fn owned(alloc: Global, bytes: &[u8]) -> Result<String, Halt> {
     Ok(String::from_str(alloc, text(bytes)?)?)
 }

@@ -7,7 +7,7 @@ mod ways;
 
 use crate::copying::check_into_both_encodings;
 use crate::items::{Kind, Reading, joined, whole_items};
-use crate::notation::{Clause, Halt};
+use crate::notation::{Halt, Row};
 use crate::outcome::Outcome;
 use crate::script::{SIZES, Script};
 use before_fault::items_before_fault;
@@ -44,9 +44,9 @@ impl Pace {
 #[derive(Clone, Copy)]
 struct Task {
     alloc: Global,
+    encoding: Encoding,
     reading: Reading,
     pace: Pace,
-    encoding: Encoding,
 }
 
 impl Task {
@@ -69,20 +69,18 @@ impl Task {
 /// A text alone is read whole and in pieces, and at a thorough pace up to a fault after each of its bytes. A text with
 /// a fault after it is read whole and byte by byte. Other texts are read piece by piece as they are.
 pub fn check_reading(
-    alloc: Global,
+    row: Row<'_>,
     reading: Reading,
     pace: Pace,
-    encoding: Encoding,
-    clauses: &[Clause],
     outcome: &mut Outcome,
 ) -> Result<(), Halt> {
     let task = Task {
-        alloc,
+        alloc: row.alloc,
+        encoding: row.encoding,
         reading,
         pace,
-        encoding,
     };
-    let script = Script::new(alloc, clauses)?;
+    let script = Script::new(row)?;
     match (script.pieces.as_slice(), script.tail) {
         ([bytes], Tail::End) => check_bytes(task, bytes.as_slice(), outcome),
         ([bytes], fault) => check_front(task, bytes.as_slice(), fault, outcome),
@@ -95,9 +93,8 @@ fn check_bytes(task: Task, bytes: &[u8], outcome: &mut Outcome) -> Result<(), Ha
     for way in task.ways() {
         let (came, _) = read_by(alloc, task.encoding, bytes, *way)?;
         let came = joined(alloc, task.reading, came.as_slice())?;
-        if outcome.differs(came.as_str()) {
-            outcome.fail(format!(in alloc; "whole, by {way:?}: {came}")?);
-        }
+        let way = format!(in alloc; "whole, by {way:?}")?;
+        outcome.compare(&way, &came)?;
     }
     for size in task.pace.sizes() {
         let script = Script::of_bytes(alloc, bytes, *size, Tail::End)?;
@@ -151,17 +148,14 @@ fn check_script(task: Task, script: &Script, outcome: &mut Outcome) -> Result<()
     let longest = script.pieces.first().map_or(0, |piece| piece.len());
     let mut reads = None;
     for way in task.ways() {
-        let (items, input) = read_by(alloc, task.encoding, script.reader(alloc)?, *way)?;
+        let (items, input) = read_by(alloc, task.encoding, script.reader()?, *way)?;
         let came = joined(alloc, task.reading, items.as_slice())?;
-        if outcome.differs(came.as_str()) {
-            outcome.fail(format!(in alloc; "in pieces of {longest}, by {way:?}: {came}")?);
-        }
+        let way = format!(in alloc; "in pieces of {longest}, by {way:?}")?;
+        outcome.compare(&way, &came)?;
         let faults = usize::from(items.last().is_some_and(|item| item.kind == Kind::Fault));
         if input.reads() != *reads.get_or_insert(input.reads()) || input.faults() != faults {
             let (reads, faults) = (input.reads(), input.faults());
-            outcome.fail(format!(in alloc;
-                "in pieces of {longest}, by {way:?}: {reads} reads, {faults} faults"
-            )?);
+            outcome.fail(format!(in alloc; "{way}: {reads} reads, {faults} faults")?);
         }
     }
     Ok(())

@@ -1,6 +1,6 @@
 // What a row is read from: pieces, and then the end or a fault.
 
-use crate::notation::{Clause, Halt};
+use crate::notation::{Halt, Row};
 use counted_io::{ScriptedReader, Tail};
 use std::alloc::{AllocError, Global};
 use std::io;
@@ -18,17 +18,17 @@ pub struct Script {
 impl Script {
     /// Reads a script. Each clause is a text, which a number before it repeats. The last one may be `fault` with its
     /// kind.
-    pub fn new(alloc: Global, clauses: &[Clause]) -> Result<Script, Halt> {
-        let mut pieces = Vec::new(alloc);
+    pub fn new(row: Row<'_>) -> Result<Script, Halt> {
+        let mut pieces = Vec::new(row.alloc);
         let mut tail = Tail::End;
-        for clause in clauses {
-            match (tail, clause.texts.as_slice()) {
-                (Tail::End, [text]) => {
-                    for _ in 0..times_of(clause.word.as_str())? {
-                        pieces.push(Vec::from_slice(alloc, text.as_slice())?)?;
+        for clause in row.clauses {
+            match (tail, clause.parts()) {
+                (Tail::End, (times, [text])) => {
+                    for _ in 0..times_of(times)? {
+                        pieces.push(text.clone()?)?;
                     }
                 }
-                (Tail::End, []) => tail = Tail::Fault(fault_kind(clause.word.as_str())?),
+                (Tail::End, (fault, [])) => tail = Tail::Fault(fault_kind(fault)?),
                 _ => return Err(Halt::Unreadable),
             }
         }
@@ -50,12 +50,8 @@ impl Script {
     }
 
     /// Returns a reader that does what the script says.
-    pub fn reader(&self, alloc: Global) -> Result<ScriptedReader, AllocError> {
-        let mut pieces = Vec::new(alloc);
-        for piece in self.pieces.as_slice() {
-            pieces.push(Vec::from_slice(alloc, piece.as_slice())?)?;
-        }
-        Ok(ScriptedReader::new(pieces, self.tail))
+    pub fn reader(&self) -> Result<ScriptedReader, AllocError> {
+        Ok(ScriptedReader::new(self.pieces.clone()?, self.tail))
     }
 }
 

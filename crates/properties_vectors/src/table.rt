@@ -6,11 +6,11 @@ use crate::editing::check_edit;
 use crate::editing::pairs::{check_edit_pairs, check_get_pairs};
 use crate::items::Reading;
 use crate::labels::check_label;
-use crate::notation::{Clause, Halt, clauses};
+use crate::notation::{Clause, Halt, Row, clauses};
 use crate::outcome::Outcome;
 use crate::reading::{Pace, check_compared, check_printed, check_reading};
 use crate::writing::maps::check_maps;
-use crate::writing::{check_printing, check_writing};
+use crate::writing::{Words, check_writing};
 use java_properties::Encoding;
 use std::alloc::{AllocError, Global};
 
@@ -28,8 +28,7 @@ enum Kind {
     ReadPrint,
     Compare,
     Copy,
-    Write,
-    WritePrint,
+    Write(Words),
     WriteMap,
     Edit,
     EditPairs,
@@ -64,7 +63,14 @@ pub fn check_table(alloc: Global, table: &str, pace: Pace) -> Result<Report, All
                 let is_empty = heading.is_some() && report.rows == rows_above;
                 rows_above = report.rows;
                 heading = heading_of(alloc, line, pace)?;
-                failure_of_heading(alloc, is_empty, heading.is_some())?
+                if heading.is_none() {
+                    Some(String::from_str(alloc, "this heading is not understood")?)
+                } else if is_empty {
+                    let text = "no row is between this heading and the one above";
+                    Some(String::from_str(alloc, text)?)
+                } else {
+                    None
+                }
             }
             Some((left, right)) => match &heading {
                 Some(heading) => check_row(alloc, heading, left, right.trim(), &mut report.rows)?,
@@ -80,21 +86,6 @@ pub fn check_table(alloc: Global, table: &str, pace: Pace) -> Result<Report, All
         report.failures.push_str("no row is at the end\n")?;
     }
     Ok(report)
-}
-
-fn failure_of_heading(
-    alloc: Global,
-    is_above_empty: bool,
-    is_understood: bool,
-) -> Result<Option<String>, AllocError> {
-    let text = if !is_understood {
-        "this heading is not understood"
-    } else if is_above_empty {
-        "no row is between this heading and the one above"
-    } else {
-        return Ok(None);
-    };
-    Ok(Some(String::from_str(alloc, text)?))
 }
 
 // A kind and the encodings after it, of which there is one at least.
@@ -130,8 +121,8 @@ fn kind_of(word: &str) -> Option<Kind> {
         "read-print" => Some(Kind::ReadPrint),
         "compare" => Some(Kind::Compare),
         "copy" => Some(Kind::Copy),
-        "write" => Some(Kind::Write),
-        "write-print" => Some(Kind::WritePrint),
+        "write" => Some(Kind::Write(Words::Parts)),
+        "write-print" => Some(Kind::Write(Words::Printed)),
         "write-map" => Some(Kind::WriteMap),
         "edit" => Some(Kind::Edit),
         "edit-pairs" => Some(Kind::EditPairs),
@@ -175,30 +166,24 @@ fn outcome_of(
     right: &str,
 ) -> Result<Outcome, Halt> {
     let clauses: Vec<Clause> = clauses(alloc, left)?;
-    let clauses = clauses.as_slice();
+    let row = Row {
+        alloc,
+        encoding,
+        clauses: clauses.as_slice(),
+    };
     let mut outcome = Outcome::new(alloc, right)?;
     match heading.kind {
-        Kind::Read(reading) => {
-            check_reading(
-                alloc,
-                reading,
-                heading.pace,
-                encoding,
-                clauses,
-                &mut outcome,
-            )?;
-        }
-        Kind::ReadPrint => check_printed(alloc, encoding, clauses, &mut outcome)?,
-        Kind::Compare => check_compared(alloc, encoding, clauses, &mut outcome)?,
-        Kind::Copy => check_copying(alloc, encoding, clauses, &mut outcome)?,
-        Kind::Write => check_writing(alloc, encoding, clauses, &mut outcome)?,
-        Kind::WritePrint => check_printing(alloc, encoding, clauses, &mut outcome)?,
-        Kind::WriteMap => check_maps(alloc, encoding, clauses, &mut outcome)?,
-        Kind::Edit => check_edit(alloc, encoding, clauses, &mut outcome)?,
-        Kind::EditPairs => check_edit_pairs(alloc, encoding, clauses, &mut outcome)?,
-        Kind::GetPairs => check_get_pairs(alloc, encoding, clauses, &mut outcome)?,
-        Kind::Convert => check_converting(alloc, encoding, clauses, &mut outcome)?,
-        Kind::Label => check_label(alloc, encoding, clauses, &mut outcome)?,
+        Kind::Read(reading) => check_reading(row, reading, heading.pace, &mut outcome)?,
+        Kind::ReadPrint => check_printed(row, &mut outcome)?,
+        Kind::Compare => check_compared(row, &mut outcome)?,
+        Kind::Copy => check_copying(row, &mut outcome)?,
+        Kind::Write(words) => check_writing(row, words, &mut outcome)?,
+        Kind::WriteMap => check_maps(row, &mut outcome)?,
+        Kind::Edit => check_edit(row, &mut outcome)?,
+        Kind::EditPairs => check_edit_pairs(row, &mut outcome)?,
+        Kind::GetPairs => check_get_pairs(row, &mut outcome)?,
+        Kind::Convert => check_converting(row, &mut outcome)?,
+        Kind::Label => check_label(row, &mut outcome)?,
     }
     Ok(outcome)
 }

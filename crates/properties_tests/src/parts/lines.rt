@@ -7,15 +7,25 @@ use single_lines::logical::{LogicalLine, LogicalLines};
 use single_lines::natural::{NaturalLine, NaturalLines};
 use std::alloc::{AllocError, Global};
 
-// The natural lines of the bytes, each as its number, a bar, its text and a semicolon.
+// Adds a line: its number, a bar, its text and a semicolon.
+fn push_line(
+    alloc: Global,
+    all: &mut String,
+    line: Result<(usize, String), LineError>,
+) -> Result<(), AllocError> {
+    let shown = match line {
+        Ok((number, text)) => format!(in alloc; "{number}|{text};"),
+        Err(error) => format!(in alloc; "{error:?}"),
+    };
+    all.push_str(shown?.as_str())
+}
+
+// The natural lines of the bytes.
 fn natural_lines(alloc: Global, bytes: &[u8]) -> Result<String, AllocError> {
     let mut all = String::new(alloc);
     for line in NaturalLines::new(alloc, bytes, Encoding::WINDOWS_1252) {
-        let shown = match line {
-            Ok(NaturalLine(number, text)) => format!(in alloc; "{number}|{text};"),
-            Err(error) => format!(in alloc; "{error:?}"),
-        };
-        all.push_str(shown?.as_str())?;
+        let line = line.map(|NaturalLine(number, text)| (number, text));
+        push_line(alloc, &mut all, line)?;
     }
     Ok(all)
 }
@@ -56,15 +66,12 @@ fn numbered(
     Ok(lines)
 }
 
-// Their logical lines, shown in the same way.
+// Their logical lines.
 fn logical_lines(alloc: Global, texts: &[&str]) -> Result<String, AllocError> {
     let mut all = String::new(alloc);
     for line in LogicalLines::new(numbered(alloc, texts)?.into_iter()) {
-        let shown = match line {
-            Ok(LogicalLine(number, text)) => format!(in alloc; "{number}|{text};"),
-            Err(error) => format!(in alloc; "{error:?}"),
-        };
-        all.push_str(shown?.as_str())?;
+        let line = line.map(|LogicalLine(number, text)| (number, text));
+        push_line(alloc, &mut all, line)?;
     }
     Ok(all)
 }

@@ -1,16 +1,14 @@
 // How little is read for an item.
 
 use crate::same::same;
-use counted_io::{ScriptedReader, Tail};
+use crate::script::{TIMES_OUT, script};
 use java_properties::PropertiesIter;
-use std::io;
 use std::test::Fail;
 
 // An item that is held is given before anything more is read.
 #[test]
 fn reading_is_lazy(rt: HostRuntime) -> Result<(), Fail> {
-    let pieces = vec![in rt.alloc(); Vec::from_slice(rt.alloc(), b"a=1\n")?]?;
-    let input = ScriptedReader::new(pieces, Tail::Fault(io::ErrorKind::TimedOut));
+    let input = script(rt.alloc(), b"a=1\n", 4, TIMES_OUT)?;
     let mut items = PropertiesIter::new(rt.alloc(), input)?;
     same(&rt, items.get_ref().reads(), 0);
     same(&rt, matches!(items.next(), Some(Ok(_))), true);

@@ -1,10 +1,10 @@
 // The value of a key in a source.
 
-use crate::failure::{Failure, failure_of};
+use crate::failure::failure_of;
 use crate::same::same;
+use java_properties::Encoding::{UTF_8, UTF_16BE, UTF_16LE, WINDOWS_1252};
+use java_properties::ErrorKind::{InvalidCharacter, NotEnoughDigits, NotHex};
 use java_properties::{Encoding, ErrorKind, value_of};
-use std::alloc::Global;
-use std::process::Abort;
 use std::test::Fail;
 
 #[test]
@@ -25,7 +25,8 @@ fn the_last_pair_with_a_key_gives_its_value(rt: HostRuntime) -> Result<(), Fail>
         (b"\xef\xbb\xbfa=1", "a", Some("1")),
     ];
     for (source, key, wanted) in rows {
-        check_value(&rt, rt.alloc(), source, Encoding::UTF_8, key, wanted)?;
+        let value = value_of(rt.alloc(), source, UTF_8, key)?;
+        same(&rt, value.as_deref(), wanted);
     }
     Ok(())
 }
@@ -33,73 +34,38 @@ fn the_last_pair_with_a_key_gives_its_value(rt: HostRuntime) -> Result<(), Fail>
 #[test]
 fn values_are_read_in_each_encoding_and_by_a_mark(rt: HostRuntime) -> Result<(), Fail> {
     let rows: [(&[u8], Encoding); 7] = [
-        (b"a=\x80", Encoding::WINDOWS_1252),
-        (b"a=\xe2\x82\xac", Encoding::UTF_8),
-        (b"a\0=\0\xac\x20", Encoding::UTF_16LE),
-        (b"\0a\0=\x20\xac", Encoding::UTF_16BE),
-        (b"\xef\xbb\xbfa=\xe2\x82\xac", Encoding::WINDOWS_1252),
-        (b"\xff\xfea\0=\0\xac\x20", Encoding::UTF_16BE),
-        (b"\xfe\xff\0a\0=\x20\xac", Encoding::UTF_8),
+        (b"a=\x80", WINDOWS_1252),
+        (b"a=\xe2\x82\xac", UTF_8),
+        (b"a\0=\0\xac\x20", UTF_16LE),
+        (b"\0a\0=\x20\xac", UTF_16BE),
+        (b"\xef\xbb\xbfa=\xe2\x82\xac", WINDOWS_1252),
+        (b"\xff\xfea\0=\0\xac\x20", UTF_16BE),
+        (b"\xfe\xff\0a\0=\x20\xac", UTF_8),
     ];
     for (source, encoding) in rows {
-        check_value(&rt, rt.alloc(), source, encoding, "a", Some("\u{20ac}"))?;
-        check_value(&rt, rt.alloc(), source, encoding, "b", None)?;
+        for (key, wanted) in [("a", Some("\u{20ac}")), ("b", None)] {
+            let value = value_of(rt.alloc(), source, encoding, key)?;
+            same(&rt, value.as_deref(), wanted);
+        }
     }
-    Ok(())
-}
-
-// The value of a key in a source, or none where none is wanted.
-fn check_value(
-    rt: &impl Abort,
-    alloc: Global,
-    source: &[u8],
-    encoding: Encoding,
-    key: &str,
-    wanted: Option<&str>,
-) -> Result<(), Fail> {
-    let value = value_of(alloc, source, encoding, key)?;
-    same(rt, value.as_deref(), wanted);
     Ok(())
 }
 
 #[test]
 fn a_malformed_escape_anywhere_is_the_error(rt: HostRuntime) {
-    let rows: [(&[u8], Encoding, Failure); 6] = [
-        (
-            b"\\u12=1\na=1",
-            Encoding::UTF_8,
-            (ErrorKind::NotEnoughDigits, Some(1), None),
-        ),
-        (
-            b"a=1\n\nb=\\u00g0\na=2\\ud800",
-            Encoding::UTF_8,
-            (ErrorKind::NotHex, Some(3), None),
-        ),
-        (
-            b"a=1\na=\\ud800",
-            Encoding::WINDOWS_1252,
-            (ErrorKind::InvalidCharacter, Some(2), None),
-        ),
-        (
-            b"a=1\nb=\\\n\\u12",
-            Encoding::UTF_8,
-            (ErrorKind::NotEnoughDigits, Some(2), None),
-        ),
-        (
-            b"a=1\n# C:\\users",
-            Encoding::UTF_8,
-            (ErrorKind::NotHex, Some(2), None),
-        ),
-        (
-            b"\0a\0\n\0\\\0u",
-            Encoding::UTF_16BE,
-            (ErrorKind::NotEnoughDigits, Some(2), None),
-        ),
+    let rows: [(&[u8], Encoding, ErrorKind, usize); 6] = [
+        (b"\\u12=1\na=1", UTF_8, NotEnoughDigits, 1),
+        (b"a=1\n\nb=\\u00g0\na=2\\ud800", UTF_8, NotHex, 3),
+        (b"a=1\na=\\ud800", WINDOWS_1252, InvalidCharacter, 2),
+        (b"a=1\nb=\\\n\\u12", UTF_8, NotEnoughDigits, 2),
+        (b"a=1\n# C:\\users", UTF_8, NotHex, 2),
+        (b"\0a\0\n\0\\\0u", UTF_16BE, NotEnoughDigits, 2),
     ];
-    for (source, encoding, wanted) in rows {
-        match value_of(rt.alloc(), source, encoding, "a") {
-            Ok(_) => same(&rt, None, Some(wanted)),
-            Err(error) => same(&rt, failure_of(&error), wanted),
-        }
+    for (source, encoding, kind, line_number) in rows {
+        let failure = match value_of(rt.alloc(), source, encoding, "a") {
+            Ok(_) => None,
+            Err(error) => Some(failure_of(&error)),
+        };
+        same(&rt, failure, Some((kind, Some(line_number), None)));
     }
 }

@@ -2,7 +2,7 @@
 
 use crate::failure::failure_of;
 use crate::same::same;
-use counted_io::{ScriptedReader, Tail};
+use crate::script::{TIMES_OUT, script};
 use java_properties::{
     Encoding, ErrorKind, MalformedEscape, first_malformed_escape, malformed_escapes,
     malformed_escapes_of,
@@ -39,8 +39,7 @@ fn malformed_escapes_are_found_to_the_end(rt: HostRuntime) -> Result<(), Fail> {
 
 #[test]
 fn a_fault_is_told_in_place_of_the_escapes_before_it(rt: HostRuntime) -> Result<(), Fail> {
-    let pieces = vec![in rt.alloc(); Vec::from_slice(rt.alloc(), b"a = \\u12\nb")?]?;
-    let mut input = ScriptedReader::new(pieces, Tail::Fault(io::ErrorKind::TimedOut));
+    let mut input = script(rt.alloc(), b"a = \\u12\nb", 9, TIMES_OUT)?;
     let failure = match malformed_escapes(rt.alloc(), &mut input, Encoding::UTF_8) {
         Ok(_) => None,
         Err(error) => Some(failure_of(&error)),
@@ -74,8 +73,7 @@ fn the_first_malformed_escape_is_found(rt: HostRuntime) -> Result<(), Fail> {
 
 #[test]
 fn nothing_is_read_after_the_first_malformed_escape(rt: HostRuntime) -> Result<(), Fail> {
-    let pieces = vec![in rt.alloc(); Vec::from_slice(rt.alloc(), b"a = \\u12\nb")?]?;
-    let mut input = ScriptedReader::new(pieces, Tail::Fault(io::ErrorKind::TimedOut));
+    let mut input = script(rt.alloc(), b"a = \\u12\nb", 9, TIMES_OUT)?;
     let found = first_malformed_escape(rt.alloc(), &mut input, Encoding::UTF_8)?;
     same(
         &rt,

@@ -1,7 +1,7 @@
 // Documents that stay open while they are changed.
 
 use crate::items::{error_text, items_after};
-use crate::notation::{Clause, Halt, quoted, reading_of, text};
+use crate::notation::{Clause, Halt, Source, quoted, text};
 use crate::outcome::Outcome;
 use java_properties::{Document, Encoding, LineContent, read_lines, read_sorted};
 use std::alloc::{AllocError, Global};
@@ -9,20 +9,19 @@ use std::alloc::{AllocError, Global};
 /// The document is its source, and then what its changes make of it. Returns what is seen of it besides its bytes: the
 /// values that are asked for, and what is read of the bytes.
 pub fn check_document(
-    alloc: Global,
-    encoding: Encoding,
-    source: &[u8],
+    source: Source<'_>,
     steps: &[Clause],
     outcome: &mut Outcome,
 ) -> Result<String, Halt> {
+    let (alloc, encoding) = (source.alloc, source.encoding);
     let mut seen = String::new(alloc);
-    match Document::parse(alloc, source, encoding) {
+    match Document::parse(alloc, source.bytes, encoding) {
         Err(error) => {
             let came = error_text(alloc, &error)?;
-            outcome.compare(alloc, "by a document", came.as_str())?;
+            outcome.compare("by a document", &came)?;
         }
         Ok(mut document) => {
-            if document.to_bytes()?.as_slice() != source {
+            if document.to_bytes()?.as_slice() != source.bytes {
                 outcome.fail(String::from_str(alloc, "a document isn't its source")?);
             }
             check_values(alloc, encoding, &document, outcome)?;
@@ -31,14 +30,9 @@ pub fn check_document(
                 check_values(alloc, encoding, &document, outcome)?;
             }
             let bytes = document.to_bytes()?;
-            for step in steps {
-                if let Some(encoding) = reading_of(step.word.as_str()) {
-                    let items = items_after(alloc, encoding, bytes.as_slice())?;
-                    seen.push_str(items.as_str())?;
-                }
-            }
+            seen.push_str(items_after(alloc, steps, bytes.as_slice())?.as_str())?;
             let came = format!(in alloc; "{}{seen}", quoted(alloc, bytes.as_slice())?)?;
-            outcome.compare(alloc, "by a document", came.as_str())?;
+            outcome.compare("by a document", &came)?;
         }
     }
     Ok(seen)
@@ -52,7 +46,7 @@ fn take_step(
     seen: &mut String,
     outcome: &mut Outcome,
 ) -> Result<(), Halt> {
-    match (step.word.as_str(), step.texts.as_slice()) {
+    match step.parts() {
         ("put", [key, value]) => document.put(text(key)?, text(value)?)?,
         ("value", [key, value]) => document.set_value(text(key)?, text(value)?)?,
         ("ascii-only", []) => document.set_ascii_only(true),

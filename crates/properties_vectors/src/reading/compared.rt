@@ -1,50 +1,34 @@
 // Lines as values: which of two comes first, and what copies of one are.
 
-use crate::notation::{Clause, Halt};
+use crate::notation::{Clause, Halt, Row};
 use crate::outcome::Outcome;
-use java_properties::{Encoding, Line, read_lines};
-use std::alloc::Global;
+use java_properties::{Line, read_lines};
 use std::cmp::Ordering;
 
 /// The first lines of two inputs are compared, and their contents, and copies of both.
-pub fn check_compared(
-    alloc: Global,
-    encoding: Encoding,
-    clauses: &[Clause],
-    outcome: &mut Outcome,
-) -> Result<(), Halt> {
-    let [first, second] = clauses else {
+pub fn check_compared(row: Row<'_>, outcome: &mut Outcome) -> Result<(), Halt> {
+    let [first, second] = row.clauses else {
         return Err(Halt::Unreadable);
     };
-    let first = first_line(alloc, encoding, first)?;
-    let second = first_line(alloc, encoding, second)?;
-    let first_copy = first.clone()?;
-    let second_copy = second.clone()?;
-    for (left, right) in [
-        (&first, &second),
-        (&first_copy, &second),
-        (&first, &second_copy),
+    let first = first_line(row, first)?;
+    let second = first_line(row, second)?;
+    for (way, left, right) in [
+        ("as they are", &first, &second),
+        ("the first copied", &first.clone()?, &second),
+        ("the second copied", &first, &second.clone()?),
     ] {
         let lines = order(left, right);
         let contents = order(left.content(), right.content());
-        let came = format!(in alloc; "line {lines}, content {contents}")?;
-        if outcome.differs(came.as_str()) {
-            outcome.fail(came);
-        }
+        let came = format!(in row.alloc; "line {lines}, content {contents}")?;
+        outcome.compare(way, &came)?;
     }
     Ok(())
 }
 
-fn first_line(alloc: Global, encoding: Encoding, clause: &Clause) -> Result<Line, Halt> {
-    let ("", [bytes]) = (clause.word.as_str(), clause.texts.as_slice()) else {
-        return Err(Halt::Unreadable);
-    };
-    let mut input = bytes.as_slice();
-    match read_lines(alloc, &mut input, encoding) {
-        Ok(lines) => match lines.into_iter().next() {
-            Some(line) => Ok(line),
-            None => Err(Halt::Unreadable),
-        },
+fn first_line(row: Row<'_>, clause: &Clause) -> Result<Line, Halt> {
+    let mut input = clause.bytes()?;
+    match read_lines(row.alloc, &mut input, row.encoding) {
+        Ok(lines) => lines.into_iter().next().ok_or(Halt::Unreadable),
         Err(_) => Err(Halt::Unreadable),
     }
 }

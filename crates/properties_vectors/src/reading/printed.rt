@@ -1,39 +1,27 @@
 // Items, and the errors that end them, as they are printed.
 
-use crate::notation::{Clause, Halt};
+use crate::items::whole_lines;
+use crate::notation::{Halt, Row};
 use crate::outcome::Outcome;
 use crate::script::Script;
-use java_properties::{Encoding, Line, Stopped, read_lines};
+use java_properties::Line;
 use std::alloc::{AllocError, Global};
 
 /// What the script gives is printed, each item as a line and as the content of one.
-pub fn check_printed(
-    alloc: Global,
-    encoding: Encoding,
-    clauses: &[Clause],
-    outcome: &mut Outcome,
-) -> Result<(), Halt> {
-    let mut input = Script::new(alloc, clauses)?.reader(alloc)?;
-    let (lines, error) = match read_lines(alloc, &mut input, encoding) {
-        Ok(lines) => (lines, None),
-        Err(Stopped { lines, error }) => (lines, Some(error.to_string(alloc)?)),
-    };
-    for is_by_content in [false, true] {
-        let mut came = Vec::new(alloc);
-        for line in lines.as_slice() {
-            came.push(if is_by_content {
-                line_around_content(alloc, line)?
-            } else {
-                line.to_string(alloc)?
-            })?;
+pub fn check_printed(row: Row<'_>, outcome: &mut Outcome) -> Result<(), Halt> {
+    let mut input = Script::new(row)?.reader()?;
+    let (lines, error) = whole_lines(row.alloc, row.encoding, &mut input);
+    let mut by_line = Vec::new(row.alloc);
+    let mut by_content = Vec::new(row.alloc);
+    for line in &lines {
+        by_line.push(line.to_string(row.alloc)?)?;
+        by_content.push(line_around_content(row.alloc, line)?)?;
+    }
+    for (way, mut texts) in [("by lines", by_line), ("by contents", by_content)] {
+        if let Some(error) = &error {
+            texts.push(error.to_string(row.alloc)?)?;
         }
-        if let Some(text) = &error {
-            came.push(text.clone()?)?;
-        }
-        let came = came.as_slice().join(alloc, "; ")?;
-        if outcome.differs(came.as_str()) {
-            outcome.fail(came);
-        }
+        outcome.compare(way, texts.as_slice().join(row.alloc, "; ")?.as_str())?;
     }
     Ok(())
 }

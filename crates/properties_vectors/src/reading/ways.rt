@@ -1,9 +1,9 @@
 // The ways to read an input.
 
-use crate::items::{Item, whole_items};
+use crate::items::{Item, read_and_sort, whole_items};
 use crate::notation::Halt;
 use counted_io::CountedRead;
-use java_properties::{Encoding, Line, PropertiesError, PropertiesIter, read, read_sorted};
+use java_properties::{Encoding, Line, PropertiesError, PropertiesIter, read_sorted};
 use std::alloc::{AllocError, Global};
 use std::collections::BTreeMap;
 
@@ -29,49 +29,27 @@ pub fn read_by<R: CountedRead>(
 ) -> Result<(Vec<Item>, R), Halt> {
     let items = match way {
         Way::ReadLines => whole_items(alloc, encoding, &mut input)?,
-        Way::Read => hashed_pairs(alloc, &mut input)?,
-        Way::ReadSorted => sorted_pairs(alloc, encoding, &mut input)?,
+        Way::Read => map_items(alloc, read_and_sort(alloc, &mut input))?,
+        Way::ReadSorted => map_items(alloc, read_sorted(alloc, &mut input, encoding))?,
         _ => return read_by_iterator(alloc, encoding, input, way),
     };
     Ok((items, input))
 }
 
-// The pairs of a map from `read`, sorted, or its error.
-fn hashed_pairs<R: CountedRead>(alloc: Global, input: &mut R) -> Result<Vec<Item>, Halt> {
-    let map = match read(alloc, input) {
-        Ok(map) => map,
-        Err(error) => return error_alone(alloc, &error),
-    };
-    let mut sorted = BTreeMap::new(alloc);
-    for (key, value) in map.iter() {
-        sorted.insert(key.clone()?, value.clone()?)?;
-    }
-    pairs_of(alloc, &sorted)
-}
-
-// The pairs of a map from `read_sorted`, or its error.
-fn sorted_pairs<R: CountedRead>(
+// The pairs of a map, or the error that came in place of one.
+fn map_items(
     alloc: Global,
-    encoding: Encoding,
-    input: &mut R,
-) -> Result<Vec<Item>, Halt> {
-    match read_sorted(alloc, input, encoding) {
-        Ok(map) => pairs_of(alloc, &map),
-        Err(error) => error_alone(alloc, &error),
-    }
-}
-
-fn pairs_of(alloc: Global, map: &BTreeMap<String, String>) -> Result<Vec<Item>, Halt> {
+    answer: Result<BTreeMap<String, String>, PropertiesError>,
+) -> Result<Vec<Item>, AllocError> {
     let mut items = Vec::new(alloc);
-    for (key, value) in map.iter() {
-        items.push(Item::of_pair(alloc, 0, key.as_str(), value.as_str())?)?;
+    match answer {
+        Ok(map) => {
+            for (key, value) in map.iter() {
+                items.push(Item::of_pair(alloc, 0, key.as_str(), value.as_str())?)?;
+            }
+        }
+        Err(error) => items.push(Item::of_error(alloc, &error)?)?,
     }
-    Ok(items)
-}
-
-fn error_alone(alloc: Global, error: &PropertiesError) -> Result<Vec<Item>, Halt> {
-    let mut items = Vec::new(alloc);
-    items.push(Item::of_error(alloc, error)?)?;
     Ok(items)
 }
 

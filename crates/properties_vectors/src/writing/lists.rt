@@ -1,27 +1,29 @@
 // Calls as a list, which goes on after a refusal and ends at a fault.
 
-use super::{Written, line_ending, shown_calls, writer_to};
+use super::calls::call_of;
+use super::{Written, shown, writer_to};
 use crate::items::error_text;
-use crate::notation::{Clause, Halt, owned, reading_of};
+use crate::notation::{Halt, Row};
 use crate::outcome::Outcome;
 use crate::sinks::Sink;
-use java_properties::{Call, Encoding, run_calls};
+use java_properties::run_calls;
 use std::alloc::{AllocError, Global};
 
 /// The list comes to what its calls came to one by one. Where it ends at a fault, the calls after that are run as the
 /// next list.
 pub fn check_lists(
-    alloc: Global,
-    encoding: Encoding,
+    row: Row<'_>,
     sink: Sink,
-    clauses: &[Clause],
     single: &Written,
     outcome: &mut Outcome,
 ) -> Result<(), Halt> {
-    let calls = calls(alloc, clauses)?;
+    let alloc = row.alloc;
+    let mut calls = Vec::new(alloc);
+    for clause in row.clauses {
+        calls.push(call_of(alloc, clause)?)?;
+    }
     let singles = single.answers.as_slice();
-    let wanted = shown_calls(alloc, singles, single.sink.bytes(), single.sink.faults())?;
-    let mut writer = writer_to(alloc, encoding, sink.open(alloc))?;
+    let mut writer = writer_to(alloc, row.encoding, sink.open(alloc))?;
     let mut answers = Vec::new(alloc);
     for _ in 0..=calls.len() {
         let rest = calls.get(answers.len()..).unwrap_or(&[]);
@@ -39,14 +41,15 @@ pub fn check_lists(
                     if is_fault(single) {
                         break;
                     }
-                    answers.push(copied(alloc, single)?)?;
+                    answers.push(single.clone()?)?;
                 }
                 answers.push(Some(error_text(alloc, &error)?))?;
             }
         }
     }
     let sink = writer.into_inner();
-    let came = shown_calls(alloc, answers.as_slice(), sink.bytes(), sink.faults())?;
+    let wanted = shown(alloc, singles, &single.sink)?;
+    let came = shown(alloc, answers.as_slice(), &sink)?;
     let (count, all) = (answers.len(), singles.len());
     if came != wanted || count != all {
         outcome.fail(format!(in alloc; "as a list, {count} of {all} calls: {came}")?);
@@ -64,7 +67,7 @@ fn accepted_answer(
         return Ok(None);
     }
     match single {
-        Some(answer) if answer.is_some() && !is_fault(answer) => copied(alloc, answer),
+        Some(answer) if answer.is_some() && !is_fault(answer) => answer.clone(),
         _ => Ok(Some(String::from_str(alloc, "refused")?)),
     }
 }
@@ -77,39 +80,4 @@ fn is_fault(answer: &Option<String>) -> bool {
         ),
         None => false,
     }
-}
-
-/// The answer once more.
-pub fn copied(alloc: Global, answer: &Option<String>) -> Result<Option<String>, AllocError> {
-    match answer {
-        Some(text) => Ok(Some(String::from_str(alloc, text.as_str())?)),
-        None => Ok(None),
-    }
-}
-
-fn calls(alloc: Global, clauses: &[Clause]) -> Result<Vec<Call>, Halt> {
-    let mut calls = Vec::new(alloc);
-    for clause in clauses {
-        if reading_of(clause.word.as_str()).is_none() {
-            calls.push(call(alloc, clause)?)?;
-        }
-    }
-    Ok(calls)
-}
-
-fn call(alloc: Global, clause: &Clause) -> Result<Call, Halt> {
-    let call = match (clause.word.as_str(), clause.texts.as_slice()) {
-        ("pair", [key, value]) => Call::Pair(owned(alloc, key)?, owned(alloc, value)?),
-        ("comment", [line]) => Call::Comment(owned(alloc, line)?),
-        ("prefix", [prefix]) => Call::Prefix(owned(alloc, prefix)?),
-        ("separator", [separator]) => Call::Separator(owned(alloc, separator)?),
-        ("ending", [ending]) => Call::Ending(line_ending(ending)?),
-        ("ascii-only", []) => Call::AsciiOnly(true),
-        ("all-characters", []) => Call::AsciiOnly(false),
-        ("readable", []) => Call::Readable(true),
-        ("escaped", []) => Call::Readable(false),
-        ("flush" | "finish", []) => Call::Flush,
-        _ => return Err(Halt::Unreadable),
-    };
-    Ok(call)
 }

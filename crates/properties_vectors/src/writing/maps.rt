@@ -1,13 +1,13 @@
 // Maps that are written whole, each pair a clause.
 
-use super::{call, shown_calls, writer_to};
-use crate::items::error_text;
-use crate::notation::{Clause, Halt, owned};
+use super::{call, shown, shown_with, writer_to};
+use crate::items::{error_text, read_and_sort};
+use crate::notation::{Clause, Halt, Row, owned};
 use crate::outcome::Outcome;
-use crate::sinks::{FAULTS, ROOMY, Sink, cut_at, fault_text, front_sink};
+use crate::sinks::{ROOMY, Sink, failing_writes, front_sink};
 use counted_io::ScriptedSink;
 use java_properties::{
-    Encoding, PropertiesError, PropertiesWriter, read, read_sorted, write, write_sorted,
+    Encoding, PropertiesError, PropertiesWriter, read_sorted, write, write_sorted,
 };
 use std::alloc::{AllocError, Global};
 use std::collections::{BTreeMap, HashMap};
@@ -20,94 +20,83 @@ enum Way {
     WriteMap,
 }
 
-// What is written: the calls that come before the map's, and the map.
-#[derive(Clone, Copy)]
-struct Given<'a> {
-    encoding: Encoding,
-    calls: &'a [Clause],
-    pairs: &'a [Clause],
-}
-
 /// The map is written by a writer after the calls before it, and without such calls also sorted, and in windows-1252 as
 /// a hash map. Where the row names no sink, it is read back, and written again to sinks that take little and fail, at
 /// each write.
-pub fn check_maps(
-    alloc: Global,
-    encoding: Encoding,
-    clauses: &[Clause],
-    outcome: &mut Outcome,
-) -> Result<(), Halt> {
-    let (named, clauses) = front_sink(alloc, clauses)?;
-    let (calls, pairs) = front_calls(clauses);
-    let given = Given {
-        encoding,
-        calls,
-        pairs,
-    };
-    check_map(alloc, given, named, Way::WriteMap, outcome)?;
-    if calls.is_empty() {
-        check_map(alloc, given, named, Way::WriteSorted, outcome)?;
-        if encoding == Encoding::WINDOWS_1252 {
-            check_map(alloc, given, named, Way::Write, outcome)?;
+pub fn check_maps(row: Row<'_>, outcome: &mut Outcome) -> Result<(), Halt> {
+    let (named, row) = front_sink(row)?;
+    let mut clauses = row.clauses.iter();
+    let is_of_map = |clause: &Clause| matches!(clause.word.as_str(), "pair" | "nothing");
+    let (calls, pairs) = row.split(clauses.position(is_of_map));
+    let map = map_of(row.alloc, pairs)?;
+    check_map(calls, &map, named, Way::WriteMap, outcome)?;
+    if calls.clauses.is_empty() {
+        check_map(calls, &map, named, Way::WriteSorted, outcome)?;
+        if row.encoding == Encoding::WINDOWS_1252 {
+            check_map(calls, &map, named, Way::Write, outcome)?;
         }
     }
     Ok(())
 }
 
-// The calls that a row begins with, and the clauses of its map.
-fn front_calls(clauses: &[Clause]) -> (&[Clause], &[Clause]) {
-    let mut count = 0usize;
+// The map of these pairs, or the empty one of `nothing`.
+fn map_of(alloc: Global, clauses: &[Clause]) -> Result<BTreeMap<String, String>, Halt> {
+    let mut map = BTreeMap::new(alloc);
     for clause in clauses {
-        if matches!(clause.word.as_str(), "pair" | "nothing") {
-            break;
-        }
-        count = count.saturating_add(1);
+        match clause.parts() {
+            ("pair", [key, value]) => map.insert(owned(alloc, key)?, owned(alloc, value)?)?,
+            ("nothing", []) => None,
+            _ => return Err(Halt::Unreadable),
+        };
     }
-    (
-        clauses.get(..count).unwrap_or_default(),
-        clauses.get(count..).unwrap_or_default(),
-    )
+    Ok(map)
 }
 
 fn check_map(
-    alloc: Global,
-    given: Given<'_>,
+    calls: Row<'_>,
+    map: &BTreeMap<String, String>,
     named: Option<Sink>,
     way: Way,
     outcome: &mut Outcome,
 ) -> Result<(), Halt> {
-    let (came, sink) = written(alloc, given, named.unwrap_or(ROOMY), way)?;
+    let alloc = calls.alloc;
+    let (came, whole) = written(calls, map, named.unwrap_or(ROOMY), way)?;
     let name = format!(in alloc; "by {way:?}")?;
-    outcome.compare(alloc, name.as_str(), came.as_str())?;
-    if named.is_none() {
-        if !is_read_back(alloc, given, sink.bytes(), way)? {
-            outcome.fail(format!(in alloc; "{name}: another map is read back")?);
-        }
-        check_faults(alloc, given, sink.bytes(), way, outcome)?;
+    outcome.compare(&name, &came)?;
+    if named.is_some() {
+        return Ok(());
+    }
+    if !is_read_back(calls, map, whole.bytes(), way) {
+        outcome.fail(format!(in alloc; "{name}: another map is read back")?);
+    }
+    let ends = line_ends(alloc, whole.bytes())?;
+    for failing in &failing_writes(alloc, ends.as_slice())? {
+        let (came, sink) = written(calls, map, failing.sink, way)?;
+        let answer = Some(failing.text(alloc)?);
+        let wanted = shown_with(alloc, &[answer], failing.taken_of(whole.bytes()), 1)?;
+        failing.check(&name, &sink, &came, &wanted, outcome)?;
     }
     Ok(())
 }
 
 // What came of the map in a sink of this kind, and the sink.
 fn written(
-    alloc: Global,
-    given: Given<'_>,
+    calls: Row<'_>,
+    map: &BTreeMap<String, String>,
     sink: Sink,
     way: Way,
 ) -> Result<(String, ScriptedSink), Halt> {
+    let alloc = calls.alloc;
     let mut sink = sink.open(alloc);
     let done = match way {
-        Way::Write => write(alloc, &mut sink, &hash_map(alloc, given.pairs)?),
-        Way::WriteSorted => {
-            let map = sorted_map(alloc, given.pairs)?;
-            write_sorted(alloc, &mut sink, &map, given.encoding)
-        }
+        Way::Write => write(alloc, &mut sink, &hashed(alloc, map)?),
+        Way::WriteSorted => write_sorted(alloc, &mut sink, map, calls.encoding),
         Way::WriteMap => {
-            let mut writer = writer_to(alloc, given.encoding, sink)?;
-            for clause in given.calls {
-                call(&mut writer, clause)?.or(Err(Halt::Unreadable))?;
+            let mut writer = writer_to(alloc, calls.encoding, sink)?;
+            for clause in calls.clauses {
+                call(alloc, &mut writer, clause)?.or(Err(Halt::Unreadable))?;
             }
-            let done = write_and_flush(&mut writer, &sorted_map(alloc, given.pairs)?);
+            let done = write_and_flush(&mut writer, map);
             sink = writer.into_inner();
             done
         }
@@ -116,8 +105,19 @@ fn written(
         Ok(()) => None,
         Err(error) => Some(error_text(alloc, &error)?),
     };
-    let came = shown_calls(alloc, &[answer], sink.bytes(), sink.faults())?;
+    let came = shown(alloc, &[answer], &sink)?;
     Ok((came, sink))
+}
+
+fn hashed(
+    alloc: Global,
+    map: &BTreeMap<String, String>,
+) -> Result<HashMap<String, String>, AllocError> {
+    let mut hashed = HashMap::new(alloc);
+    for (key, value) in map {
+        hashed.insert(key.clone()?, value.clone()?)?;
+    }
+    Ok(hashed)
 }
 
 fn write_and_flush(
@@ -126,36 +126,6 @@ fn write_and_flush(
 ) -> Result<(), PropertiesError> {
     writer.write_map(map)?;
     writer.flush()
-}
-
-// The line in which a write fails is named, and no write comes after it.
-fn check_faults(
-    alloc: Global,
-    given: Given<'_>,
-    whole: &[u8],
-    way: Way,
-    outcome: &mut Outcome,
-) -> Result<(), Halt> {
-    let ends = line_ends(alloc, whole)?;
-    for most in 1..=3 {
-        for fail_at in 1..=whole.len() {
-            if let Some(cut) = cut_at(ends.as_slice(), most, fail_at) {
-                for how in FAULTS {
-                    let sink = Sink::failing(most, fail_at, how);
-                    let (came, sink) = written(alloc, given, sink, way)?;
-                    let answer = Some(fault_text(alloc, cut.line, how)?);
-                    let taken = whole.get(..cut.taken).unwrap_or(whole);
-                    let wanted = shown_calls(alloc, &[answer], taken, 1)?;
-                    if came != wanted || sink.calls() != fail_at {
-                        outcome.fail(format!(in alloc;
-                            "by {way:?}, where write {fail_at} fails, in place of {wanted}: {came}"
-                        )?);
-                    }
-                }
-            }
-        }
-    }
-    Ok(())
 }
 
 // Where each line ends.
@@ -170,51 +140,18 @@ fn line_ends(alloc: Global, bytes: &[u8]) -> Result<Vec<usize>, AllocError> {
 }
 
 // Whether the map is read of its bytes. What is written for UTF-16 is UTF-8.
-fn is_read_back(alloc: Global, given: Given<'_>, bytes: &[u8], way: Way) -> Result<bool, Halt> {
+fn is_read_back(calls: Row<'_>, map: &BTreeMap<String, String>, bytes: &[u8], way: Way) -> bool {
     let mut input = bytes;
-    match way {
-        Way::Write => match read(alloc, &mut input) {
-            Ok(map) => Ok(map == hash_map(alloc, given.pairs)?),
-            Err(_) => Ok(false),
-        },
-        Way::WriteSorted | Way::WriteMap => {
-            let written = match given.encoding {
-                Encoding::WINDOWS_1252 => Encoding::WINDOWS_1252,
-                _ => Encoding::UTF_8,
-            };
-            match read_sorted(alloc, &mut input, written) {
-                Ok(map) => Ok(map == sorted_map(alloc, given.pairs)?),
-                Err(_) => Ok(false),
-            }
-        }
-    }
-}
-
-fn hash_map(alloc: Global, clauses: &[Clause]) -> Result<HashMap<String, String>, Halt> {
-    let mut map = HashMap::new(alloc);
-    for clause in clauses {
-        if let Some((key, value)) = pair(clause)? {
-            map.insert(owned(alloc, key)?, owned(alloc, value)?)?;
-        }
-    }
-    Ok(map)
-}
-
-fn sorted_map(alloc: Global, clauses: &[Clause]) -> Result<BTreeMap<String, String>, Halt> {
-    let mut map = BTreeMap::new(alloc);
-    for clause in clauses {
-        if let Some((key, value)) = pair(clause)? {
-            map.insert(owned(alloc, key)?, owned(alloc, value)?)?;
-        }
-    }
-    Ok(map)
-}
-
-// A pair, or none, as the empty map has it.
-fn pair(clause: &Clause) -> Result<Option<(&Vec<u8>, &Vec<u8>)>, Halt> {
-    match (clause.word.as_str(), clause.texts.as_slice()) {
-        ("pair", [key, value]) => Ok(Some((key, value))),
-        ("nothing", []) => Ok(None),
-        _ => Err(Halt::Unreadable),
+    let written = match calls.encoding {
+        Encoding::WINDOWS_1252 => Encoding::WINDOWS_1252,
+        _ => Encoding::UTF_8,
+    };
+    let answer = match way {
+        Way::Write => read_and_sort(calls.alloc, &mut input),
+        Way::WriteSorted | Way::WriteMap => read_sorted(calls.alloc, &mut input, written),
+    };
+    match answer {
+        Ok(found) => found == *map,
+        Err(_) => false,
     }
 }

@@ -1,0 +1,92 @@
+// Runs of `propedit check`.
+
+use crate::runs::{Program, Row, check_runs};
+use std::test::Fail;
+
+const CHECK: &[Row] = &[
+    ("check", b"a=1", 0, b""),
+    (
+        "check",
+        b"a=1\nb=2\na=3",
+        1,
+        b"standard input:3: repeats the key of line 1\n",
+    ),
+    (
+        "-f -- check",
+        b"a=1\na=2",
+        1,
+        b"--:2: repeats the key of line 1\n",
+    ),
+    (
+        "check",
+        b"# C:\\users\na=\\u00e9\nb=\\u12",
+        1,
+        b"standard input:1: Malformed \\uxxxx encoding: not hex. \
+          (in a comment, which Java and propedit pass over)\n\
+          standard input:3: Malformed \\uxxxx encoding: not enough digits.\n",
+    ),
+    // All three kinds of findings, in the order of the lines.
+    (
+        "-f x check",
+        b"# C:\\users\na=1\na=\xe9\nb=\\u12\nc=2\na=4",
+        1,
+        b"x:1: Malformed \\uxxxx encoding: not hex. \
+          (in a comment, which Java and propedit pass over)\n\
+          x:3: not UTF-8; -e windows-1252 reads it\n\
+          x:3: repeats the key of line 2\n\
+          x:4: Malformed \\uxxxx encoding: not enough digits.\n\
+          x:6: repeats the key of line 2\n",
+    ),
+    // U+FFFD itself is a character as any other where all lines are UTF-8.
+    (
+        "check",
+        b"\xef\xbf\xbd=1\n\xef\xbf\xbd=2",
+        1,
+        b"standard input:2: repeats the key of line 1\n",
+    ),
+    // A byte order mark overrules the option. Two keys are U+FFFD, and may be different bytes.
+    (
+        "-e windows-1252 check",
+        b"\xef\xbb\xbfa=1\r\nb=caf\xe9\rc=\xc3\xa9\n\xc3\n\xa9",
+        1,
+        b"standard input:2: not UTF-8, though a byte order mark says so\n\
+          standard input:4: not UTF-8\n\
+          standard input:5: not UTF-8\n",
+    ),
+    ("check", b"\xff\xfe\xe9\x00", 0, b""),
+    // UTF-16 whose mark is missing. The first line with U+0000 is reported, with what helps, and each line that isn't
+    // UTF-8.
+    (
+        "check",
+        b"a=1\n\0\xe9\0=\0\n\0\xe8\0",
+        1,
+        b"standard input:2: U+0000; if this is UTF-16, -e utf-16le or -e utf-16be reads it\n\
+          standard input:2: not UTF-8\n\
+          standard input:3: not UTF-8\n",
+    ),
+    (
+        "-f x check",
+        b"k\0\nk\0\n\0",
+        1,
+        b"x:1: U+0000; if this is UTF-16, -e utf-16le or -e utf-16be reads it\n\
+          x:2: repeats the key of line 1\n",
+    ),
+    // After a mark it is a character like any other, and so it is in windows-1252.
+    ("check", b"\xef\xbb\xbfa=\0\n", 0, b""),
+    ("-e windows-1252 check", b"a=\0\n", 0, b""),
+    ("-e windows-1252 check", b"# caf\xe9\na=1\nb=2", 0, b""),
+    // Lines that are no UTF-16.
+    (
+        "-e utf-16le check",
+        b"a\0\n\0\x1e\xdc\n\0a\0\n\0\0",
+        1,
+        b"standard input:2: not UTF-16\n\
+          standard input:3: repeats the key of line 1\n\
+          standard input:4: not UTF-16\n",
+    ),
+];
+
+#[test]
+fn check_prints_what_is_wrong(rt: HostRuntime) -> Result<(), Fail> {
+    check_runs(&rt, Program::Propedit, CHECK)
+}
