@@ -27,7 +27,7 @@ missing = {path.name for path in (crate / "src").glob("*.rt")} - {"lib.rt"} - {n
 missing |= {path.name for path in (crate / "specs").glob("*.antt")} - {"Lib.antt"} - {name for name, _ in definitions}
 if wrong or missing:
     sys.exit(f"try_calling.sh: not as their sources: {wrong}; not shown: {sorted(missing)}")
-print(f"{len(examples)} examples and {len(definitions)} pages of definitions are as their sources")
+print(f"{len(examples)} examples and {len(definitions)} parts of pages of definitions are as their sources")
 PY
 
 "$top/docs/api.py" --check
