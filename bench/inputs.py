@@ -81,12 +81,12 @@ def shipped(source):
     if chance < 0.30:
         return "# " + sentence(source, source.randint(8, 70)) + "\n"
     key = ".".join(source.choice(WORDS) + str(source.randrange(90)) for _ in range(5))[:source.randint(16, 32)].rstrip(".")
-    line_end = "\r\n" if source.random() < 0.02 else "\n"
+    line_ending = "\r\n" if source.random() < 0.02 else "\n"
     sign = "=" if source.random() < 0.9 else " = "
     text = value(source)
     if source.random() < 0.02:
-        text = sentence(source, 30) + " \\" + line_end + "    " + text
-    return key + sign + text + line_end
+        text = sentence(source, 30) + " \\" + line_ending + "    " + text
+    return key + sign + text + line_ending
 
 
 def all_escapes(source):
@@ -118,8 +118,8 @@ def repeated(block, size):
         written += len(block)
 
 
-def many(size, word, encoding, line_end="\n"):
-    text = "".join(pairs(number, word) for number in range(20000)).replace("\n", line_end)
+def many(size, word, encoding, line_ending="\n"):
+    text = "".join(pairs(number, word) for number in range(20000)).replace("\n", line_ending)
     repeated(text.encode(encoding), size)
 
 

@@ -241,7 +241,8 @@ def page():
     out = [
         "# Public names",
         "",
-        "First come the crates that programs call, and the library before the others; then those that these stand on.",
+        "First come the crates that programs call, and the library before the others; then those that these stand on. What",
+        "`properties_c` exports to programs in C is in docs/C.md.",
         "",
         "`docs/api.py` makes this page from the sources, and `docs/api.py --check` compares it with them. Before a name stands the",
         "first sentence of what its source says of it, and its module, if that isn't the crate's root. A comment after a type names",

@@ -17,7 +17,7 @@ HEAD = """// Examples of doc comments, each as a test.
 #![tactic(auto)]
 #![allow(unused)]
 
-use byte_blocks::{Byte, Either, LineEnds, find};
+use byte_blocks::{Byte, Either, LineEndings, find};
 use counted_io::{Counted, CountedRead, CountedWrite, ScriptedReader, ScriptedSink, SinkFault, Tail, send};
 use java_properties::{
     Call, Cause, ContentRef, Document, Edit, Encoding, LineContent, LineEnding, PropertiesError, PropertiesIter,
@@ -32,10 +32,10 @@ use properties_tools::arguments::words;
 use properties_tools::filter::{filter, filter_ascii};
 use properties_tools::messages::{Escaped, print_error, print_line};
 use properties_tools::propedit::answers::{answer_to, name};
-use properties_tools::propedit::request::{Change, Command, Conversion, Edits, FileChange, Missing, Request, Source, TextEnd, Work};
+use properties_tools::propedit::request::{Change, Command, Conversion, Edits, FileChange, Missing, Request, Source, Terminator, Job};
 use properties_tools::propedit::error::{Failure, print_failure};
 use properties_tools::propedit::in_place::{Target, edit_file};
-use properties_tools::propedit::utf_8::ill_formed_lines;
+use properties_tools::propedit::ill_formed::ill_formed_lines;
 use properties_tools::propedit::{self, change::change, check::report, exit_status, get::get, list::list, pairs::list_values, replacement};
 use properties_tools::propfilter;
 use single_lines::decode::decode_line;
@@ -61,7 +61,7 @@ GIVEN = {
     "sink": f"let mut sink = {SINK};",
     "arguments": "let arguments: &[String] = &[];",
     "words": "let words: Vec<String> = Vec::new(alloc);",
-    "work": "let work = Work { encoding: Encoding::UTF_8, source: Source::StandardInput, command: Command::Check };",
+    "job": "let job = Job { encoding: Encoding::UTF_8, source: Source::StandardInput, command: Command::Check };",
     "Target": 'std::fs::write(&rt, "app.properties", b"port = 80".as_slice())?;',
     "map": "let map: HashMap<String, String> = HashMap::new(alloc);",
     "name": 'let name = "my.properties";',

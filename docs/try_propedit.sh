@@ -94,9 +94,9 @@ is "$(awk 'length > 80' ../usage)" ''
 run -h
 gives 0 "$(cat ../usage)\n" ''
 run --version
-gives 0 'propedit 1.11.1\n' ''
+gives 0 'propedit 1.12.0\n' ''
 run -V
-gives 0 'propedit 1.11.1\n' ''
+gives 0 'propedit 1.12.0\n' ''
 run -f nowhere --help get
 gives 0 "$(cat ../usage)\n" ''
 for words in 'check --help' 'check a -h' 'convert --help' 'convert ascii -h'; do

@@ -4,11 +4,12 @@
 #     refused_memory/refuse-each.sh
 #
 # The program in src/ makes the calls. It is no crate of the gate, where no memory can be refused: this script builds
-# it in a copy of the repository, once, and proves nothing. `rt try --fail-alloc MOST` refuses growth number MOST of a
-# run. A run makes one call, after so many growths of its own that growth MOST is the one of the call that is wanted.
+# it in a copy of the repository, once, and proves nothing. `rt try --fail-alloc MOST` refuses allocation number MOST
+# of a run. A run makes one call, after so many allocations of its own that allocation MOST is the one of the call that
+# is wanted.
 #
-# `calls` names the calls, and `growths` says how many growths each has. A call with more gets more runs, and then
-# `growths` is written anew.
+# `calls` names the calls, and `allocations` says how many allocations each has. A call with more gets more runs, and
+# then `allocations` is written anew.
 set -u
 MOST=512
 here=$(cd "$(dirname "$0")" && pwd) || exit 2
@@ -26,20 +27,20 @@ for file in "$here"/src/*.rt.txt; do
 done
 cd "$crate" || exit 2
 
-# Each line of `todo` is the number of a call, and the first and the last of its growths that are to be refused.
+# Each line of `todo` is the number of a call, and the first and the last of its allocations that are to be refused.
 cp "$here/calls" "$work/names"
 touch "$work/came" "$work/ended"
-awk -v file="$here/growths" '
-    BEGIN { while ((getline line < file) > 0) { count = line + 0; sub(/^[0-9]+ /, "", line); growths[line] = count } }
-    { print FNR, 1, ($0 in growths ? growths[$0] : 15) + 1 }' "$work/names" >"$work/todo"
+awk -v file="$here/allocations" '
+    BEGIN { while ((getline line < file) > 0) { count = line + 0; sub(/^[0-9]+ /, "", line); allocations[line] = count } }
+    { print FNR, 1, ($0 in allocations ? allocations[$0] : 15) + 1 }' "$work/names" >"$work/todo"
 
 while [ -s "$work/todo" ]; do
     rm -rf "$work/cases"
     mkdir "$work/cases"
     awk -v most="$MOST" -v folder="$work/cases" '{
-        for (growth = $2; growth <= $3; growth++) {
-            name = folder "/" $1 "." growth
-            print most - growth, $1 >name
+        for (allocation = $2; allocation <= $3; allocation++) {
+            name = folder "/" $1 "." allocation
+            print most - allocation, $1 >name
             close(name)
         }
     }' "$work/todo"
@@ -53,7 +54,7 @@ while [ -s "$work/todo" ]; do
     fi
     cat "$work/out" >>"$work/came"
     grep '^case=' "$work/err" >>"$work/ended"
-    # A call whose last growth so far was refused may have more.
+    # A call whose last allocation so far was refused may have more.
     awk -v most="$MOST" 'FNR == 1 { file++ }
         file == 1 { last[$1] = $3; next }
         /^== / { split($2, at, "."); next }
@@ -63,10 +64,10 @@ while [ -s "$work/todo" ]; do
     mv "$work/more" "$work/todo"
 done
 
-# Each run prints one line, the name of its call and a word: out of memory for each of its growths, and then ok. The two
-# that write maps get over one refused growth: `collect` of std asks for room for all entries at once, and if that is
-# refused, for as much as the next entry needs.
-awk -v counts="$work/growths" '
+# Each run prints one line, the name of its call and a word: out of memory for each of its allocations, and then ok.
+# The two that write maps get over one refused allocation: `collect` of std asks for room for all entries at once, and
+# if that is refused, for as much as the next entry needs.
+awk -v counts="$work/allocations" '
     function tell(text) { print text; wrong++ }
     BEGIN { spared["write, a map"] = 1; spared["write_sorted"] = 1 }
     FNR == 1 { file++ }
@@ -79,26 +80,26 @@ awk -v counts="$work/growths" '
     { lines++ }
     $0 == names[at[1]] ": out of memory" {
         refused[at[1], at[2]] = 1
-        if (at[2] + 0 > growths[at[1]] + 0) { growths[at[1]] = at[2] + 0 }
+        if (at[2] + 0 > allocations[at[1]] + 0) { allocations[at[1]] = at[2] + 0 }
         next
     }
-    $0 != names[at[1]] ": ok" { tell("growth " at[2] ": " $0); known[at[1], at[2]] = 1 }
+    $0 != names[at[1]] ": ok" { tell("allocation " at[2] ": " $0); known[at[1], at[2]] = 1 }
     END {
         for (call = 1; call <= calls; call++) {
-            count = growths[call] + 0
-            if (count == 0) { tell(names[call] ": no growth was refused") }
-            for (growth = 1; growth <= count; growth++) {
-                if ((call, growth) in refused) { total++ }
-                else if ((call, growth) in known) { continue }
+            count = allocations[call] + 0
+            if (count == 0) { tell(names[call] ": no allocation was refused") }
+            for (allocation = 1; allocation <= count; allocation++) {
+                if ((call, allocation) in refused) { total++ }
+                else if ((call, allocation) in known) { continue }
                 else if (spared[names[call]] > 0) { spared[names[call]]-- }
-                else { tell("growth " growth ": " names[call] ": ok, though refused") }
+                else { tell("allocation " allocation ": " names[call] ": ok, though refused") }
             }
             print count, names[call] >counts
         }
         if (lines != runs) { tell(lines + 0 " lines of " runs + 0 " runs") }
-        print total + 0 " growths of " calls + 0 " calls refused: " wrong + 0 " wrong"
+        print total + 0 " allocations of " calls + 0 " calls refused: " wrong + 0 " wrong"
         exit wrong > 0
     }' "$work/names" "$work/ended" "$work/came"
 status=$?
-cmp -s "$work/growths" "$here/growths" || { cp "$work/growths" "$here/growths"; echo "growths is written anew"; }
+cmp -s "$work/allocations" "$here/allocations" || { cp "$work/allocations" "$here/allocations"; echo "allocations is written anew"; }
 exit $status

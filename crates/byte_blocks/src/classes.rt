@@ -1,7 +1,7 @@
 // Classes of bytes.
 
 ghost use Rattle.std.specs.Prelude.{◌≡◌, ◌==◌, ◌||◌, ◌&&◌, ℕ, nat_le, Bool, not, map};
-ghost use Rattle.byte_blocks.specs.Classes.{is_line_end, is_control, is_past_ascii, matches_table};
+ghost use Rattle.byte_blocks.specs.Classes.{is_line_ending, is_control, is_non_ascii, matches_table};
 
 use super::marks::Marks;
 use std::marker::PhantomData;
@@ -9,6 +9,7 @@ use std::simd::prelude::*;
 
 /// A class of bytes: a test that runs on sixteen bytes at once.
 pub trait ByteClass {
+    /// Whether a byte belongs to the class.
     ghost holds: { ℕ → Bool };
 
     /// Marks the bytes of the block that belong to the class.
@@ -76,12 +77,12 @@ impl<const FIRST: u8, const LAST: u8> ByteClass for Within<FIRST, LAST> {
 }
 
 /// CR and LF.
-pub struct LineEnds;
+pub struct LineEndings;
 
 static LINE_ENDS: [u8; 16] = [1, 0, 0, 0, 0, 0, 0, 0, 0, 0, b'\n', 0, 0, b'\r', 0, 0];
 
-impl ByteClass for LineEnds {
-    ghost holds = { is_line_end };
+impl ByteClass for LineEndings {
+    ghost holds = { is_line_ending };
 
     #[inline(always)]
     fn marks(block: u8x16) -> Marks {
@@ -112,10 +113,10 @@ impl ByteClass for Controls {
 }
 
 /// The bytes that aren't ASCII characters.
-pub struct PastAscii;
+pub struct NonAscii;
 
-impl ByteClass for PastAscii {
-    ghost holds = { is_past_ascii };
+impl ByteClass for NonAscii {
+    ghost holds = { is_non_ascii };
 
     #[inline(always)]
     fn marks(block: u8x16) -> Marks {

@@ -6,7 +6,7 @@
 //! end of a field:
 //!
 //! ```text
-//! type FieldEnds = Either<Byte<b','>, LineEnds>;
+//! type FieldEnds = Either<Byte<b','>, LineEndings>;
 //!
 //! let end = find::<FieldEnds>(b"one,two\n"); // Some(3)
 //! ```
@@ -25,7 +25,7 @@ mod short;
 mod spread;
 
 pub use classes::{
-    Byte, ByteClass, Controls, Either, Except, LineEnds, PastAscii, Within, table_marks,
+    Byte, ByteClass, Controls, Either, Except, LineEndings, NonAscii, Within, table_marks,
 };
 pub use marks::Marks;
 pub use search::{find, find_in_block};

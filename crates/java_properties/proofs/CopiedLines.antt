@@ -27,8 +27,8 @@ use Rattle.properties_format.proofs.Undecoded.{decodes, splits, in_text}
 use Rattle.properties_text.specs.Escaping.{malformed_in, text_in, IsWell, Checks}
 use Rattle.properties_text.specs.Parsing.{bytes_in, spanned, in_characters, IsSpan, AreSpans, IsCommentAt, IsPairAt, AreInPlace, AreFoundInText}
 use Rattle.properties_text.proofs.Spelt.Escapes.{no-text}
-use Rattle.properties_text.specs.declared.encoding.line.LineEncoding.{LineEncoding}
-use Rattle.properties_text.specs.declared.encoding.line.LineEncoding.TheVariants.{Windows1252, Utf8}
+use Rattle.properties_text.specs.declared.encoding.line_encoding.LineEncoding.{LineEncoding}
+use Rattle.properties_text.specs.declared.encoding.line_encoding.LineEncoding.TheVariants.{Windows1252, Utf8}
 use Rattle.properties_text.specs.declared.escape.Malformed.{Malformed}
 use Rattle.properties_text.specs.declared.escape.UnescapeError.{UnescapeError}
 use Rattle.properties_text.specs.declared.escape.UnescapeError.TheVariants as error

@@ -3,7 +3,7 @@ use Rattle.std.proofs.Common.{◌≡◌, ℕ, ◌+◌, ◌^◌, ◌≤◌, List,
 use Rattle.std.proofs.lemmas.Bool.{cases_Bool}
 use Rattle.properties_format.specs.Text.{LineEnding, lf, cr, crlf, line_ending_text, Piece, characters}
 use Rattle.properties_format.specs.Encoding.{Encoding, IsPieces, begins_with, byte_order_mark, utf_8, utf_8_bom, utf_16be_bom, utf_16le_bom}
-use Rattle.properties_format.specs.Lines.{Ended, Line, Lines, IsLines, fault, line_ends, numbered, put_together}
+use Rattle.properties_format.specs.Lines.{Ended, Line, Lines, IsLines, fault, line_endings, numbered, put_together}
 use Rattle.properties_format.specs.Items.{last_entries}
 use Rattle.properties_format.specs.ItemsToCome.{start, in_force, AreFurtherLines, PassesAll}
 use Rattle.properties_format.specs.Computed.Body.{held_of, held_lines_of}
@@ -32,7 +32,7 @@ ends-within (l ∷ ls) last =
     let end = length-append (line_ending_text l.by) rest in
     omega arith
 
-text-ends : (text : List ℕ) (lines : Lines) → IsLines text lines → line_ends lines ≤ length text
+text-ends : (text : List ℕ) (lines : Lines) → IsLines text lines → line_endings lines ≤ length text
 text-ends text lines h =
     let within = ends-within lines.ended lines.last in
     let same : length text ≡ length (put_together lines.ended lines.last) = ap length h.text in
@@ -84,8 +84,8 @@ ends-passed : (e : Encoding) (bytes : List ℕ) (n : ℕ) (lines : List Line) �
 ends-passed e bytes n lines h =
     let m = byte_order_mark e (bytes ++ []) in
     let last = h.are_last in
-    let same : n + 1 ≡ (start e).passed + line_ends h.all + 1 = cc in
-    let number : n + 1 ≡ 0 + line_ends h.all + 1 = same in
+    let same : n + 1 ≡ (start e).passed + line_endings h.all + 1 = cc in
+    let number : n + 1 ≡ 0 + line_endings h.all + 1 = same in
     let ends = text-ends h.text h.all h.divided in
     let text : length (characters h.pieces) ≡ length h.text = ap length h.after_end in
     let decoded = characters-within m.encoding m.body h.pieces h.are_pieces in
@@ -104,7 +104,7 @@ few-passed e bytes h = elim (cases_Bool h.last.is_done) [
       let f = in_force h.last [] in
       let all = lines_of (text_to_come h.last []) in
       let further = numbered h.last.passed all.ended all.last fault in
-      let last = last_entries (h.last.passed + line_ends all) fault in
+      let last = last_entries (h.last.passed + line_endings all) fault in
       let come : AreFurtherLines h.last [] fault further last = record {
         pieces = pieces_of f.encoding f.body;
         text = text_to_come h.last [];
@@ -118,7 +118,7 @@ few-passed e bytes h = elim (cases_Bool h.last.is_done) [
       elim (h.passes.first.others [] fault further last (inr (k, come))) [
         | inl x ↦ let done = x.0 in absurd (cc)
         | inr x ↦
-            let within = ends-passed e bytes (h.last.passed + line_ends all) (h.passes.lines ++ further) x.1 in
+            let within = ends-passed e bytes (h.last.passed + line_endings all) (h.passes.lines ++ further) x.1 in
             let passed = h.passed in
             omega arith
       ]

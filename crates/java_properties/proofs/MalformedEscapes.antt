@@ -6,7 +6,7 @@ use Rattle.std.specs.Str.{chars}
 use Rattle.counted_io.specs.Streams.{Reader, has_ended}
 use Rattle.counted_io.proofs.Streams.{read-none, read-more, failed-more}
 use Rattle.properties_format.specs.Encoding.{Encoding}
-use Rattle.properties_format.specs.Lines.{InputEnd, end, fault, Line, line_ends, numbered_lines, IsGroups, HasGroups, AreWhole, IsWhole, IsUnfinished, lines_in, joined, first_number}
+use Rattle.properties_format.specs.Lines.{InputEnd, end, fault, Line, line_endings, numbered_lines, IsGroups, HasGroups, AreWhole, IsWhole, IsUnfinished, lines_in, joined, first_number}
 use Rattle.properties_format.specs.Computed.Encoding.{decoded_of}
 use Rattle.properties_format.specs.Computed.Lines.{lines_of, groups_of, groups_in}
 use Rattle.properties_format.specs.Escapes.{means}
@@ -33,7 +33,7 @@ use Rattle.properties_lines.specs.declared.error.LineError.{LineError}
 use Rattle.properties_lines.proofs.LineJoiner.{passes-start, passes-on, some-come, all-on}
 use Rattle.properties_text.specs.Escaping.{holds_backslash, Checks}
 use Rattle.properties_text.specs.Parsing.{bytes_in, in_characters, spanned}
-use Rattle.properties_text.specs.declared.encoding.line.LineEncoding.TheVariants.{Utf8}
+use Rattle.properties_text.specs.declared.encoding.line_encoding.LineEncoding.TheVariants.{Utf8}
 use Rattle.properties_text.specs.declared.parse.ParsedSpans.{ParsedSpans}
 use Rattle.properties_text.specs.declared.parse.ParsedSpans.TheVariants as spans
 use Rattle.properties_text.specs.declared.parse.Span.{Span}
@@ -142,7 +142,7 @@ none-before m (g ∷ gs) n h =
     none-from (first_number g) (joined g) (outcome_of (joined g)) (entries_of m fault gs) (escapes_in gs) n h (none-before m gs n)
 
 items-groups : (s : ReaderState) (d : List ℕ) → s.is_done ≡ false
-    → items_to_come s d fault ≡ entries_of (s.passed + line_ends (lines_of (text_to_come s d))) fault (groups_of (natural_to_come s d fault) fault)
+    → items_to_come s d fault ≡ entries_of (s.passed + line_endings (lines_of (text_to_come s d))) fault (groups_of (natural_to_come s d fault) fault)
 unfolding items_to_come natural_to_come
 items-groups s d h = rw h refl
 

@@ -21,8 +21,8 @@ use properties_text::print::Pair;
 use std::error::Error;
 use std::fmt;
 
-/// Why [`copy_pairs`](PropertiesWriter::copy_pairs) stopped: reading failed, or writing did. Refused memory may be
-/// either.
+/// Why [`copy_pairs`](PropertiesWriter::copy_pairs) stopped: reading failed, or writing did. If memory runs out,
+/// it may be either.
 ///
 /// It prints as the error in it.
 #[derive(Debug, Drop)]

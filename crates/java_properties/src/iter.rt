@@ -60,7 +60,7 @@ impl<R> Model for PropertiesIter<R> {
 
 impl<R: CountedRead> PropertiesIter<R> {
     /// Creates an iterator that reads windows-1252, unless a byte order mark selects another encoding. It reads nothing
-    /// and allocates nothing until the first item is requested.
+    /// and allocates nothing until the first item is requested. Always returns `Ok`.
     pub fn new(alloc: Global, input: R) -> Result<PropertiesIter<R>, PropertiesError>
         ensures { IsOkAnd result (λ it. it ≡ record { reader = input; state = start windows_1252; line = [] }) }
     {
@@ -68,7 +68,7 @@ impl<R: CountedRead> PropertiesIter<R> {
     }
 
     /// Creates an iterator that reads this encoding, unless a byte order mark selects another one. It reads nothing and
-    /// allocates nothing until the first item is requested.
+    /// allocates nothing until the first item is requested. Always returns `Ok`.
     pub fn new_with_encoding(
         alloc: Global,
         input: R,

@@ -11,7 +11,7 @@ ghost use Rattle.properties_format.specs.Split.{IsSplit};
 ghost use Rattle.properties_format.specs.Escapes.{IsMeaning};
 ghost use Rattle.properties_format.specs.Settings.{Settings};
 ghost use Rattle.properties_format.specs.Writing.{Call, Pair};
-ghost use Rattle.properties_format.specs.Laws.{HasOne, HasOneReading, ReadingInvertsWriting, EqualBytesOfEqualPairs, WritingAnewChangesNothing, MapIsReadBack, SplittingCommutes, LineEndsSeparatePieces};
+ghost use Rattle.properties_format.specs.Laws.{HasOne, HasOneReading, ReadingInvertsWriting, EqualBytesOfEqualPairs, WritingAnewChangesNothing, MapIsReadBack, SplittingCommutes, LineEndingsSeparatePieces};
 ghost use Rattle.properties_format.specs.Converting.{ConvertingKeepsItems, ConvertingKeepsLogicalLines, ConvertingKeepsEndings, ConvertsToOne, ConvertingGivesAscii, ConvertingTwiceIsConvertingOnce, ReadableAnyway, KeptIsItself, AsciiIsItself};
 ghost use Rattle.java_properties.specs.ReadBack.{IsGoodWriter};
 
@@ -82,7 +82,7 @@ pub fn settings_are_good<W>(writer: &PropertiesWriter<W>)
 /// ```
 pub fn splitting_commutes_with_decoding()
     ensures lines { (e : Encoding) (bytes : List ℕ) → SplittingCommutes e bytes }
-    ensures parts { (e : Encoding) (before : List ℕ) (c : ℕ) (after : List ℕ) → LineEndsSeparatePieces e before c after }
+    ensures parts { (e : Encoding) (before : List ℕ) (c : ℕ) (after : List ℕ) → LineEndingsSeparatePieces e before c after }
 {}
 
 /// Converting keeps items, logical lines and line endings. The result of a conversion, read in its own encoding, has

@@ -54,7 +54,7 @@ impl<W> Model for PropertiesWriter<W> {
 impl<W: CountedWrite> PropertiesWriter<W> {
     /// Creates a writer of windows-1252. Characters that it can't encode are written as escapes.
     ///
-    /// It writes nothing and allocates nothing before it is used.
+    /// It writes nothing and allocates nothing before it is used. Always returns `Ok`.
     pub fn new(alloc: Global, writer: W) -> Result<PropertiesWriter<W>, PropertiesError>
         ensures { IsOkAnd result (λ made. made ≡ new_writer windows_1252 writer) }
     {
@@ -63,7 +63,7 @@ impl<W: CountedWrite> PropertiesWriter<W> {
 
     /// Creates a writer of the output encoding of `encoding`: windows-1252 or UTF-8. It writes no byte order mark.
     ///
-    /// It writes nothing and allocates nothing before it is used.
+    /// It writes nothing and allocates nothing before it is used. Always returns `Ok`.
     pub fn new_with_encoding(
         alloc: Global,
         writer: W,
@@ -81,6 +81,9 @@ impl<W: CountedWrite> PropertiesWriter<W> {
     /// Writes a comment as one line: the prefix, the text and the line ending.
     ///
     /// Line endings in the text are written as escapes, so the comment stays on one line.
+    ///
+    /// Fails with `Io` if the sink fails, with `Failed` if an earlier write did, with `TooManyLines` if the line has no
+    /// number, and with `Memory` if memory runs out.
     pub fn write_comment(&mut self, comment: &str) -> Result<(), PropertiesError>
         ensures writes { WritesLine W.CountedWrite self.old (entry.comment (chars comment.now)) result self.new }
         ensures same_sink { IsSameSink W.CountedWrite self.old.sink self.new.sink }
@@ -93,7 +96,8 @@ impl<W: CountedWrite> PropertiesWriter<W> {
 
     /// Writes a pair as one line: the key, the separator, the value and the line ending.
     ///
-    /// An empty key is refused if the separator consists only of blanks, because its value would be read as the key.
+    /// An empty key is refused with `EmptyKey` if the separator consists only of blanks, because its value would be read
+    /// as the key. Otherwise it fails as [`write_comment`](PropertiesWriter::write_comment) does.
     pub fn write(&mut self, key: &str, value: &str) -> Result<(), PropertiesError>
         ensures writes { let line = entry.pair (chars key.now) (chars value.now) in
             WritesLine W.CountedWrite self.old line result self.new }
@@ -106,7 +110,7 @@ impl<W: CountedWrite> PropertiesWriter<W> {
     }
 
     /// Sets what comments begin with from now on: optional blanks, then `#` or `!`, then any text without line endings.
-    /// Any other prefix is refused. The default is `# `.
+    /// Any other prefix is refused with `BadCommentPrefix`. At an error, the setting stays. The default is `# `.
     pub fn set_comment_prefix(&mut self, prefix: &str) -> Result<(), PropertiesError>
         ensures { SetsPrefix self.old (chars prefix.now) result self.new }
     {
@@ -114,7 +118,8 @@ impl<W: CountedWrite> PropertiesWriter<W> {
     }
 
     /// Sets what comes between keys and values from now on: optional blanks, one `=` or `:`, optional blanks; or one or
-    /// more blanks. Any other separator is refused. The default is `=`.
+    /// more blanks. Any other separator is refused with `BadKvSeparator`. At an error, the setting stays. The default is
+    /// `=`.
     pub fn set_kv_separator(&mut self, separator: &str) -> Result<(), PropertiesError>
         ensures { SetsSeparator self.old (chars separator.now) result self.new }
     {
@@ -160,7 +165,7 @@ impl<W: CountedWrite> PropertiesWriter<W> {
         self.engine.settings.set_readable(on);
     }
 
-    /// Flushes the sink.
+    /// Flushes the sink. Fails with `Io` if the sink fails, and with `Failed` if an earlier write did.
     pub fn flush(&mut self) -> Result<(), PropertiesError>
         ensures flushes { Flushes W.CountedWrite self.old result self.new }
         ensures same_sink { IsSameSink W.CountedWrite self.old.sink self.new.sink }
@@ -169,7 +174,7 @@ impl<W: CountedWrite> PropertiesWriter<W> {
     }
 
     /// Flushes the sink. Call it after the last line, so that a sink that buffers bytes passes them on. You can still
-    /// write lines afterwards.
+    /// write lines afterwards. Fails as [`flush`](PropertiesWriter::flush) does.
     pub fn finish(&mut self) -> Result<(), PropertiesError>
         ensures flushes { Flushes W.CountedWrite self.old result self.new }
         ensures same_sink { IsSameSink W.CountedWrite self.old.sink self.new.sink }

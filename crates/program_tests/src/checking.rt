@@ -54,8 +54,8 @@ const CHECK: &[Row] = &[
           standard input:5: not UTF-8\n",
     ),
     ("check", b"\xff\xfe\xe9\x00", 0, b""),
-    // UTF-16 whose mark is missing. The first line with U+0000 is reported, with what helps, and each line that isn't
-    // UTF-8.
+    // UTF-16 whose byte order mark is missing. The first line with U+0000 is reported, with what helps, and each line
+    // that isn't UTF-8.
     (
         "check",
         b"a=1\n\0\xe9\0=\0\n\0\xe8\0",
@@ -71,7 +71,7 @@ const CHECK: &[Row] = &[
         b"x:1: U+0000; if this is UTF-16, -e utf-16le or -e utf-16be reads it\n\
           x:2: repeats the key of line 1\n",
     ),
-    // After a mark it is a character like any other, and so it is in windows-1252.
+    // After a byte order mark it is a character like any other, and so it is in windows-1252.
     ("check", b"\xef\xbb\xbfa=\0\n", 0, b""),
     ("-e windows-1252 check", b"a=\0\n", 0, b""),
     ("-e windows-1252 check", b"# caf\xe9\na=1\nb=2", 0, b""),

@@ -43,7 +43,7 @@ fn edit<R: CountedRead, W: CountedWrite, E: CountedWrite>(
     errors: &mut E,
 ) -> u8 {
     match asked_for(alloc, words) {
-        Ok(Request::Work(work)) => propedit::run(alloc, &work, input, output, errors),
+        Ok(Request::Job(job)) => propedit::run(alloc, &job, input, output, errors),
         Ok(_) => FILES,
         Err(error) => explain(alloc, error, output, errors),
     }

@@ -8,7 +8,7 @@ use propedit_arguments::{
 use properties_tools::arguments::words;
 use properties_tools::propedit::error::Failure;
 use properties_tools::propedit::in_place::edit_file;
-use properties_tools::propedit::request::{CheckedFiles, Command, Request, Source, Work};
+use properties_tools::propedit::request::{CheckedFiles, Command, Job, Request, Source};
 use properties_tools::propedit::{exit_status, print_out_of_memory, run};
 use std::alloc::Global;
 use std::env;
@@ -37,7 +37,7 @@ fn status<E: CountedWrite>(rt: &HostRuntime, errors: &mut E) -> io::Result<u8> {
         return check_or_explain(rt, alloc, &mut output, errors);
     };
     match asked_for(alloc, words.as_slice()) {
-        Ok(Request::Work(work)) => Ok(do_work(rt, alloc, &work, &mut output, errors)),
+        Ok(Request::Job(job)) => Ok(do_job(rt, alloc, &job, &mut output, errors)),
         Ok(Request::CheckFiles(files)) => Ok(check_files(rt, alloc, files, &mut output, errors)),
         Ok(Request::EditFile(file)) => Ok(edit_file(rt, alloc, &file, errors)),
         Err(error) => Ok(explain(alloc, error, &mut output, errors)),
@@ -59,17 +59,17 @@ fn check_or_explain<W: CountedWrite, E: CountedWrite>(
 }
 
 // Opens the source, and runs the command on it.
-fn do_work<W: CountedWrite, E: CountedWrite>(
+fn do_job<W: CountedWrite, E: CountedWrite>(
     rt: &HostRuntime,
     alloc: Global,
-    work: &Work,
+    job: &Job,
     output: &mut W,
     errors: &mut E,
 ) -> u8 {
-    match &work.source {
-        Source::StandardInput => run(alloc, work, &mut Counted::new(rt.stdin()), output, errors),
+    match &job.source {
+        Source::StandardInput => run(alloc, job, &mut Counted::new(rt.stdin()), output, errors),
         Source::File(path) => match File::open(rt, path.as_str()) {
-            Ok(file) => run(alloc, work, &mut Counted::new(file), output, errors),
+            Ok(file) => run(alloc, job, &mut Counted::new(file), output, errors),
             Err(error) => exit_status(alloc, errors, path.as_str(), Err(Failure::from(error))),
         },
     }
@@ -86,15 +86,12 @@ fn check_files<W: CountedWrite, E: CountedWrite>(
     let encoding = files.encoding;
     let mut highest = 0;
     for path in files.paths {
-        let work = Work {
+        let job = Job {
             encoding,
             source: source_named(path),
             command: Command::Check,
         };
-        let status = check_file(rt, alloc, &work, output, errors);
-        if status > highest {
-            highest = status;
-        }
+        highest = highest.max(check_file(rt, alloc, &job, output, errors));
     }
     highest
 }
@@ -112,16 +109,16 @@ fn source_named(path: String) -> Source {
 fn check_file<W: CountedWrite, E: CountedWrite>(
     rt: &HostRuntime,
     alloc: Global,
-    work: &Work,
+    job: &Job,
     output: &mut W,
     errors: &mut E,
 ) -> u8 {
-    let marked = match &work.source {
+    let marked = match &job.source {
         Source::File(path) => name_of_marked(path.as_str()),
         Source::StandardInput => None,
     };
     match marked {
         Some(name) => explain_name(alloc, name, errors),
-        None => do_work(rt, alloc, work, output, errors),
+        None => do_job(rt, alloc, job, output, errors),
     }
 }

@@ -3,7 +3,7 @@
 use java_properties::Repertoire;
 use std::fmt;
 
-const VERSION: &str = "1.11.1";
+const VERSION: &str = "1.12.0";
 
 /// A command.
 #[derive(Clone, Copy, Debug, PartialEq, Eq)]
@@ -280,7 +280,7 @@ fn is_continued(name: &str, word: &str) -> bool {
 }
 
 impl CommandRow {
-    /// Returns whether a word after it that begins with a dash is an option: such words are files or encodings.
+    /// Returns whether the words after it are files or an encoding, so that one that begins with a dash is an option.
     pub fn takes_plain_words(&self) -> bool {
         self.command == CommandName::Check || self.command == CommandName::Convert
     }

@@ -36,8 +36,8 @@ pub fn explain_not_utf_8<R: Env, E: CountedWrite>(rt: &R, alloc: Global, errors:
 // What marks a word that is not UTF-8. No argument holds it.
 const MARK: char = '\0';
 
-/// Returns the words after the program's name. One that is not UTF-8 is marked, and has an escape for each byte that is
-/// not ASCII.
+/// Returns the words after the program's name. One that is not UTF-8 is marked, and its bytes stand as `escape_ascii`
+/// prints them.
 ///
 /// ```text
 /// let words = marked_words(&rt, alloc)?;
@@ -64,7 +64,7 @@ fn marked(alloc: Global, bytes: &[u8]) -> Result<String, AllocError> {
     }
 }
 
-/// Returns what stands for a word that is not UTF-8, or `None` of any other word.
+/// Returns what stands for a word that is not UTF-8, or `None` for any other word.
 pub fn name_of_marked(word: &str) -> Option<&str> {
     word.strip_prefix(MARK)
 }

@@ -3,7 +3,7 @@
 use crate::command_line::{CommandRow, OptionName, OptionRow, Usage, option_named, option_of};
 use crate::mistake::{Mistake, NoRequest};
 use java_properties::{Encoding, Spelling};
-use properties_tools::propedit::request::{Command, Missing, Request, Source, TextEnd, Work};
+use properties_tools::propedit::request::{Command, Job, Missing, Request, Source, Terminator};
 use std::alloc::Global;
 
 /// The FILE that is standard input.
@@ -195,11 +195,11 @@ impl<'a> Options<'a> {
     }
 
     /// Returns what ends each text that is printed. With `-z` it is a zero byte.
-    pub fn end(&self) -> TextEnd {
+    pub fn end(&self) -> Terminator {
         if self.has(OptionName::Null) {
-            TextEnd::Zero
+            Terminator::Nul
         } else {
-            TextEnd::LineFeed
+            Terminator::LineFeed
         }
     }
 
@@ -213,7 +213,7 @@ impl<'a> Options<'a> {
     }
 
     /// Returns the request for a command over the source that the options name.
-    pub fn work(
+    pub fn job(
         &self,
         alloc: Global,
         row: &'static CommandRow,
@@ -223,7 +223,7 @@ impl<'a> Options<'a> {
             None | Some(STANDARD_INPUT) => Source::StandardInput,
             Some(path) => Source::File(String::from_str(alloc, path)?),
         };
-        Ok(Request::Work(Work {
+        Ok(Request::Job(Job {
             encoding: self.encoding(row)?,
             source,
             command,

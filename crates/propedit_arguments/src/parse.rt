@@ -150,7 +150,7 @@ fn get<'a>(
         Some(value) => Some(String::from_str(alloc, value)?),
         None => None,
     };
-    options.work(alloc, row, Command::Get(keys, default, options.end()))
+    options.job(alloc, row, Command::Get(keys, default, options.end()))
 }
 
 // Returns the keys that words are. A first `--` is dropped. Among several words, those that look like options come
@@ -180,7 +180,7 @@ fn list<'a>(
     } else {
         Command::List(prefix, options.end())
     };
-    options.work(alloc, row, command)
+    options.job(alloc, row, command)
 }
 
 // Returns the word after a command that takes one at most. A first `--` is dropped.
@@ -214,7 +214,7 @@ fn check<'a>(
     }
     let paths = copies(alloc, before, after)?;
     if paths.is_empty() {
-        return options.work(alloc, row, Command::Check);
+        return options.job(alloc, row, Command::Check);
     }
     options.refuse_file(row)?;
     Ok(Request::CheckFiles(CheckedFiles {
@@ -277,7 +277,7 @@ fn change<'a>(
     change: Change,
 ) -> Result<Request, Mistake<'a>> {
     let Some(path) = options.value(OptionName::InPlace) else {
-        return options.work(alloc, row, Command::Change(change));
+        return options.job(alloc, row, Command::Change(change));
     };
     Ok(Request::EditFile(FileChange {
         path: String::from_str(alloc, path)?,

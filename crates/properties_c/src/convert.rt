@@ -6,7 +6,7 @@ ghost use Rattle.properties_c.specs.Editing.{ConvertsAcross};
 ghost use Rattle.properties_c.specs.Crossing.{crossing};
 
 use crate::encoding::{encoding_numbered, target_numbered};
-use crate::out::{deliver_result, refuse};
+use crate::out::{refuse, write_result};
 use crate::status::Status;
 use java_properties::{Spelling, convert};
 use std::alloc::Global;
@@ -33,7 +33,7 @@ pub extern "C" fn todrenval_convert(
         return refuse(Status::UnknownEncoding, length, line);
     };
     let converted = convert(alloc, source, encoding, target, spelling_if(readable));
-    deliver_result(converted, out, length, line)
+    write_result(converted, out, length, line)
 }
 
 // Returns how characters are spelt in what is readable or not.

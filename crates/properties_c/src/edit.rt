@@ -9,7 +9,7 @@ ghost use Rattle.properties_c.specs.Editing.{EditsAcross, MakesAll, MakesOne, Re
 
 use crate::encoding::{FOR_EDITS, FOR_KEYS, Flags, encoding_numbered, flags_numbered, text_of};
 use crate::lists::edits_of;
-use crate::out::{deliver_result, refuse};
+use crate::out::{refuse, write_result};
 use crate::status::Status;
 use java_properties::{Edit, Encoding, PropertiesError, edit_all, edit_all_ascii, edit_pairs};
 use std::alloc::Global;
@@ -43,7 +43,7 @@ pub extern "C" fn todrenval_set_value(
         return refuse(Status::NotUtf8, length, line);
     };
     let edited = with_value(alloc, source, encoding, flags, key, value);
-    deliver_result(edited, out, length, line)
+    write_result(edited, out, length, line)
 }
 
 /// Gives the source with a key set to a value.
@@ -75,7 +75,7 @@ pub extern "C" fn todrenval_set_key(
         return refuse(Status::NotUtf8, length, line);
     };
     let edited = with_key(alloc, source, encoding, flags, key, value);
-    deliver_result(edited, out, length, line)
+    write_result(edited, out, length, line)
 }
 
 /// Gives the source without the pairs that have a key.
@@ -103,7 +103,7 @@ pub extern "C" fn todrenval_remove_key(
         return refuse(Status::NotUtf8, length, line);
     };
     let edited = without_key(alloc, source, encoding, flags, key);
-    deliver_result(edited, out, length, line)
+    write_result(edited, out, length, line)
 }
 
 /// Gives the source after a packed list of edits, in order: each applies to the result of the one before it.
@@ -132,7 +132,7 @@ pub extern "C" fn todrenval_edit(
         Err(status) => return refuse(status, length, line),
     };
     let edited = with_edits(alloc, source, encoding, flags, &edits);
-    deliver_result(edited, out, length, line)
+    write_result(edited, out, length, line)
 }
 
 // Returns the source with the value of a key set.

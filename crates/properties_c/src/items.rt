@@ -7,7 +7,7 @@ ghost use Rattle.properties_c.specs.Packed.{packed_items, record_in};
 ghost use Rattle.properties_c.specs.Private.Results.{line_record, packed_lines};
 ghost use Rattle.properties_c.specs.declared.status.Status.TheVariants.{NoMemory};
 
-use crate::out::{answer, lack_room, refuse};
+use crate::out::{buffer_too_small, refuse, set_outputs};
 use crate::records::{Record, put_record, record_size};
 use crate::status::Status;
 use java_properties::{Line, LineContent};
@@ -35,10 +35,10 @@ pub fn deliver_items(
         return refuse(Status::NoMemory, length, line);
     };
     if needed > out.len() {
-        return lack_room(needed, length, line);
+        return buffer_too_small(needed, length, line);
     }
     put_items(out, lines);
-    answer(status, needed, number, length, line)
+    set_outputs(status, needed, number, length, line)
 }
 
 // Returns the record of an item.

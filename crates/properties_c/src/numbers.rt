@@ -21,6 +21,7 @@ pub fn put(out: &mut [u8], at: usize, bytes: &[u8]) -> usize
     ensures place { result ≡ at + length bytes.now }
     ensures puts { Puts at bytes.now out.old out.new }
 {
+    // Proof only: the slice's length fits a `usize`.
     let _room = out.len();
     let end = at + bytes.len();
     out[at..end].copy_from_slice(bytes);

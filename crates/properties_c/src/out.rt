@@ -10,7 +10,7 @@ use crate::status::{Status, number_of, status_of};
 use java_properties::PropertiesError;
 
 /// Sets the length and the line, and returns the number of the status.
-pub fn answer(
+pub fn set_outputs(
     status: Status,
     count: usize,
     number: usize,
@@ -28,33 +28,33 @@ pub fn answer(
 pub fn refuse(status: Status, length: &mut usize, line: &mut usize) -> i32
     ensures { Answers status 0 0 result length.new line.new }
 {
-    answer(status, 0, 0, length, line)
+    set_outputs(status, 0, 0, length, line)
 }
 
 /// Returns `NoRoom` with the size that is needed.
-pub fn lack_room(needed: usize, length: &mut usize, line: &mut usize) -> i32
+pub fn buffer_too_small(needed: usize, length: &mut usize, line: &mut usize) -> i32
     ensures { Answers NoRoom needed 0 result length.new line.new }
 {
-    answer(Status::NoRoom, needed, 0, length, line)
+    set_outputs(Status::NoRoom, needed, 0, length, line)
 }
 
 /// Copies the bytes to the front of `out`, if they fit.
-pub fn deliver(bytes: &[u8], out: &mut [u8], length: &mut usize, line: &mut usize) -> i32
+pub fn write_bytes(bytes: &[u8], out: &mut [u8], length: &mut usize, line: &mut usize) -> i32
     ensures { Delivers bytes.now Done 0 (crossing out.old result length.new line.new out.new) }
 {
     let count = bytes.len();
     if count > out.len() {
-        return lack_room(count, length, line);
+        return buffer_too_small(count, length, line);
     }
     out[..count].copy_from_slice(bytes);
-    answer(Status::Done, count, 0, length, line)
+    set_outputs(Status::Done, count, 0, length, line)
 }
 
 /// Returns the status of an error, with its line.
 pub fn fail(error: &PropertiesError, length: &mut usize, line: &mut usize) -> i32
     ensures { Answers (status_of_kind (kind_of error.now)) 0 (error_line error.now) result length.new line.new }
 {
-    answer(status_of(error.kind()), 0, line_in(error), length, line)
+    set_outputs(status_of(error.kind()), 0, line_in(error), length, line)
 }
 
 /// Returns the line of an error, or 0.
@@ -68,7 +68,7 @@ pub fn line_in(error: &PropertiesError) -> usize
 }
 
 /// Answers with the bytes that a call returned, or with its error.
-pub fn deliver_result(
+pub fn write_result(
     outcome: Result<Vec<u8>, PropertiesError>,
     out: &mut [u8],
     length: &mut usize,
@@ -77,7 +77,7 @@ pub fn deliver_result(
     ensures { Crosses outcome (crossing out.old result length.new line.new out.new) }
 {
     match outcome {
-        Ok(bytes) => deliver(&bytes, out, length, line),
+        Ok(bytes) => write_bytes(&bytes, out, length, line),
         Err(error) => fail(&error, length, line),
     }
 }

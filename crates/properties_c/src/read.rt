@@ -8,7 +8,7 @@ ghost use Rattle.properties_c.specs.Reading.{FindingsAcross, GetsAcross, ItemsAc
 use crate::encoding::{FOR_KEYS, encoding_numbered, flags_numbered, text_of};
 use crate::findings::findings_in;
 use crate::items::deliver_items;
-use crate::out::{deliver, deliver_result, fail, line_in, refuse};
+use crate::out::{fail, line_in, refuse, write_bytes, write_result};
 use crate::status::{Status, status_of};
 use java_properties::{Encoding, PropertiesError, read_lines, value_among_pairs, value_of};
 use std::alloc::Global;
@@ -38,7 +38,7 @@ pub extern "C" fn todrenval_get(
         return refuse(Status::NotUtf8, length, line);
     };
     match sought_value(alloc, source, encoding, flags.read_comments, key) {
-        Ok(Some(value)) => deliver(value.as_str().as_bytes(), out, length, line),
+        Ok(Some(value)) => write_bytes(value.as_str().as_bytes(), out, length, line),
         Ok(None) => refuse(Status::NoKey, length, line),
         Err(error) => fail(&error, length, line),
     }
@@ -89,7 +89,7 @@ pub extern "C" fn todrenval_findings(
     let Some(encoding) = encoding_numbered(encoding) else {
         return refuse(Status::UnknownEncoding, length, line);
     };
-    deliver_result(findings_in(alloc, source, encoding), out, length, line)
+    write_result(findings_in(alloc, source, encoding), out, length, line)
 }
 
 // Returns the value of a key, and reads comments or passes over them.

@@ -46,9 +46,9 @@ pub fn put_record(out: &mut [u8], at: usize, given: Record<'_>) -> usize
         key_length: given.key.len(),
         value_length: given.value.len(),
     };
-    let keys = put_header(out, at, header);
-    let values = put(out, keys, given.key);
-    put(out, values, given.value)
+    let key_at = put_header(out, at, header);
+    let value_at = put(out, key_at, given.key);
+    put(out, value_at, given.value)
 }
 
 fn put_header(out: &mut [u8], at: usize, header: Header) -> usize
@@ -56,10 +56,10 @@ fn put_header(out: &mut [u8], at: usize, header: Header) -> usize
     ensures place { result ≡ at + 32 }
     ensures puts { Puts at (header_bytes header) out.old out.new }
 {
-    let lines = put_number(out, at, header.kind);
-    let keys = put_number(out, lines, header.line);
-    let values = put_number(out, keys, header.key_length);
-    put_number(out, values, header.value_length)
+    let line_at = put_number(out, at, header.kind);
+    let key_length_at = put_number(out, line_at, header.line);
+    let value_length_at = put_number(out, key_length_at, header.key_length);
+    put_number(out, value_length_at, header.value_length)
 }
 
 /// Returns the record at the front of a packed list and what comes after it, or `None` if it is cut short.
@@ -90,18 +90,10 @@ fn split_header(list: &[u8]) -> Option<(Header, &[u8])>
     ensures { MatchOption result (length list.now < 32)
         (λ split. IsSizedHeader split.0 × (list.now ≡ header_bytes split.0 ++ split.1.now)) }
 {
-    let Some((kind, lines)) = split_number(list) else {
-        return None;
-    };
-    let Some((line, keys)) = split_number(lines) else {
-        return None;
-    };
-    let Some((key_length, values)) = split_number(keys) else {
-        return None;
-    };
-    let Some((value_length, texts)) = split_number(values) else {
-        return None;
-    };
+    let (kind, after_kind) = split_number(list)?;
+    let (line, after_line) = split_number(after_kind)?;
+    let (key_length, after_key_length) = split_number(after_line)?;
+    let (value_length, texts) = split_number(after_key_length)?;
     let header = Header {
         kind,
         line,

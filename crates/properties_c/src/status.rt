@@ -16,9 +16,9 @@ pub enum Status {
     NoKey,
     /// Memory ran out.
     NoMemory,
-    /// No encoding has the number.
+    /// No encoding or target has the number, or the call doesn't take the flags.
     UnknownEncoding,
-    /// A key, a value or a text of a list isn't UTF-8.
+    /// A key, a value, a prefix, a separator or a text of a list isn't UTF-8.
     NotUtf8,
     /// A packed list isn't well formed.
     BadList,

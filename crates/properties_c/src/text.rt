@@ -4,7 +4,7 @@ ghost use Rattle.std.specs.Prelude.{◌≡◌};
 ghost use Rattle.properties_c.specs.Crossing.{crossing, GivesTextAt};
 ghost use Rattle.properties_c.specs.Statuses.{status_text, IsStatusAt};
 
-use crate::out::deliver;
+use crate::out::write_bytes;
 use crate::status::Status;
 
 /// Gives the text of the status with this number.
@@ -22,7 +22,7 @@ pub extern "C" fn todrenval_status_text(
         Some(status) => text_of(status),
         None => "Unknown status.",
     };
-    deliver(text.as_bytes(), out, length, line)
+    write_bytes(text.as_bytes(), out, length, line)
 }
 
 fn status_numbered(number: i32) -> Option<Status>

@@ -13,7 +13,7 @@ ghost use Rattle.properties_c.specs.Private.Results.{SetsAll, WritesCalls};
 
 use crate::encoding::{FOR_LINES, Flags, encoding_numbered, flags_numbered, text_of};
 use crate::lists::calls_of;
-use crate::out::{deliver, refuse};
+use crate::out::{refuse, write_bytes};
 use crate::status::{Status, status_of};
 use counted_io::{Counted, CountedWrite};
 use java_properties::{Call, Encoding, LineEnding, PropertiesWriter, run_calls};
@@ -53,7 +53,7 @@ pub extern "C" fn todrenval_write(
         Err(status) => return refuse(status, length, line),
     };
     match written(alloc, &calls, encoding, flags, prefix, separator) {
-        Ok(bytes) => deliver(&bytes, out, length, line),
+        Ok(bytes) => write_bytes(&bytes, out, length, line),
         Err(status) => refuse(status, length, line),
     }
 }

@@ -37,7 +37,7 @@ use Rattle.properties_format.proofs.Valued.Read.{front-unended}
 use Rattle.properties_editing.specs.Private.BodyValues.{IsBeforeValue, IsFrontSize, IsPairAlone, IsNewValue, IsGroupAlone, revalued_in, IsBetweenAt}
 use Rattle.properties_editing.specs.declared.new_value.NewValue.{NewValue}
 use Rattle.std.specs.Str.{IsUtf8, chars}
-use Rattle.properties_text.specs.declared.encoding.line.LineEncoding.TheVariants.{Utf8}
+use Rattle.properties_text.specs.declared.encoding.line_encoding.LineEncoding.TheVariants.{Utf8}
 use Rattle.properties_lines.proofs.LineTexts.{joins-alike}
 use Rattle.std.proofs.Math.Seq.{take-append_seam, drop-append_seam}
 use Rattle.properties_format.specs.Text.{without_leading_blanks}

@@ -3,7 +3,7 @@ use Rattle.std.proofs.Common.{◌≡◌, ◌≢◌, ◌<◌, ◌≤◌, ℕ, ◌
 use Rattle.std.specs.Prelude.{if◌then◌else◌}
 use Rattle.properties_format.specs.Text.{LineEnding, lf, cr, scalar, line_ending_text, is_empty}
 use Rattle.properties_format.specs.Encoding.{Encoding, Repertoire, in_encoding}
-use Rattle.properties_format.specs.Lines.{HoldsNoLineEnd, IsWhole, joined}
+use Rattle.properties_format.specs.Lines.{HoldsNoLineEnding, IsWhole, joined}
 use Rattle.properties_format.specs.Computed.Lines.{ends_in_cr}
 use Rattle.properties_format.specs.Computed.Cut.{decoded_line}
 use Rattle.properties_format.specs.Items.{pair, given}
@@ -65,7 +65,7 @@ opened-fits ending closing.TwoEndings = let size = length-append ending ending i
 
 -- A line without its ending that is a pair.
 record IsPairLine (e : Encoding) (key value line : List ℕ) : Type 0 where
-  plain : HoldsNoLineEnd line
+  plain : HoldsNoLineEnding line
   some : line ≢ []
   whole : IsWhole (record { number = 0; text = decoded_line e line } ∷ [])
   said : outcome_of (joined (record { number = 0; text = decoded_line e line } ∷ [])) ≡ given (pair key value)

@@ -8,7 +8,7 @@ use Rattle.std.proofs.lemmas.Bool.Decides.{nat_tests}
 use Rattle.std.proofs.lemmas.List.{map-append, length-map}
 use Rattle.properties_format.specs.Text.{LineEnding, line_ending_text}
 use Rattle.properties_format.specs.Encoding.{Encoding}
-use Rattle.properties_format.specs.Lines.{HoldsNoLineEnd, IsWhole, joined}
+use Rattle.properties_format.specs.Lines.{HoldsNoLineEnding, IsWhole, joined}
 use Rattle.properties_format.specs.Computed.Cut.{decoded_line}
 use Rattle.properties_format.specs.Items.{pair, ignored, given}
 use Rattle.properties_format.specs.Body.{HeldLine, as_lines, group_bytes, groups_bytes, ending_bytes}
@@ -131,7 +131,7 @@ final-two xs x y = ap final_group (sym (append_assoc xs (x ∷ []) (y ∷ []))) 
 
 module _ (e : Encoding) (by second : LineEnding) (gs : List (List HeldLine)) (key value pb : List ℕ) (ok : is_editable e ≡ true)
     (k : AreClosedBy e by gs)
-    (plain : HoldsNoLineEnd pb) (some : pb ≢ []) (whole : IsWhole (record { number = 0; text = decoded_line e pb } ∷ []))
+    (plain : HoldsNoLineEnding pb) (some : pb ≢ []) (whole : IsWhole (record { number = 0; text = decoded_line e pb } ∷ []))
     (said : outcome_of (joined (record { number = 0; text = decoded_line e pb } ∷ [])) ≡ given (pair key value)) where
   abbrev line : HeldLine
   line = appended.line e by second gs key value pb ok k plain some whole said

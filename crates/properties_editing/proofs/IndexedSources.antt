@@ -23,7 +23,7 @@ use Rattle.properties_editing.specs.Private.Sources.{IsIndexed, open_source, IsI
 use Rattle.properties_editing.specs.Private.Sound.{AreSound, AreSoundFor, IsResult}
 use Rattle.properties_editing.specs.declared.find.BodySpan.{BodySpan}
 use Rattle.properties_editing.specs.declared.index.Index.{Index}
-use Rattle.properties_editing.specs.declared.index.changes.IndexedSource.TheInside.{Inside}
+use Rattle.properties_editing.specs.declared.index.indexed_source.IndexedSource.TheInside.{Inside}
 use Rattle.properties_editing.specs.declared.source.BodyStart.{BodyStart}
 use Rattle.properties_editing.specs.declared.source.Comments.{Comments}
 use Rattle.properties_editing.specs.declared.source.Comments.TheVariants.{Read, PassedOver}

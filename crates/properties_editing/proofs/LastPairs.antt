@@ -6,7 +6,7 @@ use Rattle.std.proofs.lemmas.List.{drop_more, take-append-drop}
 use borrow.Author.Tests.{eqb-true}
 use Rattle.properties_format.specs.Text as text
 use Rattle.properties_format.specs.Text.{line_feed, carriage_return, line_ending_text, equals_sign}
-use Rattle.properties_format.specs.Lines.{HoldsNoLineEnd, Ended, Lines, joined}
+use Rattle.properties_format.specs.Lines.{HoldsNoLineEnding, Ended, Lines, joined}
 use Rattle.properties_format.specs.Computed.Lines.{ends_in_cr, lines_of}
 use Rattle.properties_format.specs.Body.{held_in, ending_bytes, last_ending, AreGroupsOf, HeldLine, as_lines, groups_bytes}
 use Rattle.properties_format.specs.Valued.{ending_among, separator_after}
@@ -153,7 +153,7 @@ parts-none front text.cr rest h q = refl
 parts-none front text.crlf rest h q = refl
 
 -- A line ending that no other follows is the last one.
-last-by : (body front : List ℕ) (by : LineEnding) (rest : List ℕ) → body ≡ front ++ (line_ending_text (ending_of by) ++ rest) → HoldsNoLineEnd rest
+last-by : (body front : List ℕ) (by : LineEnding) (rest : List ℕ) → body ≡ front ++ (line_ending_text (ending_of by) ++ rest) → HoldsNoLineEnding rest
     → (ending_of by ≡ text.lf → ends_in_cr front ≡ false) → IsLastEnding body by
 last-by body front by rest s plain alone =
     let end = ending_of by in
@@ -166,7 +166,7 @@ last-by body front by rest s plain alone =
     last-lines body by (ap (λ v. unwrap_or v text.lf) (ap last_by lines ∙ last_by-append (lines_of front).ended (l ∷ []) (λ q. absurd (cc))))
 
 -- An LF after a CR.
-pub last-both : (body : List ℕ) (at : ℕ) → 0 < at → at ≤ length body → get_or body (at - 1) 0 ≡ line_feed → HoldsNoLineEnd (drop at body)
+pub last-both : (body : List ℕ) (at : ℕ) → 0 < at → at ≤ length body → get_or body (at - 1) 0 ≡ line_feed → HoldsNoLineEnding (drop at body)
     → ends_in_cr (take (at - 1) body) ≡ true → IsLastEnding body CRLF
 last-both body at some within is plain h =
     let m = cr-last (take (at - 1) body) h in
@@ -175,20 +175,20 @@ last-both body at some within is plain h =
     plain (λ q. absurd (cc))
 
 -- An LF alone.
-pub last-feed : (body : List ℕ) (at : ℕ) → 0 < at → at ≤ length body → get_or body (at - 1) 0 ≡ line_feed → HoldsNoLineEnd (drop at body)
+pub last-feed : (body : List ℕ) (at : ℕ) → 0 < at → at ≤ length body → get_or body (at - 1) 0 ≡ line_feed → HoldsNoLineEnding (drop at body)
     → ends_in_cr (take (at - 1) body) ≡ false → IsLastEnding body LF
 last-feed body at some within is plain h = last-by body (take (at - 1) body) LF (drop at body) (at-byte body at line_feed some within is) plain (λ q. h)
 
 -- A CR.
-pub last-return : (body : List ℕ) (at : ℕ) → 0 < at → at ≤ length body → get_or body (at - 1) 0 ≡ carriage_return → HoldsNoLineEnd (drop at body)
+pub last-return : (body : List ℕ) (at : ℕ) → 0 < at → at ≤ length body → get_or body (at - 1) 0 ≡ carriage_return → HoldsNoLineEnding (drop at body)
     → IsLastEnding body CR
 last-return body at some within is plain =
     last-by body (take (at - 1) body) CR (drop at body) (at-byte body at carriage_return some within is) plain (λ q. absurd (cc))
 
 -- No line ending at all.
-pub last-none : (body : List ℕ) (at : ℕ) → at ≡ 0 → HoldsNoLineEnd (drop at body) → IsLastEnding body LF
+pub last-none : (body : List ℕ) (at : ℕ) → at ≡ 0 → HoldsNoLineEnding (drop at body) → IsLastEnding body LF
 last-none body at none plain =
-    last-lines body LF (ap (λ v. let w : Lines = v in unwrap_or (last_by w.ended) text.lf) (lines_of-plain body (subst (λ n. HoldsNoLineEnd (drop n body)) none plain)))
+    last-lines body LF (ap (λ v. let w : Lines = v in unwrap_or (last_by w.ended) text.lf) (lines_of-plain body (subst (λ n. HoldsNoLineEnding (drop n body)) none plain)))
 
 -- ---- the bytes of a pair
 

@@ -9,7 +9,7 @@ use Rattle.properties_format.specs.Text.{LineEnding, line_ending_text, is_blank,
 use Rattle.properties_format.specs.Encoding.{windows_1252, Repertoire}
 use Rattle.properties_format.specs.Printing.{encoded_text, printed_value}
 use Rattle.properties_format.specs.Valued.{value_text, separator_after, shortened_after}
-use Rattle.properties_format.proofs.Printing.Characters.{encoded-ascii, encoded_text-ascii, line_end-ascii}
+use Rattle.properties_format.proofs.Printing.Characters.{encoded-ascii, encoded_text-ascii, line_ending-ascii}
 use Rattle.std.specs.Char.{IsScalar, encode_utf8}
 use Rattle.properties_text.proofs.TextFronts.{chars-more}
 use Rattle.properties_text.proofs.Texts.Characters.{is_empty-chars}
@@ -63,7 +63,7 @@ shortened-more was text short next c h is rest =
 
 -- the bytes of a line ending are its characters
 pub ending-bytes : (bs : List ℕ) (by : LineEnding) → IsUtf8 bs → chars bs ≡ line_ending_text by → bs ≡ line_ending_text by
-ending-bytes bs by u h = line_ending-bytes windows_1252 bs by u h ∙ encoded_text-ascii windows_1252 (line_ending_text by) (line_end-ascii by)
+ending-bytes bs by u h = line_ending-bytes windows_1252 bs by u h ∙ encoded_text-ascii windows_1252 (line_ending_text by) (line_ending-ascii by)
 
 -- ---- the separator of a new pair
 

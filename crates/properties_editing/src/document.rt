@@ -6,7 +6,7 @@ ghost use Rattle.std.specs.Str.{chars};
 ghost use Rattle.properties_text.specs.Encoding.{encoding_of};
 ghost use Rattle.properties_editing.specs.Documents.{HasKeysInOrder, HasValueAt, OpensDocument, PutsInto, RemovesFrom, SetsValueIn, TurnsAsciiOnly, ChecksHasKey};
 
-use crate::index::changes::IndexedSource;
+use crate::index::indexed_source::IndexedSource;
 use crate::source::Asked;
 use properties_items::error::PropertiesError;
 use properties_text::encoding::Encoding;
@@ -18,7 +18,8 @@ use std::marker::Model;
 ///
 /// Use it in a program that changes keys one at a time and looks at values in between, such as an editor with a window:
 /// only `parse` reads the whole source. `set_value` reads again the pair that it changes or, if no pair has the key,
-/// the last pair. The bytes behind a change are moved.
+/// the last pair. Each call that sets a value copies the source, so it needs memory for a second one. Each added pair
+/// makes the index grow, even if it is removed again: parse anew from time to time if you add and remove many.
 ///
 /// ```text
 /// let mut document = Document::parse(alloc, b"# the front door\nport = 80\n", Encoding::UTF_8)?;
@@ -91,6 +92,8 @@ impl Document {
     /// let keys = document.keys()?;
     /// assert!(rt; keys.as_slice() == ["b", "a"].as_slice());
     /// ```
+    ///
+    /// Fails only if memory runs out.
     pub fn keys(&self) -> Result<Vec<&str>, AllocError>
         ensures { IfOk result (λ keys. HasKeysInOrder self.now keys.items) }
     {
@@ -149,7 +152,7 @@ impl Document {
         self.source.bytes.as_slice()
     }
 
-    /// Returns the file after the edits. What wasn't edited is unchanged.
+    /// Returns the file after the edits. What wasn't edited is unchanged. Fails only if memory runs out.
     pub fn to_bytes(&self) -> Result<Vec<u8>, AllocError>
         ensures { IfOk result (λ bytes. bytes.items ≡ self.now.bytes) }
     {

@@ -13,10 +13,10 @@ ghost use Rattle.properties_editing.specs.Editing.{EditsAll, EditsAllAscii, Edit
 
 use crate::append::{layout_at, with_new_pair};
 use crate::find::find_key;
-use crate::index::changes::IndexedSource;
+use crate::index::indexed_source::IndexedSource;
 use crate::new_value::with_other_value;
-use crate::remove::spans_without_key;
-use crate::replace::{with_pair_appended, with_pair_replaced, with_spans_kept};
+use crate::remove::{spans_without_key, with_spans_kept};
+use crate::replace::{with_pair_appended, with_pair_replaced};
 use crate::source::{Asked, BodyStart, Comments};
 use properties_items::error::PropertiesError;
 use properties_text::encoding::Encoding;
@@ -206,9 +206,9 @@ pub enum Edit {
 /// Returns the source after these edits, in order: each edit applies to the result of the one before it.
 ///
 /// Without edits, the result is a copy of the source. The source is read once. Each edit looks up its key, which takes
-/// a few comparisons for each doubling of their number, and moves the bytes and the positions behind the pair that it
-/// changes; and each [`Edit::SetValue`] reads the pair that it changes or, if no pair has the key, the last pair that
-/// is left.
+/// a few comparisons for each doubling of their number. Then it copies the source or moves the bytes behind the pair
+/// that it changes, and the positions of the pairs there. Each [`Edit::SetValue`] reads the pair that it changes or, if
+/// no pair has the key, the last pair that is left.
 ///
 /// UTF-16 is refused. A source with a malformed escape anywhere is refused with the error that reading the source would
 /// return.

@@ -20,6 +20,7 @@ pub struct PairPlaces {
     pub pair: Option<BodySpan>,
     /// The last pair, whatever its key, likewise.
     pub last: Option<BodySpan>,
+    /// What separates a new pair from the last group.
     pub closing: Closing,
 }
 

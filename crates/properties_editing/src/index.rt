@@ -21,7 +21,7 @@ use std::alloc::{AllocError, Global};
 use std::collections::BTreeMap;
 use std::collections::btree_map::Entry;
 
-pub mod changes;
+pub mod indexed_source;
 mod key_order;
 mod sweep;
 
@@ -81,7 +81,7 @@ impl Index {
         Ok(index)
     }
 
-    // Stores what is known after a group more, and its pair, if it is one.
+    // Stores what is known after one more group, and its pair, if it is one.
     fn add_group(
         &mut self,
         alloc: Global,

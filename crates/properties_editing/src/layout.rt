@@ -75,8 +75,8 @@ fn added_by(is_first: bool, text: &[u8]) -> &[u8]
     }
 }
 
-// Returns how many bytes of a line, which has this text, stay if the first `wanted` of the `added` bytes that it adds
-// do.
+// Returns how many bytes of a line stay. `text` is the text of the line. Of the `added` bytes that the line adds to the
+// logical line, the first `wanted` stay.
 fn kept_bytes(bytes: &[u8], text: &[u8], added: usize, wanted: usize) -> usize
     requires wanted { wanted ≤ added }
     requires added { added + (if is_open text.now then 1 else 0) ≤ length text.now }

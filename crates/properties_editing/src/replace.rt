@@ -1,11 +1,11 @@
-// The bytes of an edited source.
+// A source in which a pair is replaced or appended.
 
-ghost use Rattle.std.specs.Prelude.{◌≡◌, ◌==◌, ◌≤◌, ◌+◌, ◌-◌, ◌++◌, [], ◌∷◌, take, drop, length, IfOk, OnOk};
+ghost use Rattle.std.specs.Prelude.{◌≡◌, ◌==◌, ◌≤◌, ◌+◌, ◌-◌, ◌++◌, [], ◌∷◌, take, drop, length, IfOk};
 ghost use Rattle.std.specs.Str.{chars};
 ghost use Rattle.properties_format.specs.Text as text;
 ghost use Rattle.properties_format.specs.Text.{line_ending_text, line_feed, is_empty};
 ghost use Rattle.properties_format.specs.Edited.{added_ending, pair_bytes};
-ghost use Rattle.properties_editing.specs.Private.BodyKeys.{AreWithin, left_bytes, closing_bytes, spans_bytes};
+ghost use Rattle.properties_editing.specs.Private.BodyKeys.{closing_bytes};
 ghost use Rattle.properties_text.specs.Printing.{AppendsOnOk};
 ghost use Rattle.properties_editing.specs.Private.Sources.{PrintsIn, printed_in};
 
@@ -14,7 +14,6 @@ use crate::find::{BodySpan, Closing};
 use crate::source::BodyStart;
 use properties_items::line::LineEnding;
 use properties_text::encoding::LineEncoding;
-use properties_text::encoding::byte_order_mark::begins_like_byte_order_mark;
 use properties_text::print::{LineBuffer, Repertoire, print_texts};
 use std::alloc::{AllocError, Global};
 
@@ -62,49 +61,6 @@ pub fn with_pair_appended(
     print_new(&mut line, opened, first, key, value)?;
     push_ending(&mut line, LineEnding::LF)?;
     concatenated(alloc, source, line.as_slice(), b"")
-}
-
-/// Returns the source with only these parts of its body. An LF comes before them if they would begin like a byte order
-/// mark and the source doesn't begin with one.
-pub fn with_spans_kept(
-    alloc: Global,
-    source: &[u8],
-    opened: BodyStart,
-    others: &[BodySpan],
-) -> Result<Vec<u8>, AllocError>
-    requires within { opened.start ≤ length source.now }
-    requires parts { AreWithin (drop opened.start source.now) others.now }
-    ensures { IfOk result (λ bytes. bytes.items ≡ left_bytes source.now opened.start others.now) }
-{
-    let body = &source[opened.start..];
-    let mut bytes = Vec::with_capacity(alloc, size_with(opened.start, others))?;
-    bytes.extend_from_slice(&source[..opened.start])?;
-    push_spans(&mut bytes, body, others)?;
-    if opened.start == 0 && begins_like_byte_order_mark(&bytes) {
-        // This is rare, so the bytes are moved.
-        bytes.insert(0, b'\n')?;
-    }
-    Ok(bytes)
-}
-
-// Returns an upper bound on the size of a byte order mark of this size, an LF and these parts.
-fn size_with(mark: usize, spans: &[BodySpan]) -> usize {
-    let mut size = mark.saturating_add(1);
-    for span in spans {
-        size = size.saturating_add(span.end.saturating_sub(span.start));
-    }
-    size
-}
-
-// Appends these parts of a body.
-fn push_spans(bytes: &mut Vec<u8>, body: &[u8], spans: &[BodySpan]) -> Result<(), AllocError>
-    requires { AreWithin body.now spans.now }
-    ensures { OnOk result (bytes.new.items ≡ bytes.old.items ++ spans_bytes body.now spans.now) }
-{
-    for span in spans {
-        bytes.extend_from_slice(bytes_at(body, *span))?;
-    }
-    Ok(())
 }
 
 /// Returns a part of a body.

@@ -12,7 +12,7 @@ use Rattle.properties_format.specs.Settings.{Settings, IsGoodSeparator}
 use Rattle.properties_format.specs.Printing.{Place, in_key_or_value, in_comment, in_prefix, may_be_unescaped, literal, printed_character, printed_characters, encoded_text, is_bom_like, printed_key, is_free, printed_inside, printed_first, printed_rest, printed_value, printed_text, printed}
 use Rattle.properties_format.specs.Writing.{Call, prefix_call, separator_call, ascii_only_call, settings_after_call, settings_after, written_line, lines_with, line_bytes, wrote, items_read_back, ArePrefixesClean, AreOfScalars, AreGoodSettings}
 use Rattle.properties_format.specs.AsciiOnly.{KeepsAsciiOnly, AllKeepAsciiOnly, AreAsciiOnly, AreAsciiBytes, AreItemsInBoth}
-use Rattle.properties_format.proofs.Printing.Characters.{AreAscii, AreAscii-append, encoded_text-ascii, line_end-ascii, good_separator-ascii, may_be_unescaped-ascii, printed-either, unicode_escape-ascii, special-ascii, free-plain, first-special}
+use Rattle.properties_format.proofs.Printing.Characters.{AreAscii, AreAscii-append, encoded_text-ascii, line_ending-ascii, good_separator-ascii, may_be_unescaped-ascii, printed-either, unicode_escape-ascii, special-ascii, free-plain, first-special}
 use Rattle.properties_format.proofs.Settings.Tests.{IsGoodSeparator-from_test}
 use Rattle.properties_format.proofs.ReadBack.Unmarked.{front-unmarked}
 use Rattle.properties_format.proofs.ReadBack.Law.{IsItems-wrote}
@@ -140,8 +140,8 @@ parts-same e f s first (pair key value) =
 
 -- The parts are ASCII if the separator is good.
 parts-ascii : (e : Encoding) (s : Settings) (first : Bool) (line : Content) → IsGoodSeparator s.kv_separator → AreAscii (parts (ascii_in e) s first line)
-parts-ascii e s first (comment text) g = search (AreAscii-append, printed_characters-ascii, line_end-ascii)
-parts-ascii e s first (pair key value) g = search (AreAscii-append, printed_key-ascii, good_separator-ascii, value_part-ascii, line_end-ascii)
+parts-ascii e s first (comment text) g = search (AreAscii-append, printed_characters-ascii, line_ending-ascii)
+parts-ascii e s first (pair key value) g = search (AreAscii-append, printed_key-ascii, good_separator-ascii, value_part-ascii, line_ending-ascii)
 
 -- The bytes are shared: they are ASCII, and the same in the other encoding.
 record AreShared (f : Encoding) (x y : List ℕ) : Type 0 where

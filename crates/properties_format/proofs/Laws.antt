@@ -15,7 +15,7 @@ use Rattle.properties_format.specs.Computed.Items.{items_of}
 use Rattle.properties_format.specs.Maps.{HasNoPair, IsLastValue, IsValue}
 use Rattle.properties_format.specs.Settings.{Settings}
 use Rattle.properties_format.specs.Writing.{Call, wrote, Pair, pairs_in, calls_of, items_after}
-use Rattle.properties_format.specs.Laws.{HasOne, HasOneReading, ReadingInvertsWriting, EqualBytesOfEqualPairs, WritingAnewChangesNothing, HasPair, HasNoKey, AreDistinct, MapIsReadBack, SplittingCommutes, LineEndsSeparatePieces}
+use Rattle.properties_format.specs.Laws.{HasOne, HasOneReading, ReadingInvertsWriting, EqualBytesOfEqualPairs, WritingAnewChangesNothing, HasPair, HasNoKey, AreDistinct, MapIsReadBack, SplittingCommutes, LineEndingsSeparatePieces}
 use Rattle.properties_format.proofs.Encodings.Pieces.{pieces_of-meets, pieces_of-only, decoded_of-meets, decoded_of-only}
 use Rattle.properties_format.proofs.Encodings.Cuts.{pieces_of-cut_ascii}
 use Rattle.properties_format.proofs.Lines.Meets.{lines_of-meets}
@@ -163,8 +163,8 @@ pub splitting-commutes : (e : Encoding) (bytes : List ℕ) → SplittingCommutes
 splitting-commutes e bytes text lines d = ((λ k. byline-is_lines e bytes text lines k d), (λ k. lines-is_byline e bytes text lines k d))
 
 -- A CR or an LF at a unit's boundary separates the pieces before it from those after it.
-pub line_ends-part : (e : Encoding) (before : List ℕ) (c : ℕ) (after : List ℕ) → LineEndsSeparatePieces e before c after
-line_ends-part e before c after ends aligned ps qs h k =
+pub line_endings-part : (e : Encoding) (before : List ℕ) (c : ℕ) (after : List ℕ) → LineEndingsSeparatePieces e before c after
+line_endings-part e before c after ends aligned ps qs h k =
     subst (IsPieces e (before ++ (ascii_bytes e c ++ after))) parted (pieces_of-meets e (before ++ (ascii_bytes e c ++ after)))
   where
     parted : pieces_of e (before ++ (ascii_bytes e c ++ after)) ≡ ps ++ (piece (ascii_bytes e c) c ∷ qs)

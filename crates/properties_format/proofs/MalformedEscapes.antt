@@ -2,7 +2,7 @@
 use Rattle.std.proofs.Common.{◌≡◌, ℕ, ◌+◌, List, [], ◌∷◌, ◌++◌, refl, ap, sym, ◌∙◌, zero-add}
 use Rattle.properties_format.specs.Encoding.{Encoding}
 use Rattle.properties_format.specs.Computed.Encoding.{decoded_of}
-use Rattle.properties_format.specs.Lines.{InputEnd, end, fault, Line, line_ends, numbered_lines, HasGroups}
+use Rattle.properties_format.specs.Lines.{InputEnd, end, fault, Line, line_endings, numbered_lines, HasGroups}
 use Rattle.properties_format.specs.Computed.Lines.{lines_of, groups_in}
 use Rattle.properties_format.specs.Items.{Entry, read_fault, Outcome, ignored}
 use Rattle.properties_format.specs.Computed.Items.{outcome_of, followed}
@@ -48,9 +48,9 @@ pub natural-start : (e : Encoding) (d : List ℕ) (ending : InputEnd) → natura
 unfolding natural_to_come
 natural-start e d ending = refl
 
-pub last-start : (e : Encoding) (d : List ℕ) → last_to_come (start e) d fault ≡ read_fault (line_ends (lines_of (decoded_of e d)) + 1) ∷ []
+pub last-start : (e : Encoding) (d : List ℕ) → last_to_come (start e) d fault ≡ read_fault (line_endings (lines_of (decoded_of e d)) + 1) ∷ []
 unfolding last_to_come
-last-start e d = ap (λ v. read_fault (v + 1) ∷ []) (zero-add (line_ends (lines_of (decoded_of e d))))
+last-start e d = ap (λ v. read_fault (v + 1) ∷ []) (zero-add (line_endings (lines_of (decoded_of e d))))
 
 followed-fault : (number : ℕ) (outcome : Outcome) (rest : List Entry) (n : ℕ) → followed number outcome rest ≡ read_fault n ∷ [] → rest ≡ read_fault n ∷ []
 followed-fault number ignored rest n h = h

@@ -3,7 +3,7 @@
 -- decoded. Source: java.util.Properties of Java SE 7, load (what ends a line); The Unicode Standard, D77 (code units).
 use Rattle.std.specs.Prelude.{◌≡◌, ℕ, List, [], ◌∷◌, ◌++◌}
 use Rattle.properties_format.specs.Text.{line_feed, carriage_return, LineEnding, lf, cr, crlf, Piece, characters}
-use Rattle.properties_format.specs.Lines.{Ended, Lines, HoldsNoLineEnd, BeginsWithNoLoneLf}
+use Rattle.properties_format.specs.Lines.{Ended, Lines, HoldsNoLineEnding, BeginsWithNoLoneLf}
 use Rattle.properties_format.specs.Utf16.{low_first, high_first}
 use Rattle.properties_format.specs.Encoding.{Encoding, utf_16le, utf_16be, IsPieces, IsAligned, ascii_bytes, byte_order_mark}
 
@@ -21,8 +21,8 @@ units utf_16be d = units_of_two high_first d
 units e d = d
 
 -- No unit of the bytes is a CR or an LF.
-abbrev pub HoldsNoLineEndUnit : Encoding → List ℕ → Type 0
-HoldsNoLineEndUnit e d = HoldsNoLineEnd (units e d)
+abbrev pub HoldsNoLineEndingUnit : Encoding → List ℕ → Type 0
+HoldsNoLineEndingUnit e d = HoldsNoLineEnding (units e d)
 
 -- ---- The cut: lines of bytes.
 
@@ -41,8 +41,8 @@ bytes_together e (l ∷ ls) last = l.text ++ (line_ending_bytes e l.by ++ bytes_
 -- After a line that a CR ends, the next line isn't an empty one that an LF ends, because that LF would belong to the
 -- same end.
 abbrev pub AreCut : Encoding → List Ended → List ℕ → Type 0
-AreCut e [] last = HoldsNoLineEndUnit e last
-AreCut e (l ∷ ls) last = HoldsNoLineEndUnit e l.text × IsAligned e l.text × (l.by ≡ cr → BeginsWithNoLoneLf ls) × AreCut e ls last
+AreCut e [] last = HoldsNoLineEndingUnit e last
+AreCut e (l ∷ ls) last = HoldsNoLineEndingUnit e l.text × IsAligned e l.text × (l.by ≡ cr → BeginsWithNoLoneLf ls) × AreCut e ls last
 
 -- The bytes d, in the encoding e, have these lines of bytes.
 pub record IsCut (e : Encoding) (d : List ℕ) (lines : Lines) : Type 0 where

@@ -1,7 +1,7 @@
 -- What is found in an input, one logical line after another, such as its malformed escapes, its pairs or their keys.
 use Rattle.std.specs.Prelude.{◌≡◌, ℕ, List, [], ◌∷◌, ◌+◌, Bool}
 use Rattle.properties_format.specs.Encoding.{Encoding, IsDecoded}
-use Rattle.properties_format.specs.Lines.{InputEnd, Line, HasGroups, joined, first_number, end, Lines, IsLines, line_ends, is_comment_line}
+use Rattle.properties_format.specs.Lines.{InputEnd, Line, HasGroups, joined, first_number, end, Lines, IsLines, line_endings, is_comment_line}
 use Rattle.properties_format.specs.Items.{Outcome, IsOutcome, broken}
 use Rattle.properties_format.specs.Escapes.{Malformed}
 
@@ -44,4 +44,4 @@ pub record IsCutLine (e : Encoding) (bytes : List ℕ) (number : ℕ) : Type 0 w
   pub lines : Lines
   pub decoded : IsDecoded e bytes text
   pub divided : IsLines text lines
-  pub is : number ≡ line_ends lines + 1
+  pub is : number ≡ line_endings lines + 1

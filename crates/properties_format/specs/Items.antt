@@ -3,7 +3,7 @@
 use Rattle.std.specs.Prelude.{ℕ, ◌<◌, List, [], ◌∷◌, ◌≡◌, ◌⊎◌, ◌+◌}
 use Rattle.properties_format.specs.Escapes.{Malformed, Means, Breaks}
 use Rattle.properties_format.specs.Encoding.{Encoding}
-use Rattle.properties_format.specs.Lines.{InputEnd, fault, Line, line_ends, HasGroups, joined, first_number}
+use Rattle.properties_format.specs.Lines.{InputEnd, fault, Line, line_endings, HasGroups, joined, first_number}
 use Rattle.properties_format.specs.Split.{Logical, IsSplit}
 
 -- the content of a line: the text of a comment, or a key and its value
@@ -107,4 +107,4 @@ AreEntries n ending (group ∷ groups) entries =
 pub record IsItems (e : Encoding) (bytes : List ℕ) (ending : InputEnd) (entries : List Entry) : Type 0 where
   pub groups : List (List Line)
   pub has_groups : HasGroups e bytes ending groups
-  pub are_entries : AreEntries (line_ends has_groups.lines) ending groups entries
+  pub are_entries : AreEntries (line_endings has_groups.lines) ending groups entries

@@ -3,7 +3,7 @@
 use Rattle.std.specs.Prelude.{◌≡◌, ◌≢◌, ◌⊎◌, ℕ, ◌+◌, ◌^◌, Bool, true, false, if◌then◌else◌, List, [], ◌∷◌, ◌++◌}
 use Rattle.properties_format.specs.Text.{line_feed, Piece, characters}
 use Rattle.properties_format.specs.Encoding.{Encoding, InForce, byte_order_mark, IsPieces}
-use Rattle.properties_format.specs.Lines.{InputEnd, more, Line, Lines, IsLines, line_ends, numbered, IsGroups}
+use Rattle.properties_format.specs.Lines.{InputEnd, more, Line, Lines, IsLines, line_endings, numbered, IsGroups}
 use Rattle.properties_format.specs.Items.{Entry, AreEntries, last_entries}
 
 -- The state of a reader: the encoding in force, or the requested one as long as it is undecided whether the input
@@ -41,7 +41,7 @@ pub record AreFurtherEntries (s : ReaderState) (d : List ℕ) (ending : InputEnd
   pub after_end : IsAfterEnd s.after_cr (characters pieces) text
   pub divided : IsLines text lines
   pub grouped : IsGroups (numbered s.passed lines.ended lines.last ending) ending groups
-  pub are_entries : AreEntries (s.passed + line_ends lines) ending groups entries
+  pub are_entries : AreEntries (s.passed + line_endings lines) ending groups entries
 
 -- The items to come if these bytes come and then this ending. There are none if the reader is permanently at its end.
 abbrev pub IsItemsToCome : ReaderState → List ℕ → InputEnd → List Entry → Type 0
@@ -57,7 +57,7 @@ pub record AreFurtherLines (s : ReaderState) (d : List ℕ) (ending : InputEnd) 
   pub after_end : IsAfterEnd s.after_cr (characters pieces) text
   pub divided : IsLines text all
   pub are_lines : lines ≡ numbered s.passed all.ended all.last ending
-  pub are_last : last ≡ last_entries (s.passed + line_ends all) ending
+  pub are_last : last ≡ last_entries (s.passed + line_endings all) ending
 
 -- The natural lines to come, and what follows them. There is nothing if the reader is permanently at its end.
 abbrev pub AreLinesToCome : ReaderState → List ℕ → InputEnd → List Line → List Entry → Type 0

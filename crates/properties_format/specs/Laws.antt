@@ -1,7 +1,7 @@
 -- The three laws of the format: every input has exactly one reading, reading inverts writing, and splitting into lines
 -- commutes with decoding.
 use Rattle.std.specs.Prelude.{◌≡◌, ◌≢◌, ◌↔◌, ℕ, true, List, [], ◌∷◌, ◌++◌, Option, Some}
-use Rattle.properties_format.specs.Text.{is_line_end, Piece, piece}
+use Rattle.properties_format.specs.Text.{is_line_ending, Piece, piece}
 use Rattle.properties_format.specs.Encoding.{Encoding, output_encoding, byte_order_mark, ascii_bytes, IsPieces, IsDecoded, IsAligned}
 use Rattle.properties_format.specs.Lines.{InputEnd, end, Line, Lines, IsLines, numbered_lines, IsGroups, joined}
 use Rattle.properties_format.specs.Cut.{IsByline}
@@ -95,7 +95,7 @@ abbrev pub SplittingCommutes : Encoding → List ℕ → Type 0
 SplittingCommutes e bytes = (text : List ℕ) (lines : Lines) → IsDecoded e bytes text → IsByline e bytes lines ↔ IsLines text lines
 
 -- A CR or an LF at a unit's boundary in a body separates the pieces before it from those after it.
-abbrev pub LineEndsSeparatePieces : Encoding → List ℕ → ℕ → List ℕ → Type 0
-LineEndsSeparatePieces e before c after =
-    is_line_end c ≡ true → IsAligned e before → (ps qs : List Piece) → IsPieces e before ps → IsPieces e after qs
+abbrev pub LineEndingsSeparatePieces : Encoding → List ℕ → ℕ → List ℕ → Type 0
+LineEndingsSeparatePieces e before c after =
+    is_line_ending c ≡ true → IsAligned e before → (ps qs : List Piece) → IsPieces e before ps → IsPieces e after qs
     → IsPieces e (before ++ (ascii_bytes e c ++ after)) (ps ++ (piece (ascii_bytes e c) c ∷ qs))

@@ -2,7 +2,7 @@
 -- Source: java.util.Properties of Java SE 7, load: a natural line is terminated by \n, by \r, by \r\n, or by the end of
 -- the stream.
 use Rattle.std.specs.Prelude.{◌≡◌, ℕ, ◌+◌, ◌==◌, Bool, false, List, [], ◌∷◌, ◌++◌, length, suc, ◌%◌, ◌⊎◌, true, if◌then◌else◌, reverse}
-use Rattle.properties_format.specs.Text.{carriage_return, is_line_end, LineEnding, lf, cr, line_ending_text, backslash, is_comment_sign, without_leading_blanks, begins}
+use Rattle.properties_format.specs.Text.{carriage_return, is_line_ending, LineEnding, lf, cr, line_ending_text, backslash, is_comment_sign, without_leading_blanks, begins}
 use Rattle.properties_format.specs.Encoding.{Encoding, IsDecoded}
 
 -- a line with its end
@@ -21,9 +21,9 @@ put_together [] last = last
 put_together (l ∷ ls) last = l.text ++ (line_ending_text l.by ++ put_together ls last)
 
 -- No character of the line is a CR or an LF.
-abbrev pub HoldsNoLineEnd : List ℕ → Type 0
-HoldsNoLineEnd [] = Unit {0}
-HoldsNoLineEnd (c ∷ cs) = (is_line_end c ≡ false) × HoldsNoLineEnd cs
+abbrev pub HoldsNoLineEnding : List ℕ → Type 0
+HoldsNoLineEnding [] = Unit {0}
+HoldsNoLineEnding (c ∷ cs) = (is_line_ending c ≡ false) × HoldsNoLineEnding cs
 
 -- The first of these lines isn't an empty one that an LF ends.
 abbrev pub BeginsWithNoLoneLf : List Ended → Type 0
@@ -33,8 +33,8 @@ BeginsWithNoLoneLf (l ∷ ls) = ¬ ((l.text ≡ []) × (l.by ≡ lf))
 -- No line contains a line ending. After a line that a CR ends, the next line isn't an empty one that an LF ends,
 -- because that LF would belong to the same end.
 abbrev pub AreLines : List Ended → List ℕ → Type 0
-AreLines [] last = HoldsNoLineEnd last
-AreLines (l ∷ ls) last = HoldsNoLineEnd l.text × (l.by ≡ cr → BeginsWithNoLoneLf ls) × AreLines ls last
+AreLines [] last = HoldsNoLineEnding last
+AreLines (l ∷ ls) last = HoldsNoLineEnding l.text × (l.by ≡ cr → BeginsWithNoLoneLf ls) × AreLines ls last
 
 -- The text has these lines.
 pub record IsLines (x : List ℕ) (lines : Lines) : Type 0 where
@@ -42,8 +42,8 @@ pub record IsLines (x : List ℕ) (lines : Lines) : Type 0 where
   pub are_lines : AreLines lines.ended lines.last
 
 -- the number of line endings
-abbrev pub line_ends : Lines → ℕ
-line_ends lines = length lines.ended
+abbrev pub line_endings : Lines → ℕ
+line_endings lines = length lines.ended
 
 -- whether the text ends in a CR
 abbrev pub ends_in_cr : List ℕ → Bool

@@ -3,7 +3,7 @@
 -- from its value), and load (which comments and separators are read back).
 use Rattle.std.specs.Prelude.{◌≡◌, ◌≢◌, ◌⊎◌, ℕ, Bool, true, false, List, [], ◌∷◌, ◌++◌}
 use Rattle.properties_format.specs.Encoding.{Encoding, Repertoire, repertoire}
-use Rattle.properties_format.specs.Lines.{HoldsNoLineEnd}
+use Rattle.properties_format.specs.Lines.{HoldsNoLineEnding}
 use Rattle.properties_format.specs.Split.{AreBlanks}
 use Rattle.properties_format.specs.Text.{LineEnding, lf, space, number_sign, equals_sign, is_comment_sign, is_separator}
 
@@ -30,7 +30,7 @@ pub record IsGoodPrefix (prefix : List ℕ) : Type 0 where
   pub division : prefix ≡ indent ++ (sign ∷ tail)
   pub indented : AreBlanks indent
   pub signed : is_comment_sign sign ≡ true
-  pub one_line : HoldsNoLineEnd tail
+  pub one_line : HoldsNoLineEnding tail
 
 -- A separator with a sign: any number of blanks, one colon or equals sign, any number of blanks.
 pub record IsSignedSeparator (separator : List ℕ) : Type 0 where

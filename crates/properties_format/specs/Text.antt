@@ -72,8 +72,8 @@ begins kind [] = false
 begins kind (c ∷ cs) = kind c
 
 -- whether a character is a CR or an LF
-abbrev pub is_line_end : ℕ → Bool
-is_line_end c = c == line_feed || c == carriage_return
+abbrev pub is_line_ending : ℕ → Bool
+is_line_ending c = c == line_feed || c == carriage_return
 
 -- whether a character is a comment sign
 abbrev pub is_comment_sign : ℕ → Bool

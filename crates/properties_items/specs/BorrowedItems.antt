@@ -145,5 +145,5 @@ FindsIn line number (Err e) = (number : ℕ) (error : PropertiesError) → IsUnr
 -- What was found in a logical line, or `None` if it is blank; or the error of the line with this number.
 abbrev pub FindsItem : List ℕ → ℕ → Result (Option Found) PropertiesError → Type 0
 FindsItem line number (Ok None) = outcome_of (chars line) ≡ ignored
-FindsItem line number (Ok (Some found)) = IsFoundIn line found
+FindsItem line number (Ok (Some found)) = (found.line_number ≡ number) × IsFoundIn line found
 FindsItem line number (Err e) = IsNoItem number (chars line) e

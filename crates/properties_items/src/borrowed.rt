@@ -62,7 +62,7 @@ impl<'a> LineRef<'a> {
         &self.content
     }
 
-    /// Returns a copy with owned texts, as `next` would have returned it.
+    /// Returns a copy with owned texts, as `next` would have returned it. Fails only if memory runs out.
     pub fn to_line(&self, alloc: Global) -> Result<Line, PropertiesError>
         ensures { IsLineOf self.now result }
     {

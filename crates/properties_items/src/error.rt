@@ -165,7 +165,7 @@ impl PropertiesError {
     /// Returns a value that prints as a message about the file or the stream with this name: `NAME:LINE: REASON`, or
     /// `NAME: REASON` if no line is known.
     ///
-    /// A stream that fails in its first line counts as of no line: it may be a folder, or not open at all.
+    /// A stream that fails in its first line counts as having no line: it may be a folder, or not open at all.
     ///
     /// ```text
     /// if let Err(error) = read_sorted(alloc, &mut input, Encoding::UTF_8) {

@@ -93,7 +93,7 @@ impl fmt::Display for Line {
     }
 }
 
-/// The ending of each line that is written.
+/// What ends a line that is written.
 #[derive(Clone, Copy, Debug, PartialEq, Eq, PartialOrd, Ord, Hash)]
 pub enum LineEnding {
     /// A carriage return.

@@ -23,7 +23,7 @@ use Rattle.properties_format.proofs.ItemsToCome.Steps.{lines-start, lines-on, on
 use Rattle.properties_text.specs.Escaping.{holds_backslash, text_in, IsWell}
 use Rattle.properties_lines.specs.LineReader.{LineReading, Finds, FindsNext, Passes, IsLazy, HasRightLineFlags, FindsError, found_line}
 use Rattle.properties_text.specs.Encoding.{line_of}
-use Rattle.properties_text.specs.declared.encoding.line.LineEncoding.{LineEncoding}
+use Rattle.properties_text.specs.declared.encoding.line_encoding.LineEncoding.{LineEncoding}
 use Rattle.properties_lines.specs.LogicalLine.{bytes_at, bytes_with, is_natural, IsLineIn, HasText, IsTextOf, IsNotContinued, OpensJoin, unfinished_text}
 use Rattle.properties_lines.specs.declared.logical.Place.{Place}
 use Rattle.properties_lines.specs.declared.logical.Place.TheVariants.{Natural, Decoded, Joined}

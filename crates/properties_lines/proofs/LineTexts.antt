@@ -4,7 +4,7 @@ use Rattle.std.specs.Prelude.{◌%◌, ◌==◌, if◌then◌else◌, Result, Ok
 use Rattle.std.specs.Str.{chars, IsAscii, IsUtf8}
 use Rattle.std.specs.declared.alloc.AllocError.{AllocError}
 use denote.Enum.Bare.{sameb}
-use Rattle.properties_text.specs.contracts.encoding.line.LineEncoding.{the_type}
+use Rattle.properties_text.specs.contracts.encoding.line_encoding.LineEncoding.{the_type}
 use Rattle.std.proofs.lemmas.List.{map-append}
 use Rattle.std.proofs.lemmas.Str.{chars-append, IsUtf8-append, IsUtf8-from_ascii}
 use Rattle.properties_format.specs.Encoding.{Encoding, windows_1252, utf_8, utf_16le, utf_16be, output_encoding}
@@ -16,8 +16,8 @@ use Rattle.properties_format.proofs.Encodings.WellFormed.{IsUtf8-from_well_forme
 use Rattle.properties_format.proofs.Undecoded.{decodes, comments, opens, closed, adds as added}
 use Rattle.properties_text.specs.Encoding.{line_of}
 use Rattle.properties_text.specs.Escaping.{text_in, IsWell}
-use Rattle.properties_text.specs.declared.encoding.line.LineEncoding.{LineEncoding}
-use Rattle.properties_text.specs.declared.encoding.line.LineEncoding.TheVariants.{Windows1252, Utf8}
+use Rattle.properties_text.specs.declared.encoding.line_encoding.LineEncoding.{LineEncoding}
+use Rattle.properties_text.specs.declared.encoding.line_encoding.LineEncoding.TheVariants.{Windows1252, Utf8}
 use Rattle.properties_text.proofs.TextFronts.{text-decoded}
 use Rattle.properties_text.proofs.Texts.Backslashes.{ending_backslashes-text}
 use Rattle.properties_text.proofs.Texts.Joins.{is_comment_line-text, without_open_backslash-part}

@@ -9,8 +9,8 @@ use Rattle.properties_format.proofs.Encodings.Pieces.{pieces_of-meets}
 use Rattle.properties_format.proofs.Encodings.Characters.{piece-ascii}
 use Rattle.properties_format.proofs.Undecoded.{same-backslash}
 use Rattle.properties_text.specs.Escaping.{text_in, IsWell, holds_backslash}
-use Rattle.properties_text.specs.declared.encoding.line.LineEncoding.{LineEncoding}
-use Rattle.properties_text.specs.declared.encoding.line.LineEncoding.TheVariants.{Windows1252, Utf8}
+use Rattle.properties_text.specs.declared.encoding.line_encoding.LineEncoding.{LineEncoding}
+use Rattle.properties_text.specs.declared.encoding.line_encoding.LineEncoding.TheVariants.{Windows1252, Utf8}
 use Rattle.properties_text.proofs.Texts.Resolving.{holds-part, holds_backslash-text}
 
 -- ---- texts without a backslash

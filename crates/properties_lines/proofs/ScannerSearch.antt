@@ -8,17 +8,17 @@ use Rattle.std.proofs.lemmas.Bool.{cases_Bool, or_from, or_parts, eqb-true, leb-
 use Rattle.std.proofs.lemmas.List.{take_rest, drop-drop, length-take-le, get_or-take, get_or-drop, length-map, take-take}
 use Rattle.std.proofs.lemmas.List.Elements.{All-get_or, All-head, All-tail, All-take, All-weaker}
 use Rattle.std.proofs.lemmas.Str.Ascii.{IsAscii-from_all, All-from_ascii}
-use Rattle.byte_blocks.specs.Classes.{is_past_ascii}
+use Rattle.byte_blocks.specs.Classes.{is_non_ascii}
 use Rattle.byte_blocks.specs.Marks.{clear_front}
 use Rattle.byte_blocks.proofs.Marking.{clear-before, more-of, first-byte}
 use Rattle.byte_blocks.proofs.Searching.{long-block}
 use Rattle.memchr.specs.Find.{Nowhere, Passes}
 use Rattle.properties_format.specs.Text as text
-use Rattle.properties_format.specs.Text.{line_feed, carriage_return, backslash, is_line_end}
+use Rattle.properties_format.specs.Text.{line_feed, carriage_return, backslash, is_line_ending}
 use Rattle.properties_format.specs.Encoding.{Encoding, ascii_bytes, IsAligned}
 use Rattle.properties_format.specs.Lines as format
-use Rattle.properties_format.specs.Lines.{HoldsNoLineEnd}
-use Rattle.properties_format.specs.Cut.{units, HoldsNoLineEndUnit, line_ending_bytes}
+use Rattle.properties_format.specs.Lines.{HoldsNoLineEnding}
+use Rattle.properties_format.specs.Cut.{units, HoldsNoLineEndingUnit, line_ending_bytes}
 use Rattle.properties_format.specs.Computed.Lines.{begins_with_lf}
 use Rattle.properties_format.specs.Computed.Cut.{decoded_line}
 use Rattle.properties_format.specs.ItemsToCome.{ReaderState}
@@ -28,10 +28,10 @@ use Rattle.properties_text.specs.Encoding.{encoding_of}
 use Rattle.properties_text.specs.Escaping.{holds_backslash}
 use Rattle.properties_text.proofs.Blocks.{ascii-before}
 use Rattle.properties_text.proofs.Texts.Resolving.{holds-at}
-use Rattle.properties_lines.specs.LineSearch.{unit_size, IsFirstLineEnd, end_character}
+use Rattle.properties_lines.specs.LineSearch.{unit_size, IsFirstLineEnding, end_character}
 use Rattle.properties_lines.specs.Scanner.{scanner_state, HasRightFlags, EndsWhole, bytes_of, line_of, IsReady, IsFresh, IsBefore, FindsByte, TellsBackslash, TakesLine, SkipsFeed, feed_size, Searches, is_decided, after_cr}
 use Rattle.properties_lines.specs.Private.PlainEnds.{is_plain_end}
-use Rattle.properties_lines.specs.declared.search.LineEnd.{LineEnd}
+use Rattle.properties_lines.specs.declared.search.FoundEnding.{FoundEnding}
 use Rattle.properties_lines.specs.declared.search.BlockSearch.{BlockSearch}
 use Rattle.properties_lines.specs.declared.search.BlockSearch.TheVariants.{Found, Searched}
 use Rattle.properties_lines.specs.declared.scanner.Front.{Front}
@@ -132,7 +132,7 @@ front-short (of_cr k le) h = absurd (cc h)
 front-short (of_crlf k) h = absurd (cc h)
 front-short (of_last_cr few) h = (refl, few)
 
-is-end : (is_cr : Bool) → is_line_end (end_character is_cr) ≡ true
+is-end : (is_cr : Bool) → is_line_ending (end_character is_cr) ≡ true
 is-end true = refl
 is-end false = refl
 
@@ -156,7 +156,7 @@ taken s front at line = record s { front = front; passed = s.passed + 1; at = at
 takes-line : (s : Scanner) (held : List ℕ) (n unit : ℕ) (is_ascii has_backslash : Bool)
     → let after = drop (s.at + n + unit) held in
     (r : Tail (encoding_of s.encoding) after) → IsReady s held
-    → IsFirstLineEnd (encoding_of s.encoding) (drop s.at held) (record { at = n; is_cr = is_cr_of r }) → unit ≡ unit_size (encoding_of s.encoding)
+    → IsFirstLineEnding (encoding_of s.encoding) (drop s.at held) (record { at = n; is_cr = is_cr_of r }) → unit ≡ unit_size (encoding_of s.encoding)
     → HasRightFlags (encoding_of s.encoding) (take n (drop s.at held)) (line_at s n is_ascii has_backslash)
     → TakesLine s held (taken s (front_at r) (s.at + n + unit + feed_at r) (line_at s n is_ascii has_backslash))
 takes-line s held n unit is_ascii has_backslash r ready found size told =
@@ -203,7 +203,7 @@ takes-line s held n unit is_ascii has_backslash r ready found size told =
         division = found.division ∙ ap (λ v. l ++ (ascii_bytes e c ++ v)) (sym rest) ∙ ap (λ v. l ++ v) ending.division
             ∙ ap₂ (λ v w. v ++ (line_ending_bytes e ending.by ++ w)) (sym whole) left-is;
         aligned = inr (subst (IsAligned e) (sym whole) found.aligned);
-        none = subst (HoldsNoLineEndUnit e) (sym whole) found.none_before;
+        none = subst (HoldsNoLineEndingUnit e) (sym whole) found.none_before;
         whole = subst Ends left-is ending.whole;
       };
       ended = λ w. absurd (cc w);
@@ -221,19 +221,19 @@ takes-line s held n unit is_ascii has_backslash r ready found size told =
     }
 
 -- the scanner after a line and its line ending
-abbrev after_line_end : Scanner → ℕ → ℕ → Bool → Bool → Scanner
-after_line_end s n unit is_ascii has_backslash = record s { passed = s.passed + 1; at = s.at + n + unit; line = line_at s n is_ascii has_backslash }
+abbrev after_line_ending : Scanner → ℕ → ℕ → Bool → Bool → Scanner
+after_line_ending s n unit is_ascii has_backslash = record s { passed = s.passed + 1; at = s.at + n + unit; line = line_at s n is_ascii has_backslash }
 
 -- what is known where a line is taken
-pub record IsTaken (s : Scanner) (held : List ℕ) (end : LineEnd) (unit : ℕ) (is_ascii has_backslash : Bool) : Type 0 where
+pub record IsTaken (s : Scanner) (held : List ℕ) (end : FoundEnding) (unit : ℕ) (is_ascii has_backslash : Bool) : Type 0 where
   pub ready : IsReady s held
   pub nothing : s.searched ≡ 0
-  pub found : IsFirstLineEnd (encoding_of s.encoding) (drop s.at held) end
+  pub found : IsFirstLineEnding (encoding_of s.encoding) (drop s.at held) end
   pub size : unit ≡ unit_size (encoding_of s.encoding)
   pub ascii : (is_ascii ≡ true) ↔ (unit ≡ 1) × IsAscii (take end.at (drop s.at held))
   pub backslash : has_backslash ≡ holds_backslash (take end.at (drop s.at held))
 
-takes : (s : Scanner) (held : List ℕ) (end : LineEnd) (unit feed : ℕ) (front : Front) (is_ascii has_backslash : Bool)
+takes : (s : Scanner) (held : List ℕ) (end : FoundEnding) (unit feed : ℕ) (front : Front) (is_ascii has_backslash : Bool)
     → IsTaken s held end unit is_ascii has_backslash
     → let after = drop (s.at + end.at + unit) held in
     (r : Tail (encoding_of s.encoding) after) → end.is_cr ≡ is_cr_of r → front ≡ front_at r → feed ≡ feed_at r
@@ -241,7 +241,7 @@ takes : (s : Scanner) (held : List ℕ) (end : LineEnd) (unit feed : ℕ) (front
 takes s held end unit feed front is_ascii has_backslash h r cr at-front at-feed =
     let e = encoding_of s.encoding in
     let line = line_at s end.at is_ascii has_backslash in
-    let First : Bool → Type 0 = λ v. IsFirstLineEnd e (drop s.at held) (record { at = end.at; is_cr = v }) in
+    let First : Bool → Type 0 = λ v. IsFirstLineEnding e (drop s.at held) (record { at = end.at; is_cr = v }) in
     let Ascii : ℕ → Type 0 = λ m. (is_ascii ≡ true) ↔ (m ≡ 1) × IsAscii (take end.at (drop s.at held)) in
     let told : HasRightFlags e (take end.at (drop s.at held)) line = record { ascii = subst Ascii h.size h.ascii; backslash = h.backslash } in
     let done = takes-line s held end.at unit is_ascii has_backslash r h.ready (subst First cr h.found) h.size told in
@@ -251,16 +251,16 @@ takes s held end unit feed front is_ascii has_backslash h r cr at-front at-feed 
     subst (λ n. P front feed n) (sym h.nothing) fronted
 
 -- up to a line ending that is an LF
-pub takes-lf : (s : Scanner) (held : List ℕ) (end : LineEnd) (unit : ℕ) (is_ascii has_backslash : Bool) → IsTaken s held end unit is_ascii has_backslash → end.is_cr ≡ false
-    → TakesLine s held (after_line_end s end.at unit is_ascii has_backslash)
+pub takes-lf : (s : Scanner) (held : List ℕ) (end : FoundEnding) (unit : ℕ) (is_ascii has_backslash : Bool) → IsTaken s held end unit is_ascii has_backslash → end.is_cr ≡ false
+    → TakesLine s held (after_line_ending s end.at unit is_ascii has_backslash)
 takes-lf s held end unit is_ascii has_backslash h lf =
     let same : s.at + end.at + unit + 0 ≡ s.at + end.at + unit = omega arith in
     let P : ℕ → Type 0 = λ m. TakesLine s held (record s { passed = s.passed + 1; at = m; line = line_at s end.at is_ascii has_backslash }) in
     subst P same (takes s held end unit 0 s.front is_ascii has_backslash h of_lf lf h.ready.settled refl)
 
 -- or a CR, with the LF after it
-pub takes-cr : (s new : Scanner) (held : List ℕ) (end : LineEnd) (unit : ℕ) (is_ascii has_backslash passed : Bool) → IsTaken s held end unit is_ascii has_backslash
-    → end.is_cr ≡ true → SkipsFeed (after_line_end s end.at unit is_ascii has_backslash) held false passed new → TakesLine s held new
+pub takes-cr : (s new : Scanner) (held : List ℕ) (end : FoundEnding) (unit : ℕ) (is_ascii has_backslash passed : Bool) → IsTaken s held end unit is_ascii has_backslash
+    → end.is_cr ≡ true → SkipsFeed (after_line_ending s end.at unit is_ascii has_backslash) held false passed new → TakesLine s held new
 takes-cr s new held end unit is_ascii has_backslash true h cr k =
     let e = encoding_of s.encoding in
     let after = drop (s.at + end.at + unit) held in
@@ -278,17 +278,17 @@ takes-cr s new held end unit is_ascii has_backslash false h cr k =
 -- ---- where a unit is one byte
 
 -- before the first byte that ends a line
-clear-nowhere : (bytes : List ℕ) (n : ℕ) → n < length bytes → All (λ b. is_line_end b ≡ false) (take n bytes) → Nowhere (Passes is_line_end bytes) 0 n
+clear-nowhere : (bytes : List ℕ) (n : ℕ) → n < length bytes → All (λ b. is_line_ending b ≡ false) (take n bytes) → Nowhere (Passes is_line_ending bytes) 0 n
 clear-nowhere bytes n within clear k low high e = absurd (cc (before k high, e))
   where
-    before : (k : ℕ) → k < n → is_line_end (get_or bytes k 0) ≡ false
+    before : (k : ℕ) → k < n → is_line_ending (get_or bytes k 0) ≡ false
     before k h =
-        let one = All-get_or (λ b. is_line_end b ≡ false) (take n bytes) k 0 (omega (arith, h, length-take-le n bytes (omega (arith, within)))) clear in
-        subst (λ b. is_line_end b ≡ false) (get_or-take n bytes k 0 h) one
+        let one = All-get_or (λ b. is_line_ending b ≡ false) (take n bytes) k 0 (omega (arith, h, length-take-le n bytes (omega (arith, within)))) clear in
+        subst (λ b. is_line_ending b ≡ false) (get_or-take n bytes k 0 h) one
 
 -- the first byte that ends a line is the first line ending
-pub found-end : (e : Encoding) (bytes : List ℕ) (n : ℕ) → unit_size e ≡ 1 → n < length bytes → All (λ b. is_line_end b ≡ false) (take n bytes)
-    → is_line_end (get_or bytes n 0) ≡ true → IsFirstLineEnd e bytes (record { at = n; is_cr = get_or bytes n 0 == carriage_return })
+pub found-end : (e : Encoding) (bytes : List ℕ) (n : ℕ) → unit_size e ≡ 1 → n < length bytes → All (λ b. is_line_ending b ≡ false) (take n bytes)
+    → is_line_ending (get_or bytes n 0) ≡ true → IsFirstLineEnding e bytes (record { at = n; is_cr = get_or bytes n 0 == carriage_return })
 found-end e bytes n size within clear ends =
     found-byte e bytes 0 n size (nothing_searched e bytes) (record { low = omega arith; high = within; before = clear-nowhere bytes n within clear }) ends
 
@@ -321,14 +321,14 @@ block-end test bytes marks at count is front small room =
 
 -- they are ASCII, where those before the block are
 pub ascii-then : (bytes : List ℕ) (marks : List Bool) (at count : ℕ) (old new told : Bool) → (old ≡ true) ↔ All (λ b. b < 0x80) (take at bytes) → old ≡ true
-    → marks ≡ map is_past_ascii (take 16 (drop at bytes)) → (told ≡ true) ↔ count ≤ clear_front marks → new ≡ told → count ≤ 16 → at + 16 ≤ length bytes
+    → marks ≡ map is_non_ascii (take 16 (drop at bytes)) → (told ≡ true) ↔ count ≤ clear_front marks → new ≡ told → count ≤ 16 → at + 16 ≤ length bytes
     → (new ≡ true) ↔ All (λ b. b < 0x80) (take (at + count) bytes)
 ascii-then bytes marks at count old new told before was is tells same le room = (
   λ t. more-of (λ b. b < 0x80) bytes block at count (before.0 was) refl le (ascii-before block marks count is (tells.0 (sym same ∙ t))),
   λ all. same ∙ tells.1 (elim (cases_lt (clear_front marks) count) [
     | inl h ↦
         let k = clear_front marks in
-        let past = block-end is_past_ascii bytes marks at k is refl (omega (arith, h, le)) room in
+        let past = block-end is_non_ascii bytes marks at k is refl (omega (arith, h, le)) room in
         let long = length-take-le (at + count) bytes (omega (arith, le, room)) in
         let small = All-get_or (λ b. b < 0x80) (take (at + count) bytes) (at + k) 0 (omega (arith, h, long)) all in
         let here = get_or-take (at + count) bytes (at + k) 0 (omega (arith, h)) in
@@ -353,12 +353,12 @@ ascii-else bytes at count old new before was is = (
 
 -- ---- a search goes on
 
-clear-all : (d : List ℕ) → All (λ b. is_line_end b ≡ false) d → HoldsNoLineEnd d
+clear-all : (d : List ℕ) → All (λ b. is_line_ending b ≡ false) d → HoldsNoLineEnding d
 clear-all [] h = tt
-clear-all (c ∷ d) h = (All-head (λ b. is_line_end b ≡ false) c d h, clear-all d (All-tail (λ b. is_line_end b ≡ false) c d h))
+clear-all (c ∷ d) h = (All-head (λ b. is_line_ending b ≡ false) c d h, clear-all d (All-tail (λ b. is_line_ending b ≡ false) c d h))
 
 -- after the bytes that were searched
-pub ready-on : (s : Scanner) (held : List ℕ) (at : ℕ) → IsReady s held → IsFresh s → at ≤ length (drop s.at held) → All (λ b. is_line_end b ≡ false) (take at (drop s.at held))
+pub ready-on : (s : Scanner) (held : List ℕ) (at : ℕ) → IsReady s held → IsFresh s → at ≤ length (drop s.at held) → All (λ b. is_line_ending b ≡ false) (take at (drop s.at held))
     → IsReady (record s { searched = at }) held
 ready-on s held at ready fresh within clear = record {
   fits = record {
@@ -379,18 +379,18 @@ searches-on s new held at false h = search rules
 -- ---- after a backslash
 
 -- where a line ends after it
-past-escape : (bytes : List ℕ) (from at : ℕ) (is_ascii : Bool) → IsBefore is_line_end bytes from is_ascii → get_or bytes from 0 ≡ backslash
-    → is_line_end (get_or bytes at 0) ≡ true → from < at
+past-escape : (bytes : List ℕ) (from at : ℕ) (is_ascii : Bool) → IsBefore is_line_ending bytes from is_ascii → get_or bytes from 0 ≡ backslash
+    → is_line_ending (get_or bytes at 0) ≡ true → from < at
 past-escape bytes from at is_ascii before escaped ends = elim (cases_lt from at) [
   | inl h ↦ h
   | inr h ↦ elim (cases_lt at from) [
     | inl low ↦
         let long : at < length (take from bytes) = omega (arith, low, length-take-le from bytes before.within) in
-        let none = All-get_or (λ b. is_line_end b ≡ false) (take from bytes) at 0 long before.clear in
+        let none = All-get_or (λ b. is_line_ending b ≡ false) (take from bytes) at 0 long before.clear in
         absurd (cc (none, ends, get_or-take from bytes at 0 low))
     | inr high ↦
         let same : at ≡ from = omega (arith, high, h) in
-        let is : is_line_end backslash ≡ true = ap is_line_end (sym (ap (λ n. get_or bytes n 0) same ∙ escaped)) ∙ ends in
+        let is : is_line_ending backslash ≡ true = ap is_line_ending (sym (ap (λ n. get_or bytes n 0) same ∙ escaped)) ∙ ends in
         absurd (cc is)
   ]
 ]
@@ -401,35 +401,35 @@ holds-escape bytes from at low within escaped =
     sym (holds-at (take at bytes) from (omega (arith, low, length-take-le at bytes within)) (get_or-take at bytes from 0 low ∙ escaped))
 
 -- up to the line ending after it
-pub tells-escaped : (bytes : List ℕ) (from : ℕ) (was_ascii : Bool) (found : BlockSearch) → IsBefore is_line_end bytes from was_ascii
-    → FindsByte is_line_end bytes found → get_or bytes from 0 ≡ backslash → TellsBackslash bytes found true
+pub tells-escaped : (bytes : List ℕ) (from : ℕ) (was_ascii : Bool) (found : BlockSearch) → IsBefore is_line_ending bytes from was_ascii
+    → FindsByte is_line_ending bytes found → get_or bytes from 0 ≡ backslash → TellsBackslash bytes found true
 tells-escaped bytes from was_ascii (Found size is_ascii) before h escaped =
     holds-escape bytes from size (past-escape bytes from size was_ascii before escaped h.2) (omega (arith, h.1)) escaped
 tells-escaped bytes from was_ascii (Searched count) before h escaped = tt
 
 -- ---- before the first byte that ends a plain text
 
-pub plain-clear : (text : List ℕ) → All (λ b. is_plain_end b ≡ false) text → All (λ b. is_line_end b ≡ false) text
-plain-clear text h = All-weaker (λ b. is_plain_end b ≡ false) (λ b. is_line_end b ≡ false) (λ b e. (or_parts (is_line_end b) (b == backslash) e).0) text h
+pub plain-clear : (text : List ℕ) → All (λ b. is_plain_end b ≡ false) text → All (λ b. is_line_ending b ≡ false) text
+plain-clear text h = All-weaker (λ b. is_plain_end b ≡ false) (λ b. is_line_ending b ≡ false) (λ b e. (or_parts (is_line_ending b) (b == backslash) e).0) text h
 
 pub plain-unescaped : (text : List ℕ) → All (λ b. is_plain_end b ≡ false) text → holds_backslash text ≡ false
 plain-unescaped [] h = refl
 plain-unescaped (b ∷ text) h =
-    let first = or_parts (is_line_end b) (b == backslash) (All-head (λ b. is_plain_end b ≡ false) b text h) in
+    let first = or_parts (is_line_ending b) (b == backslash) (All-head (λ b. is_plain_end b ≡ false) b text h) in
     or_from (b == backslash) (holds_backslash text) first.1 (plain-unescaped text (All-tail (λ b. is_plain_end b ≡ false) b text h))
 
-pub plain-before : (bytes : List ℕ) (n : ℕ) (is_ascii : Bool) → IsBefore is_plain_end bytes n is_ascii → IsBefore is_line_end bytes n is_ascii
+pub plain-before : (bytes : List ℕ) (n : ℕ) (is_ascii : Bool) → IsBefore is_plain_end bytes n is_ascii → IsBefore is_line_ending bytes n is_ascii
 plain-before bytes n is_ascii h = record { within = h.within; clear = plain-clear (take n bytes) h.clear; ascii = h.ascii }
 
 -- where it isn't a backslash, it ends the line
 pub plain-found : (bytes : List ℕ) (n : ℕ) (is_ascii : Bool) → FindsByte is_plain_end bytes (Found n is_ascii) → (get_or bytes n 0 ≡ backslash → ⊥)
-    → FindsByte is_line_end bytes (Found n is_ascii)
+    → FindsByte is_line_ending bytes (Found n is_ascii)
 plain-found bytes n is_ascii h other =
     let b = get_or bytes n 0 in
-    let either : (is_line_end b || (b == backslash)) ≡ true = h.2 in (
+    let either : (is_line_ending b || (b == backslash)) ≡ true = h.2 in (
       plain-before bytes n is_ascii h.0,
       h.1,
-      elim (cases_Bool (is_line_end b)) [
+      elim (cases_Bool (is_line_ending b)) [
         | inl ends ↦ ends
         | inr none ↦ absurd (other (eqb-true b backslash (subst (λ v. (v || (b == backslash)) ≡ true) none either)))
       ],

@@ -4,7 +4,7 @@ use Rattle.std.specs.Prelude.{None}
 use Rattle.std.proofs.lemmas.List.{take_rest, drop_all}
 use Rattle.properties_format.specs.Encoding.{Encoding, InForce}
 use Rattle.properties_format.specs.Lines.{more}
-use Rattle.properties_format.specs.Cut.{HoldsNoLineEndUnit}
+use Rattle.properties_format.specs.Cut.{HoldsNoLineEndingUnit}
 use Rattle.properties_format.specs.Computed.Cut.{decoded_line}
 use Rattle.properties_format.specs.ItemsToCome.{ReaderState}
 use Rattle.properties_format.specs.Computed.ItemsToCome.{HoldsNoEnd}
@@ -65,7 +65,7 @@ gives-ended_line old mid new held ended g n h m =
 
 -- ---- the last line
 
-searched-ready : (s : Scanner) (held : List ℕ) → IsReady s held → HoldsNoLineEndUnit (encoding_of s.encoding) (drop s.at held) → IsReady (all_searched s held) held
+searched-ready : (s : Scanner) (held : List ℕ) → IsReady s held → HoldsNoLineEndingUnit (encoding_of s.encoding) (drop s.at held) → IsReady (all_searched s held) held
 searched-ready s held h none = record {
   fits = record {
     within = h.fits.within;
@@ -112,7 +112,7 @@ last-of old mid held line g n h holds starts ends told =
         ordered = (omega (arith, starts, ends, h.fits.within), omega (arith, ends), omega arith);
         division = ap (λ n. drop n held) starts ∙ sym text ∙ sym (append-nil (bytes_of held line)) ∙ ap (λ v. bytes_of held line ++ v) (sym nothing);
         aligned = inl refl;
-        none = subst (HoldsNoLineEndUnit e) (sym text) holds.none;
+        none = subst (HoldsNoLineEndingUnit e) (sym text) holds.none;
         whole = nothing;
       };
       front = h.front ∙ ap (λ n. let x : InForce = record { encoding = e; body = drop n held } in x) (sym starts);

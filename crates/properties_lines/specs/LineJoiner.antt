@@ -11,7 +11,7 @@ use Rattle.properties_format.specs.ItemsToCome.{ReaderState, PassesSome, PassesA
 use Rattle.properties_format.specs.Computed.Items.{outcome_of, followed}
 use Rattle.properties_format.specs.Computed.ItemsToCome.{items_to_come, entries_pending, ReadsLogical}
 use Rattle.properties_text.specs.Escaping.{holds_backslash, text_in, IsWell}
-use Rattle.properties_text.specs.declared.encoding.line.LineEncoding.{LineEncoding}
+use Rattle.properties_text.specs.declared.encoding.line_encoding.LineEncoding.{LineEncoding}
 use Rattle.properties_lines.specs.LineReader.{LineReading, FindsNext, Passes}
 use Rattle.properties_lines.specs.Scanner.{KeepsEncoding}
 use Rattle.properties_lines.specs.LogicalLine.{bytes_with, is_natural}

@@ -7,7 +7,7 @@ use Rattle.properties_format.specs.Utf8.{IsWellFormedText}
 use Rattle.properties_format.specs.Computed.Cut.{decoded_line}
 use Rattle.properties_text.specs.Encoding.{line_of}
 use Rattle.properties_text.specs.Escaping.{text_in, IsWell}
-use Rattle.properties_text.specs.declared.encoding.line.LineEncoding.TheVariants.{Utf8}
+use Rattle.properties_text.specs.declared.encoding.line_encoding.LineEncoding.TheVariants.{Utf8}
 use Rattle.properties_lines.specs.declared.logical.Place.{Place}
 use Rattle.properties_lines.specs.declared.logical.Place.TheVariants.{Natural, Decoded, Joined}
 use Rattle.properties_lines.specs.declared.logical.LogicalLine.{LogicalLine}

@@ -9,7 +9,7 @@ use Rattle.properties_format.specs.Text as text
 use Rattle.properties_format.specs.Encoding.{Encoding, InForce, IsAligned, byte_order_mark}
 use Rattle.properties_format.specs.Lines as format
 use Rattle.properties_format.specs.Lines.{InputEnd, end, more}
-use Rattle.properties_format.specs.Cut.{units, HoldsNoLineEndUnit, line_ending_bytes}
+use Rattle.properties_format.specs.Cut.{units, HoldsNoLineEndingUnit, line_ending_bytes}
 use Rattle.properties_format.specs.Computed.Lines.{begins_with_lf}
 use Rattle.properties_format.specs.Computed.Cut.{decoded_line}
 use Rattle.properties_format.specs.ItemsToCome.{ReaderState}
@@ -117,7 +117,7 @@ pub record IsCutOff (e : Encoding) (held : List ℕ) (line : RawLine) (next : �
   pub ordered : (line.start ≤ line.end) × (line.end ≤ next) × (next ≤ length held)
   pub division : drop line.start held ≡ bytes_of held line ++ (ending_bytes e ending ++ drop next held)
   pub aligned : ending ≡ None ⊎ IsAligned e (bytes_of held line)
-  pub none : HoldsNoLineEndUnit e (bytes_of held line)
+  pub none : HoldsNoLineEndingUnit e (bytes_of held line)
   pub whole : EndsWhole e ending (drop next held)
 
 -- the line that a scanner found last, decoded, with its number
@@ -215,7 +215,7 @@ pub record TakesLine (old : Scanner) (held : List ℕ) (new : Scanner) : Type 0 
 
 -- No line ending is held, and all whole units were searched.
 pub record LacksEnd (old : Scanner) (held : List ℕ) (new : Scanner) : Type 0 where
-  pub none : HoldsNoLineEndUnit (encoding_of old.encoding) (drop old.at held)
+  pub none : HoldsNoLineEndingUnit (encoding_of old.encoding) (drop old.at held)
   pub same : new ≡ record old { searched = whole_units (encoding_of old.encoding) (length (drop old.at held)) }
 
 abbrev pub Searches : Scanner → List ℕ → Bool → Scanner → Type 0

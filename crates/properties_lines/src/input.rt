@@ -49,8 +49,8 @@ impl InputBuffer {
 
     /// Makes room for a read. The first `count` bytes may be released. Returns how many were: 0 or `count`.
     ///
-    /// The bytes move down only if more than half of the buffer can be released, so that each byte moves once on
-    /// average.
+    /// The bytes move down only if more than half of the buffer can be released, so that each byte moves at most
+    /// once on average.
     pub fn make_room(&mut self, count: usize) -> Result<usize, AllocError>
         requires { count ≤ length self.old.held }
         ensures { MakesRoom count self.old result self.new }

@@ -6,7 +6,7 @@ ghost use Rattle.properties_format.specs.Encoding.{output_encoding};
 ghost use Rattle.properties_format.specs.Computed.Cut.{decoded_line};
 ghost use Rattle.properties_text.specs.Encoding.{encoding_of, line_of};
 ghost use Rattle.properties_text.specs.Escaping.{IsWell, text_in};
-ghost use Rattle.properties_text.specs.declared.encoding.line.LineEncoding.TheVariants.{Utf8};
+ghost use Rattle.properties_text.specs.declared.encoding.line_encoding.LineEncoding.TheVariants.{Utf8};
 ghost use Rattle.properties_lines.specs.LogicalLine.{is_natural, bytes_at, bytes_with, BeginsWith, IsSound, IsTextOf, TellsLine, Begins, AddsLine, IsUnfinished};
 ghost use Rattle.properties_lines.specs.declared.logical.Place.TheVariants.{Natural, Decoded, Joined};
 

@@ -16,7 +16,6 @@ use counted_io::CountedRead;
 use properties_text::encoding::{Encoding, well_formed_length};
 use std::alloc::Global;
 use std::marker::Model;
-use std::mem;
 
 // The result of a read.
 #[derive(Clone, Copy)]
@@ -196,7 +195,7 @@ impl LineReader {
         ensures error { result ≡ self.old.error }
         ensures taken { self.new ≡ record self.old { error = None } }
     {
-        mem::replace(&mut self.error, None)
+        self.error.take()
     }
 
     /// Returns whether an error is kept.

@@ -2,22 +2,22 @@
 
 ghost use Rattle.std.specs.Prelude.{List, ℕ, ◌≡◌, ◌↔◌, ◌+◌, ◌-◌, ◌<◌, ◌≤◌, ◌^◌, true, false, [], length, take, drop, get_or};
 ghost use Rattle.std.specs.Str.{IsAscii};
-ghost use Rattle.properties_format.specs.Text.{backslash, is_line_end};
+ghost use Rattle.properties_format.specs.Text.{backslash, is_line_ending};
 ghost use Rattle.properties_format.specs.Cut.{units};
 ghost use Rattle.properties_format.specs.Computed.Lines.{begins_with_lf};
 ghost use Rattle.properties_format.specs.ItemsToCome.{start};
 ghost use Rattle.properties_format.specs.Computed.ItemsToCome.{after_decided};
 ghost use Rattle.properties_text.specs.Encoding.{encoding_of, FindsByteOrderMark};
 ghost use Rattle.properties_text.specs.Escaping.{holds_backslash};
-ghost use Rattle.properties_lines.specs.LineSearch.{unit_size, IsFirstLineEnd};
+ghost use Rattle.properties_lines.specs.LineSearch.{unit_size, IsFirstLineEnding};
 ghost use Rattle.properties_lines.specs.Scanner.{Fits, Scans, SkipsFront, SkipsFeed, IsReady, IsFresh, IsBefore, FindsByte, Searches, TellsBackslash, TakesLine, TakesLast, scanner_state, is_undecided};
 ghost use Rattle.properties_lines.specs.declared.scanner.Front.TheVariants.{Mark, Nothing};
 
 use crate::search::{
-    BlockSearch, LineEnd, PlainEnds, find_line_end, search_blocks, unit_size, whole_units,
+    BlockSearch, FoundEnding, PlainEnds, find_line_ending, search_blocks, unit_size, whole_units,
 };
-use byte_blocks::LineEnds;
-use properties_text::characters::is_line_end;
+use byte_blocks::LineEndings;
+use properties_text::characters::is_line_ending;
 use properties_text::encoding::byte_order_mark::{ByteOrderMark, byte_order_mark};
 use properties_text::encoding::{Encoding, is_ascii};
 use properties_text::escape::has_backslash;
@@ -291,7 +291,7 @@ impl Scanner {
     {
         let bytes = &held[self.at..];
         // This test of one byte finds the end of a blank line sooner than a search of sixteen bytes.
-        if !bytes.is_empty() && is_line_end(char::from(bytes[0])) {
+        if !bytes.is_empty() && is_line_ending(char::from(bytes[0])) {
             let found = BlockSearch::Found {
                 size: 0,
                 is_ascii: true,
@@ -313,12 +313,12 @@ impl Scanner {
     fn search_escaped(&mut self, held: &[u8], from: usize, is_ascii_before: bool) -> bool
         requires ready { IsReady self.old held.now }
         requires fresh { IsFresh self.old }
-        requires before { IsBefore is_line_end (drop self.old.at held.now) from is_ascii_before }
+        requires before { IsBefore is_line_ending (drop self.old.at held.now) from is_ascii_before }
         requires escaped { get_or (drop self.old.at held.now) from 0 ≡ backslash }
         ensures { Searches self.old held.now result self.new }
     {
         let bytes = &held[self.at..];
-        let found = search_blocks::<LineEnds>(bytes, from, is_ascii_before);
+        let found = search_blocks::<LineEndings>(bytes, from, is_ascii_before);
         self.take_found(held, found, true)
     }
 
@@ -328,14 +328,14 @@ impl Scanner {
     fn take_found(&mut self, held: &[u8], found: BlockSearch, has_backslash: bool) -> bool
         requires ready { IsReady self.old held.now }
         requires fresh { IsFresh self.old }
-        requires found { FindsByte is_line_end (drop self.old.at held.now) found }
+        requires found { FindsByte is_line_ending (drop self.old.at held.now) found }
         requires backslash { TellsBackslash (drop self.old.at held.now) found has_backslash }
         ensures { Searches self.old held.now result self.new }
     {
         match found {
             BlockSearch::Found { size, is_ascii } => {
                 let is_cr = held[self.at + size] == b'\r';
-                let end = LineEnd { at: size, is_cr };
+                let end = FoundEnding { at: size, is_cr };
                 self.take(held, end, 1, is_ascii, has_backslash);
                 true
             }
@@ -353,7 +353,7 @@ impl Scanner {
         ensures { Searches self.old held.now result self.new }
     {
         let bytes = &held[self.at..];
-        let Some(end) = find_line_end(self.encoding, bytes, self.searched) else {
+        let Some(end) = find_line_ending(self.encoding, bytes, self.searched) else {
             self.searched = whole_units(self.encoding, bytes.len());
             return false;
         };
@@ -367,10 +367,17 @@ impl Scanner {
 
     // Takes the line up to this line ending, whose first unit is `unit` bytes long.
     #[inline(always)]
-    fn take(&mut self, held: &[u8], end: LineEnd, unit: usize, is_ascii: bool, has_backslash: bool)
+    fn take(
+        &mut self,
+        held: &[u8],
+        end: FoundEnding,
+        unit: usize,
+        is_ascii: bool,
+        has_backslash: bool,
+    )
         requires ready { IsReady self.old held.now }
         requires nothing { self.old.searched ≡ 0 }
-        requires found { IsFirstLineEnd (encoding_of self.old.encoding) (drop self.old.at held.now) end }
+        requires found { IsFirstLineEnding (encoding_of self.old.encoding) (drop self.old.at held.now) end }
         requires unit { unit ≡ unit_size (encoding_of self.old.encoding) }
         requires ascii { (is_ascii ≡ true) ↔ (unit ≡ 1) × IsAscii (take end.at (drop self.old.at held.now)) }
         requires backslash { has_backslash ≡ holds_backslash (take end.at (drop self.old.at held.now)) }

@@ -1,21 +1,21 @@
 // Searches for line endings among undecoded bytes.
 
 ghost use Rattle.std.specs.Prelude.{◌≡◌, ◌≤◌, length, take};
-ghost use Rattle.properties_format.specs.Lines.{HoldsNoLineEnd};
+ghost use Rattle.properties_format.specs.Lines.{HoldsNoLineEnding};
 ghost use Rattle.properties_text.specs.Encoding.{encoding_of};
-ghost use Rattle.properties_lines.specs.LineSearch.{unit_size, whole_units, IsSearched, IsLineEndUnit};
-ghost use Rattle.properties_lines.specs.LineSearch.{FindsLineEnd, FindsLineEndByte};
+ghost use Rattle.properties_lines.specs.LineSearch.{unit_size, whole_units, IsSearched, IsLineEndingUnit};
+ghost use Rattle.properties_lines.specs.LineSearch.{FindsLineEnding, FindsLineEndingByte};
 ghost use Rattle.properties_lines.specs.Private.PlainEnds.{is_plain_end};
 ghost use Rattle.properties_lines.specs.Scanner.{FindsByte, IsBefore};
 
-use byte_blocks::{ByteClass, LineEnds, Marks, PastAscii, find, table_marks};
+use byte_blocks::{ByteClass, LineEndings, Marks, NonAscii, find, table_marks};
 use memchr::memchr2;
 use properties_text::encoding::Encoding;
 use std::simd::prelude::*;
 
 /// The position of a line ending among undecoded bytes.
 #[derive(Clone, Copy, Debug, PartialEq, Eq)]
-pub struct LineEnd {
+pub struct FoundEnding {
     /// The position of its first byte.
     pub at: usize,
     /// Whether it is a CR. An LF after it may belong to the same line ending.
@@ -52,9 +52,9 @@ pub fn whole_units(encoding: Encoding, length: usize) -> usize
 
 /// Finds the first CR or LF among the units of the bytes. The bytes before `from` are whole units that contain none.
 #[inline(always)]
-pub fn find_line_end(encoding: Encoding, bytes: &[u8], from: usize) -> Option<LineEnd>
+pub fn find_line_ending(encoding: Encoding, bytes: &[u8], from: usize) -> Option<FoundEnding>
     requires { IsSearched (encoding_of encoding) bytes.now from }
-    ensures { FindsLineEnd (encoding_of encoding) bytes.now result }
+    ensures { FindsLineEnding (encoding_of encoding) bytes.now result }
 {
     match encoding {
         Encoding::WINDOWS_1252 | Encoding::UTF_8 => find_in_bytes(bytes, from),
@@ -64,34 +64,34 @@ pub fn find_line_end(encoding: Encoding, bytes: &[u8], from: usize) -> Option<Li
 
 /// Finds the first CR or LF, where units are one byte long.
 #[inline(always)]
-pub fn find_in_bytes(bytes: &[u8], from: usize) -> Option<LineEnd>
+pub fn find_in_bytes(bytes: &[u8], from: usize) -> Option<FoundEnding>
     requires within { from ≤ length bytes.now }
-    requires none_before { HoldsNoLineEnd (take from bytes.now) }
-    ensures { FindsLineEndByte bytes.now result }
+    requires none_before { HoldsNoLineEnding (take from bytes.now) }
+    ensures { FindsLineEndingByte bytes.now result }
 {
     let offset = memchr2(b'\n', b'\r', &bytes[from..])?;
     let at = from + offset;
     let is_cr = bytes[at] == b'\r';
-    Some(LineEnd { at, is_cr })
+    Some(FoundEnding { at, is_cr })
 }
 
 /// Finds the first CR or LF, where units are two bytes long. The byte of a CR or LF counts only in a unit whose other
 /// byte is zero.
 #[inline(never)]
-pub fn find_in_units(encoding: Encoding, bytes: &[u8], from: usize) -> Option<LineEnd>
+pub fn find_in_units(encoding: Encoding, bytes: &[u8], from: usize) -> Option<FoundEnding>
     requires size { unit_size (encoding_of encoding) ≡ 2 }
     requires searched { IsSearched (encoding_of encoding) bytes.now from }
-    ensures { FindsLineEnd (encoding_of encoding) bytes.now result }
+    ensures { FindsLineEnding (encoding_of encoding) bytes.now result }
 {
     let mut searched = from;
-    'hits: while let Some(first) = find::<LineEnds>(&bytes[searched..]) {
+    'hits: while let Some(first) = find::<LineEndings>(&bytes[searched..]) {
         let hit = searched + first;
         let at = hit - hit % 2;
         if bytes.len() - at < 2 {
             return None;
         }
-        if let Some(is_cr) = line_end_unit(encoding, bytes[at], bytes[at + 1]) {
-            return Some(LineEnd { at, is_cr });
+        if let Some(is_cr) = line_ending_unit(encoding, bytes[at], bytes[at + 1]) {
+            return Some(FoundEnding { at, is_cr });
         }
         searched = at + 2;
     }
@@ -99,9 +99,9 @@ pub fn find_in_units(encoding: Encoding, bytes: &[u8], from: usize) -> Option<Li
 }
 
 // Returns whether a two-byte unit is a CR, or `None` if it isn't a line ending.
-fn line_end_unit(encoding: Encoding, first: u8, second: u8) -> Option<bool>
+fn line_ending_unit(encoding: Encoding, first: u8, second: u8) -> Option<bool>
     requires { unit_size (encoding_of encoding) ≡ 2 }
-    ensures { IsLineEndUnit (encoding_of encoding) first second result }
+    ensures { IsLineEndingUnit (encoding_of encoding) first second result }
 {
     match (encoding, first, second) {
         (Encoding::UTF_16LE, b'\n', 0) | (Encoding::UTF_16BE, 0, b'\n') => Some(false),
@@ -143,7 +143,7 @@ pub(crate) fn search_blocks<C: ByteClass>(
     let mut is_ascii = is_ascii_before;
     while bytes.len() - at >= 16 {
         let v = u8x16::from_slice(&bytes[at..]);
-        let past = PastAscii::marks(v);
+        let past = NonAscii::marks(v);
         if let Some(first) = C::marks(v).first() {
             let is_ascii = is_ascii && past.is_clear_before(first);
             return BlockSearch::Found {

@@ -195,8 +195,10 @@ fn errors_of_copying_are_printed_and_debugged(rt: HostRuntime) -> Result<(), Fai
 
 // The lines that were read show how lines and their contents are debugged.
 #[test]
-fn what_stopped_is_debugged(rt: HostRuntime) -> Result<(), Fail> {
+fn what_stopped_is_printed_and_debugged(rt: HostRuntime) -> Result<(), Fail> {
     let stopped = stopped_at(&rt, rt.alloc(), b"# \xc3\xa9\n\na=\\t\n\\u1");
+    let text = "Malformed \\uxxxx encoding: not enough digits. (line_number = 4)";
+    check_printed(&rt, rt.alloc(), &stopped, text)?;
     let wanted =
         "Stopped { lines: [Line { line_number: 1, content: Comment(\"\u{e9}\") }, Line { line_number: 3, content: KVPair(\"a\", \"\\t\") }], error: PropertiesError { kind: NotEnoughDigits, line_number: Some(4), cause: None, refused: None } }";
     check_debugged(&rt, rt.alloc(), &stopped, wanted)

@@ -34,9 +34,9 @@ use Rattle.properties_text.specs.declared.encoding.Encoding as named
 use Rattle.properties_text.specs.Printing.{in_format}
 use Rattle.properties_text.specs.PrintedTexts.{is_copied}
 use Rattle.properties_text.specs.Converted.{converted_in, unit_in, is_stop, StaysUpTo, IsConvertedFront, IsUnitFront, line_in, body_bytes}
-use Rattle.properties_text.specs.declared.encoding.line.LineEncoding.{LineEncoding}
-use Rattle.properties_text.specs.declared.encoding.line.LineEncoding.TheVariants.{Windows1252, Utf8}
-use Rattle.properties_text.specs.declared.encoding.line.Spelt.{Spelt}
+use Rattle.properties_text.specs.declared.encoding.line_encoding.LineEncoding.{LineEncoding}
+use Rattle.properties_text.specs.declared.encoding.line_encoding.LineEncoding.TheVariants.{Windows1252, Utf8}
+use Rattle.properties_text.specs.declared.encoding.line_encoding.ReadCharacter.{ReadCharacter}
 use Rattle.properties_text.specs.declared.print.Repertoire.{Repertoire}
 use Rattle.properties_text.specs.declared.print.Repertoire.TheVariants as repertoire
 use Rattle.properties_format.proofs.Undecoded.{decodes}
@@ -144,7 +144,7 @@ converted-nil t readable Utf8 = ap (λ v. encoded_text (in_format t).encoding (c
 -- ---- what was put for a unit
 
 -- A character that is itself.
-pub itself-unit : {t : Repertoire} {e : LineEncoding} {old text new : List ℕ} {at end : ℕ} {it : Spelt} (readable : Bool) → IsWell e text
+pub itself-unit : {t : Repertoire} {e : LineEncoding} {old text new : List ℕ} {at end : ℕ} {it : ReadCharacter} (readable : Bool) → IsWell e text
     → (get_or text 0 0 ≡ backslash → ⊥) → IsFirst e text it
     → take end new ≡ take at old ++ encoded_text (in_format t).encoding (literal (in_format t) it.character)
     → IsUnitFront t readable e old at text end (drop it.length text) new
@@ -208,7 +208,7 @@ stray-unit {t} {e} {old} {text} {new} {rest} {at} {end} readable n k r put =
     }
 
 -- A spelling that stays, in ASCII.
-pub record Stays (t : Repertoire) (readable : Bool) (e : LineEncoding) (text : List ℕ) (it : Spelt) (p : Spelling) : Type 0 where
+pub record Stays (t : Repertoire) (readable : Bool) (e : LineEncoding) (text : List ℕ) (it : ReadCharacter) (p : Spelling) : Type 0 where
   pub few : it.length ≤ 16
   pub front : take it.length text ≡ unit_in t readable (TextUnit.spelt p)
 
@@ -219,7 +219,7 @@ few-characters (unicode d) = omega arith
 few-characters (surrogates high low) = omega arith
 few-characters last = omega arith
 
-stays : {e : LineEncoding} {text : List ℕ} {it : Spelt} (t : Repertoire) (readable : Bool) → IsWell e text → (h : IsRead e text it)
+stays : {e : LineEncoding} {text : List ℕ} {it : ReadCharacter} (t : Repertoire) (readable : Bool) → IsWell e text → (h : IsRead e text it)
     → AreAscii (spelling_text h.is.spelling)
     → respelt (in_format t) readable h.is.spelling ≡ spelling_text h.is.spelling → Stays t readable e text it h.is.spelling
 stays {e} {text} {it} t readable w h a f =
@@ -230,7 +230,7 @@ stays {e} {text} {it} t readable w h a f =
       front = k.0 ∙ sym (encoded_text-ascii (in_format t).encoding (spelling_text p) a) ∙ ap (encoded_text (in_format t).encoding) (sym f);
     }
 
-pub ascii-stays : {e : LineEncoding} {text : List ℕ} {it : Spelt} (t : Repertoire) (readable : Bool) → IsWell e text → (h : IsRead e text it)
+pub ascii-stays : {e : LineEncoding} {text : List ℕ} {it : ReadCharacter} (t : Repertoire) (readable : Bool) → IsWell e text → (h : IsRead e text it)
     → it.character < 0x80 → Stays t readable e text it h.is.spelling
 ascii-stays {e} {text} {it} t readable w h k =
     let p = h.is.spelling in
@@ -247,7 +247,7 @@ two-characters (unicode d) x y h k e = refl
 two-characters (surrogates high low) x y h k e = refl
 two-characters last x y h k e = absurd (grind (arith))
 
-pub unicode-is : {e : LineEncoding} {text : List ℕ} {it : Spelt} → IsWell e text → (h : IsRead e text it) → get_or text 0 0 ≡ backslash → 1 < length text
+pub unicode-is : {e : LineEncoding} {text : List ℕ} {it : ReadCharacter} → IsWell e text → (h : IsRead e text it) → get_or text 0 0 ≡ backslash → 1 < length text
     → get_or text 1 0 ≡ letter_u → 0x80 ≤ it.character → is_unicode h.is.spelling ≡ true
 unicode-is {e} {text} {it} w h f l g k =
     let a = after-u e text w (omega arith, f, g) in
@@ -261,7 +261,7 @@ unicode-begins (unicode d) x h = (four_text d ++ x, refl)
 unicode-begins (surrogates high low) x h = (four_text high ++ backslash ∷ letter_u ∷ four_text low ++ x, refl)
 unicode-begins last x h = absurd (cc)
 
-pub unicode-not : {e : LineEncoding} {text : List ℕ} {it : Spelt} → IsWell e text → (h : IsRead e text it)
+pub unicode-not : {e : LineEncoding} {text : List ℕ} {it : ReadCharacter} → IsWell e text → (h : IsRead e text it)
     → (1 < length text → (get_or text 1 0 == letter_u) ≡ false) → is_unicode h.is.spelling ≡ false
 unicode-not {e} {text} {it} w h n = elim (cases_Bool (is_unicode h.is.spelling)) [
   | inl k ↦
@@ -274,7 +274,7 @@ unicode-not {e} {text} {it} w h n = elim (cases_Bool (is_unicode h.is.spelling))
   | inr k ↦ k
 ]
 
-pub escape-stays : {e : LineEncoding} {text : List ℕ} {it : Spelt} {m : Bool} (t : Repertoire) (readable : Bool) → IsWell e text → (h : IsRead e text it)
+pub escape-stays : {e : LineEncoding} {text : List ℕ} {it : ReadCharacter} {m : Bool} (t : Repertoire) (readable : Bool) → IsWell e text → (h : IsRead e text it)
     → 0x80 ≤ it.character → is_unicode h.is.spelling ≡ true → m ≡ may_be_unescaped (in_format t) it.character → (m && readable) ≡ false
     → Stays t readable e text it h.is.spelling
 escape-stays {e} {text} {it} {m} t readable w h k u f n =
@@ -285,7 +285,7 @@ escape-stays {e} {text} {it} {m} t readable w h k u f n =
     (respelt-unicode (in_format t) readable p m readable z u g refl n)
 
 -- A spelling whose bytes were put.
-pub spelling-unit : {t : Repertoire} {readable : Bool} {e : LineEncoding} {old text new rest x : List ℕ} {at end : ℕ} {it : Spelt} → (h : IsRead e text it)
+pub spelling-unit : {t : Repertoire} {readable : Bool} {e : LineEncoding} {old text new rest x : List ℕ} {at end : ℕ} {it : ReadCharacter} → (h : IsRead e text it)
     → rest ≡ drop it.length text → take end new ≡ take at old ++ x → x ≡ unit_in t readable (TextUnit.spelt h.is.spelling)
     → IsUnitFront t readable e old at text end rest new
 spelling-unit {e = e} {old} {text} {at = at} {it = it} h r put same = record {
@@ -298,7 +298,7 @@ spelling-unit {e = e} {old} {text} {at = at} {it = it} h r put same = record {
 }
 
 -- A character that is put instead of its spelling.
-pub literal-put : {e : LineEncoding} {text : List ℕ} {it : Spelt} {m : Bool} (t : Repertoire) (readable : Bool) → (h : IsRead e text it) → 0x80 ≤ it.character
+pub literal-put : {e : LineEncoding} {text : List ℕ} {it : ReadCharacter} {m : Bool} (t : Repertoire) (readable : Bool) → (h : IsRead e text it) → 0x80 ≤ it.character
     → m ≡ may_be_unescaped (in_format t) it.character → ((m ≡ true) × (readable ≡ true)) ⊎ ((m ≡ false) × (is_unicode h.is.spelling ≡ false))
     → encoded_text (in_format t).encoding (literal (in_format t) it.character) ≡ unit_in t readable (TextUnit.spelt h.is.spelling)
 literal-put {it = it} {m} t readable h k f b =
@@ -323,7 +323,7 @@ escaped-text last x y h k u e = absurd (grind (arith))
 held-literal : (t : Repertoire) (c : ℕ) → may_be_unescaped (in_format t) c ≡ true → literal (in_format t) c ≡ c ∷ []
 held-literal t c h = rw h refl
 
-pub backslash-put : {e : LineEncoding} {text : List ℕ} {it : Spelt} {m : Bool} (t : Repertoire) (readable : Bool) → IsWell e text → (h : IsRead e text it)
+pub backslash-put : {e : LineEncoding} {text : List ℕ} {it : ReadCharacter} {m : Bool} (t : Repertoire) (readable : Bool) → IsWell e text → (h : IsRead e text it)
     → get_or text 0 0 ≡ backslash → 0x80 ≤ it.character → m ≡ may_be_unescaped (in_format t) it.character → m ≡ true → readable ≡ false
     → is_unicode h.is.spelling ≡ false
     → (backslash ∷ []) ++ encoded_text (in_format t).encoding (literal (in_format t) it.character) ≡ unit_in t readable (TextUnit.spelt h.is.spelling)
@@ -469,7 +469,7 @@ copied-stays repertoire.Ascii Windows1252 text h w b = absurd (cc)
 copied-stays repertoire.Ascii Utf8 text h w b = absurd (cc)
 
 -- The bytes with the first character escaped.
-pub front_bytes : (t : Repertoire) (bytes : List ℕ) (it : Spelt) (e : LineEncoding) → ((i : ℕ) → Fits w8 (get_or bytes i 0)) → e ≡ line_in t
+pub front_bytes : (t : Repertoire) (bytes : List ℕ) (it : ReadCharacter) (e : LineEncoding) → ((i : ℕ) → Fits w8 (get_or bytes i 0)) → e ≡ line_in t
     → IsFirst e bytes it → ([] ++ unicode_escape it.character) ++ take (length bytes - it.length) (drop it.length bytes) ≡ encoded_text (in_format t).encoding
     (first_escaped (text_in (line_in t) bytes))
 front_bytes t bytes it e b s f =

@@ -18,7 +18,7 @@ use Rattle.properties_text.specs.Encoding.{text_of}
 use Rattle.properties_text.specs.declared.encoding.Encoding.TheVariants.{WINDOWS_1252}
 use Rattle.properties_text.specs.Private.Tails.{lead_byte, last_byte}
 use Rattle.properties_text.proofs.TextFronts.{decoded-more}
-use Rattle.byte_blocks.specs.Classes.{is_past_ascii}
+use Rattle.byte_blocks.specs.Classes.{is_non_ascii}
 use Rattle.byte_blocks.specs.Marks.{clear_front, spread}
 use Rattle.byte_blocks.proofs.Marking.{fails-before}
 
@@ -29,19 +29,19 @@ pub two-bytes : (c : ℕ) → 0x80 ≤ c → c < 0x100 → encode_utf8 c ≡ lea
 two-bytes c l h = rw (encode-two c l (omega arith)) (grind (arith, nat_tests))
 
 -- One character, of one byte or two.
-one-spread : (c : ℕ) → c < 0x100 → encode_utf8 c ≡ cond (is_past_ascii c) (lead_byte c ∷ last_byte c ∷ []) (last_byte c ∷ [])
+one-spread : (c : ℕ) → c < 0x100 → encode_utf8 c ≡ cond (is_non_ascii c) (lead_byte c ∷ last_byte c ∷ []) (last_byte c ∷ [])
 one-spread c small = grind (arith, nat_tests, two-bytes, encode_ascii)
 
 -- ---- several characters
 
 -- The UTF-8 bytes are the characters' last bytes, with first bytes inserted before some of them.
-latin-spread : (cs : List ℕ) → Each1 (Fits w8) cs → encode_utf8_all cs ≡ spread (map is_past_ascii cs) (map lead_byte cs) (map last_byte cs)
+latin-spread : (cs : List ℕ) → Each1 (Fits w8) cs → encode_utf8_all cs ≡ spread (map is_non_ascii cs) (map lead_byte cs) (map last_byte cs)
 latin-spread [] fits = refl
 latin-spread (c ∷ cs) fits = ap₂ (λ x y. x ++ y) (one-spread c fits.0.fits) (latin-spread cs fits.1)
 
 -- The UTF-8 bytes of the first k characters.
 pub first_spread : (v block before : List ℕ) (marks : List Bool) (k : ℕ) → Each1 (Fits w8) v
-    → block ≡ map last_byte v → before ≡ map lead_byte v → marks ≡ map is_past_ascii v
+    → block ≡ map last_byte v → before ≡ map lead_byte v → marks ≡ map is_non_ascii v
     → spread (take k marks) (take k before) (take k block) ≡ encode_utf8_all (take k v)
 first_spread v block before marks k fits block_is before_is marks_are =
     simp (marks_are, before_is, block_is, take-map) (sym (latin-spread (take k v) (Each1-chunk (Fits w8) 0 k v fits)))

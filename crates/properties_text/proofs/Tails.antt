@@ -2,7 +2,7 @@
 use Rattle.std.proofs.Common.{◌≡◌, ◌+◌, ◌*◌, ◌<◌, ◌≤◌, ◌||◌, ◌&&◌, ℕ, zero, suc, Bool, true, false, cond, nat_le, List, [], ◌∷◌, ◌++◌, length, map, refl, sym, ap, subst, inl, inr, ◌∙◌, arith}
 use Rattle.std.specs.Simd.Lanes.{mask_l}
 use Rattle.std.proofs.lemmas.Bool.{cases_Bool, or_cases, and_parts, leb-true, leb-false, le-leb, lt-leb}
-use Rattle.byte_blocks.specs.Classes.{is_past_ascii}
+use Rattle.byte_blocks.specs.Classes.{is_non_ascii}
 use Rattle.properties_format.specs.Utf8.{IsWellFormed, IsWellFormedText}
 use Rattle.properties_text.specs.Private.Tails.{IsTail, BeginsBefore, GoesOn, ones}
 
@@ -137,10 +137,10 @@ at-least-e1 : (b : ℕ) → BeginsBefore 2 b → (0xe1 ≤ b) × (b ≤ 0xef)
 at-least-e1 b (inl h) = (h.0, omega (arith, h.1))
 at-least-e1 b (inr h) = (omega (arith, h.0), h.1)
 
-past-bit : (b : ℕ) → 0x80 ≤ b → bit (is_past_ascii b) ≡ 1
+past-bit : (b : ℕ) → 0x80 ≤ b → bit (is_non_ascii b) ≡ 1
 past-bit b h = ap bit (le-leb 0x80 b h)
 
-kind : (b : ℕ) → Kind b (bit (is_past_ascii b)) (bit (within 0x80 0xbf b)) (bit (within 0xc2 0xdf b)) (bit (begins_three b)) (bit (within 0xf1 0xf3 b))
+kind : (b : ℕ) → Kind b (bit (is_non_ascii b)) (bit (within 0x80 0xbf b)) (bit (within 0xc2 0xdf b)) (bit (begins_three b)) (bit (within 0xf1 0xf3 b))
 kind b = elim (cases_Bool (within 0x80 0xbf b)) [
   | inl t ↦
       let r = in-range 0x80 0xbf b t in
@@ -173,7 +173,7 @@ kind b = elim (cases_Bool (within 0x80 0xbf b)) [
                     | inr d ↦
                         let none : bit (within 0x80 0xbf b) + bit (within 0xc2 0xdf b) + bit (begins_three b) + bit (within 0xf1 0xf3 b) ≡ 0 = omega
                         (arith, no_tail, no_two, no_three, ap bit d) in
-                        elim (cases_Bool (is_past_ascii b)) [
+                        elim (cases_Bool (is_non_ascii b)) [
                           | inl p ↦ other (ap bit p) none
                           | inr p ↦ let small = leb-false 0x80 b p in ascii (ap bit p) none (omega (arith, small))
                         ]
@@ -191,20 +191,20 @@ sixteen-doubled q =
 
 -- A block goes on as its bits say.
 pub block-goes_on : (block : List ℕ) (n q : ℕ) → length block ≡ 16
-    → mask_l (map is_past_ascii block) ≡ mask_l (map (within 0x80 0xbf) block) + mask_l (map (within 0xc2 0xdf) block) + mask_l (map begins_three block) +
+    → mask_l (map is_non_ascii block) ≡ mask_l (map (within 0x80 0xbf) block) + mask_l (map (within 0xc2 0xdf) block) + mask_l (map begins_three block) +
     mask_l (map (within 0xf1 0xf3) block)
     → ones n + 2 * (mask_l (map (within 0xc2 0xdf) block) + 3 * mask_l (map begins_three block) + 7 * mask_l (map (within 0xf1 0xf3) block)) ≡ mask_l
     (map (within 0x80 0xbf) block) + 0x1_0000 * q → (m : ℕ) × (q ≡ ones m) × GoesOn n block m
 block-goes_on block n q long sum carry =
     let size : doubled (length block) q ≡ 0x1_0000 * q = ap (λ k. doubled k q) long ∙ sixteen-doubled q in
-    sums-on is_past_ascii (within 0x80 0xbf) (within 0xc2 0xdf) begins_three (within 0xf1 0xf3) kind block n q sum (omega (arith, carry, size))
+    sums-on is_non_ascii (within 0x80 0xbf) (within 0xc2 0xdf) begins_three (within 0xf1 0xf3) kind block n q sum (omega (arith, carry, size))
 
 -- ASCII goes on where nothing is missing.
-ascii-on : (bs : List ℕ) → mask_l (map is_past_ascii bs) ≡ 0 → GoesOn 0 bs 0
+ascii-on : (bs : List ℕ) → mask_l (map is_non_ascii bs) ≡ 0 → GoesOn 0 bs 0
 ascii-on [] h = refl
-ascii-on (b ∷ bs) h = by (is_past_ascii b) (mask_l (map is_past_ascii bs)) refl h (ascii-on bs)
+ascii-on (b ∷ bs) h = by (is_non_ascii b) (mask_l (map is_non_ascii bs)) refl h (ascii-on bs)
   where
-    by : (is_past : Bool) (n : ℕ) → is_past_ascii b ≡ is_past → cond is_past 1 0 + 2 * n ≡ 0 → (n ≡ 0 → GoesOn 0 bs 0) → GoesOn 0 (b ∷ bs) 0
+    by : (is_past : Bool) (n : ℕ) → is_non_ascii b ≡ is_past → cond is_past 1 0 + 2 * n ≡ 0 → (n ≡ 0 → GoesOn 0 bs 0) → GoesOn 0 (b ∷ bs) 0
     by true n e h g = absurd (omega (arith, h))
     by false n e h g = let small = leb-false 0x80 b e in (0, omega (arith, small), g (omega (arith, h)))
 
@@ -212,7 +212,7 @@ none-missing : (n : ℕ) → ones n ≡ 0 → n ≡ 0
 none-missing zero h = refl
 none-missing (suc n) h = absurd (omega (arith, h))
 
-pub ascii-goes_on : (block : List ℕ) (wanted n : ℕ) → mask_l (map is_past_ascii block) + wanted ≡ 0 → wanted ≡ ones n
+pub ascii-goes_on : (block : List ℕ) (wanted n : ℕ) → mask_l (map is_non_ascii block) + wanted ≡ 0 → wanted ≡ ones n
     → (m : ℕ) × (0 ≡ ones m) × GoesOn n block m
 ascii-goes_on block wanted n none is =
     let start : n ≡ 0 = none-missing n (omega (arith, none, is)) in

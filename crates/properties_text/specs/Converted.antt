@@ -8,8 +8,8 @@ use Rattle.properties_text.specs.Escaping.{text_in, IsWell}
 use Rattle.properties_text.specs.Encoding.{text_of}
 use Rattle.properties_text.specs.declared.encoding.Encoding.{Encoding}
 use Rattle.properties_text.specs.Printing.{in_format}
-use Rattle.properties_text.specs.declared.encoding.line.LineEncoding.{LineEncoding}
-use Rattle.properties_text.specs.declared.encoding.line.LineEncoding.TheVariants.{Windows1252, Utf8}
+use Rattle.properties_text.specs.declared.encoding.line_encoding.LineEncoding.{LineEncoding}
+use Rattle.properties_text.specs.declared.encoding.line_encoding.LineEncoding.TheVariants.{Windows1252, Utf8}
 use Rattle.properties_text.specs.declared.print.Repertoire.{Repertoire}
 use Rattle.properties_text.specs.declared.print.Repertoire.TheVariants as repertoire
 use Rattle.properties_text.specs.declared.convert.Spelling.{Spelling}

@@ -15,9 +15,9 @@ use Rattle.properties_text.specs.declared.escape.Escapes.{Escapes}
 use Rattle.std.specs.Char.{IsScalar}
 use Rattle.properties_format.specs.Escapes.{letter_u, Spelling, spelling_text, spelling_character, IsSpelling, NoSpelling, are_hexadecimal, code_unit, is_high, is_low, pair_character, means, breaks, Four}
 use Rattle.properties_format.specs.Computed.Cut.{characters_of}
-use Rattle.properties_text.specs.declared.encoding.line.LineEncoding.{LineEncoding}
-use Rattle.properties_text.specs.declared.encoding.line.LineEncoding.TheVariants.{Windows1252, Utf8}
-use Rattle.properties_text.specs.declared.encoding.line.Spelt.{Spelt}
+use Rattle.properties_text.specs.declared.encoding.line_encoding.LineEncoding.{LineEncoding}
+use Rattle.properties_text.specs.declared.encoding.line_encoding.LineEncoding.TheVariants.{Windows1252, Utf8}
+use Rattle.properties_text.specs.declared.encoding.line_encoding.ReadCharacter.{ReadCharacter}
 
 -- whether the text contains a backslash
 abbrev pub holds_backslash : List ℕ → Bool
@@ -83,19 +83,19 @@ IsWell Windows1252 bytes = Unit {0}
 IsWell Utf8 bytes = IsUtf8 bytes
 
 -- So many bytes at the front are a spelling of this character.
-pub record Spells (e : LineEncoding) (bytes : List ℕ) (spelt : Spelt) : Type 0 where
+pub record Spells (e : LineEncoding) (bytes : List ℕ) (spelt : ReadCharacter) : Type 0 where
   pub spelling : Spelling
   pub whole : text_in e bytes ≡ spelling_text spelling ++ text_in e (drop spelt.length bytes)
   pub stands : IsSpelling spelling (text_in e (drop spelt.length bytes))
   pub character : spelt.character ≡ spelling_character spelling
 
 -- These bytes spell the character; or, if a backslash stands for itself, they are it.
-abbrev pub StandsBy : Bool → LineEncoding → List ℕ → Spelt → Type 0
+abbrev pub StandsBy : Bool → LineEncoding → List ℕ → ReadCharacter → Type 0
 StandsBy true e bytes spelt = Spells e bytes spelt
 StandsBy false e bytes spelt = text_in e bytes ≡ spelt.character ∷ text_in e (drop spelt.length bytes)
 
 -- The bytes begin with so many that spell this character, or are it.
-pub record IsReadBy (escaped : Bool) (e : LineEncoding) (bytes : List ℕ) (spelt : Spelt) : Type 0 where
+pub record IsReadBy (escaped : Bool) (e : LineEncoding) (bytes : List ℕ) (spelt : ReadCharacter) : Type 0 where
   pub some : 0 < spelt.length
   pub within : spelt.length ≤ length bytes
   pub scalar : IsScalar spelt.character
@@ -103,15 +103,15 @@ pub record IsReadBy (escaped : Bool) (e : LineEncoding) (bytes : List ℕ) (spel
   pub well : IsWell e (drop spelt.length bytes)
 
 -- The bytes begin with this character, and a backslash stands for itself.
-abbrev pub IsFirst : LineEncoding → List ℕ → Spelt → Type 0
+abbrev pub IsFirst : LineEncoding → List ℕ → ReadCharacter → Type 0
 IsFirst e bytes spelt = IsReadBy false e bytes spelt
 
 -- The bytes begin with what spells this character.
-abbrev pub IsRead : LineEncoding → List ℕ → Spelt → Type 0
+abbrev pub IsRead : LineEncoding → List ℕ → ReadCharacter → Type 0
 IsRead e bytes spelt = IsReadBy true e bytes spelt
 
 -- The bytes begin with a spelling; or with none, and the error says how they are malformed.
-abbrev pub Reads : LineEncoding → List ℕ → Result Spelt Malformed → Type 0
+abbrev pub Reads : LineEncoding → List ℕ → Result ReadCharacter Malformed → Type 0
 Reads e bytes (Ok spelt) = IsRead e bytes spelt
 Reads e bytes (Err malformed) = NoSpelling (text_in e bytes) × (meaning_of (text_in e bytes) ≡ breaks (malformed_in malformed))
 

@@ -5,12 +5,12 @@ use Rattle.properties_format.specs.Escapes.{Meaning, means, breaks}
 use Rattle.properties_format.specs.Computed.Escapes.{meaning_of, text_in_front}
 use Rattle.properties_text.specs.Escaping.{malformed_in, text_in, IsWell, IsReadBy}
 use Rattle.properties_text.specs.Printing.{puts_of, key_bytes, printed_bytes}
-use Rattle.properties_text.specs.declared.encoding.line.Spelt.{Spelt}
+use Rattle.properties_text.specs.declared.encoding.line_encoding.ReadCharacter.{ReadCharacter}
 use Rattle.properties_text.specs.declared.escape.Malformed.{Malformed}
 use Rattle.std.specs.List.{All}
 use Rattle.std.specs.Result.{result_map_both}
-use Rattle.properties_text.specs.declared.encoding.line.LineEncoding.{LineEncoding}
-use Rattle.properties_text.specs.declared.encoding.line.LineEncoding.TheVariants.{Windows1252, Utf8}
+use Rattle.properties_text.specs.declared.encoding.line_encoding.LineEncoding.{LineEncoding}
+use Rattle.properties_text.specs.declared.encoding.line_encoding.LineEncoding.TheVariants.{Windows1252, Utf8}
 use Rattle.properties_text.specs.declared.escape.UnescapeError.{UnescapeError}
 use Rattle.properties_text.specs.declared.escape.UnescapeError.TheVariants as error
 use Rattle.properties_text.specs.declared.print.Repertoire.{Repertoire}
@@ -102,7 +102,7 @@ Prints m bytes old at new (Err error.Memory) = Unit {0}
 -- ---- reading
 
 -- The result of reading the first character of bytes.
-abbrev pub ReadsBy : Bool → LineEncoding → List ℕ → Result Spelt Malformed → Type 0
+abbrev pub ReadsBy : Bool → LineEncoding → List ℕ → Result ReadCharacter Malformed → Type 0
 ReadsBy escaped e bytes (Ok spelt) = IsReadBy escaped e bytes spelt
 ReadsBy escaped e bytes (Err malformed) = meaning_in e escaped bytes ≡ breaks (malformed_in malformed)
 

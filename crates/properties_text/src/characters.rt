@@ -2,7 +2,7 @@
 //! ASCII.
 
 ghost use Rattle.std.specs.Prelude.{◌≡◌};
-ghost use Rattle.properties_format.specs.Text.{is_blank, is_comment_sign, is_separator, is_line_end};
+ghost use Rattle.properties_format.specs.Text.{is_blank, is_comment_sign, is_separator, is_line_ending};
 
 /// Returns whether the character is a space, a tab or a form feed. No other white space is a blank.
 pub fn is_blank(character: char) -> bool
@@ -26,8 +26,8 @@ pub fn is_separator(character: char) -> bool
 }
 
 /// Returns whether the character is a CR or an LF, which end a line. A CR and an LF after it end it together.
-pub fn is_line_end(character: char) -> bool
-    ensures { result ≡ is_line_end character }
+pub fn is_line_ending(character: char) -> bool
+    ensures { result ≡ is_line_ending character }
 {
     matches!(character, '\n' | '\r')
 }

@@ -1,4 +1,5 @@
-//! The texts of properties files: decoding their bytes, finding their parts, and resolving their escapes.
+//! The texts of properties files: decoding their bytes, finding their parts, resolving their escapes, printing and
+//! converting them.
 //!
 //! This crate has what a reader or a writer does with a single line, and knows nothing of streams. A
 //! [`TextBuffer`](encoding::TextBuffer) decodes bytes, [`parse_spans`](parse::parse_spans) finds the parts of a logical

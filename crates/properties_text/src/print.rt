@@ -16,11 +16,11 @@ ghost use Rattle.properties_text.specs.PrintedTexts.{is_copied, StopsIn, meaning
 
 use crate::characters::{is_comment_sign, is_separator};
 use crate::encoding::byte_order_mark::begins_like_byte_order_mark;
-use crate::encoding::{LineEncoding, Spelt};
+use crate::encoding::{LineEncoding, ReadCharacter};
 use crate::escape::{Malformed, UnescapeError};
 use crate::line_buffer::{make_room, put_raw};
 use crate::parse::Span;
-use byte_blocks::{Byte, ByteClass, Controls, Either, PastAscii, find};
+use byte_blocks::{Byte, ByteClass, Controls, Either, NonAscii, find};
 use escapes::{LONGEST, put_escape};
 use part::Part;
 use runs::{first_character, print_bytes, put_literal, put_printed};
@@ -37,7 +37,7 @@ pub use crate::line_buffer::LineBuffer;
 pub use convert::convert_text;
 pub use readable::{print_readable_pair, print_readable_texts};
 
-/// Where a text is that is neither a key nor a value. It decides what is escaped besides the characters that the
+/// Where a text stands that is neither a key nor a value. It decides what is escaped besides the characters that the
 /// repertoire lacks.
 #[derive(Clone, Copy)]
 pub enum Place {
@@ -123,9 +123,9 @@ type Literal = Controls;
 
 type Escaped = Either<Controls, Byte<b'\\'>>;
 
-type LiteralAscii = Either<Controls, PastAscii>;
+type LiteralAscii = Either<Controls, NonAscii>;
 
-type EscapedAscii = Either<PastAscii, Either<Controls, Byte<b'\\'>>>;
+type EscapedAscii = Either<NonAscii, Either<Controls, Byte<b'\\'>>>;
 
 // Whether non-ASCII bytes are copied.
 #[inline(always)]
@@ -362,7 +362,11 @@ fn print_value_in(
 
 // Returns the first character that bytes mean.
 #[inline(always)]
-fn read_first(encoding: LineEncoding, escaped: bool, bytes: &[u8]) -> Result<Spelt, Malformed>
+fn read_first(
+    encoding: LineEncoding,
+    escaped: bool,
+    bytes: &[u8],
+) -> Result<ReadCharacter, Malformed>
     requires some { 0 < length bytes.now }
     requires well { IsWell encoding bytes.now }
     ensures { ReadsBy escaped encoding bytes.now result }
@@ -384,7 +388,7 @@ fn is_first_escaped(after_blanks: bool, first: char, is_last: bool) -> bool
     }
 }
 
-// Prints the characters from one on that needs no backslash at the front: runs of ASCII as they are, and by turns a
+// Prints the characters of a value whose first one needs no backslash: runs of ASCII as they are, and by turns a
 // character that may need an escape, or was spelt as one.
 fn print_rest_of_value(
     line: &mut LineBuffer,

@@ -16,7 +16,7 @@ use Rattle.std.proofs.lemmas.Str.{encodes-chars, chars_from_encodes}
 use Rattle.java_properties.specs.Private.LineByLine.{number_at}
 use Rattle.properties_tools.specs.Private.FirstKeys.{also_held, bytes_at, hash_from, in_slot, none_held, slot_for, AddsKey, IsFound, IsIndexed, KeepsKey, KeptPlace, TellsFirst}
 use Rattle.properties_tools.specs.Propedit.Texts.{end_byte, ended}
-use Rattle.properties_tools.specs.declared.propedit.request.TextEnd.{TextEnd}
+use Rattle.properties_tools.specs.declared.propedit.request.Terminator.{Terminator}
 use Rattle.properties_tools.specs.declared.propedit.first_keys.FirstKeys.{FirstKeys}
 use Rattle.properties_tools.specs.declared.propedit.first_keys.Place.{Place}
 
@@ -303,11 +303,11 @@ tells-other s bytes p None is some differs there = λ held indexed.
     nowhere s held indexed bytes is p some (λ e. let t = (bytes_eq-Decides (bytes_at s.text.items p) bytes).1 e in absurd (cc)) there
 
 -- A key that is there adds nothing.
-pub adds-none : (end : TextEnd) (s : FirstKeys) (key : List ℕ) (number first : ℕ) → TellsFirst key s (Some first) → AddsKey end key number s first s
+pub adds-none : (end : Terminator) (s : FirstKeys) (key : List ℕ) (number first : ℕ) → TellsFirst key s (Some first) → AddsKey end key number s first s
 adds-none end s key number first tells = λ held indexed. inl (tells held indexed, refl)
 
 -- A key that isn't is appended to the text, and its place is kept.
-pub adds-one : (end : TextEnd) (s m t : FirstKeys) (bytes : List ℕ) (number : ℕ) (p : Place) → IsUtf8 bytes → TellsFirst (chars bytes) s None
+pub adds-one : (end : Terminator) (s m t : FirstKeys) (bytes : List ℕ) (number : ℕ) (p : Place) → IsUtf8 bytes → TellsFirst (chars bytes) s None
     → m.slots.items ≡ s.slots.items → m.others ≡ s.others → m.text.items ≡ s.text.items ++ ended end (chars bytes)
     → p ≡ record { start = length s.text.items; length = length bytes; line_number = number } → KeepsKey bytes p m t
     → AddsKey end (chars bytes) number s number t

@@ -1,9 +1,9 @@
 -- The lines of a body that have a flaw, found one after another.
 use Rattle.std.proofs.Common.{◌≡◌, ◌≢◌, ℕ, suc, ◌+◌, ◌<◌, ◌≤◌, ◌==◌, Bool, true, false, List, [], ◌∷◌, ◌++◌, length, get_or, drop, refl, sym, ap, subst, ◌∙◌, inl, inr, length-append, take_all, arith}
-use Rattle.std.specs.Prelude.{if◌then◌else◌, not, Option, Some, None, Result, Ok, Err}
+use Rattle.std.specs.Prelude.{if◌then◌else◌, not, Option, Some, None}
 use Rattle.std.specs.Option.{is_some}
-use Rattle.std.specs.Result.{is_ok, MatchResult}
 use Rattle.std.specs.Str.{is_utf8, IsUtf8}
+use Rattle.std.proofs.lemmas.Bool.Decides.{eqb_tells}
 use Rattle.std.proofs.lemmas.Bool.{cases_Bool, or_from, or_parts, false_from_ne_true}
 use Rattle.std.proofs.lemmas.List.Folds.{list_any-append, list_any_at}
 use Rattle.std.proofs.Math.Seq.{take-append_seam}
@@ -31,8 +31,8 @@ use Rattle.properties_lines.specs.declared.scanner.Scanner.{Scanner}
 use Rattle.properties_lines.proofs.HeldLines.{body-next, body-after, body-lines_left}
 use Rattle.properties_tools.specs.Propedit.Lines.{holds_zero, is_sought, starts_with_bom, AreFlawed, AreFlawedIn, HasFlaw, HasFlawed, IsFirstFlawed, IsWellFormedIn, LacksFlaw}
 use Rattle.properties_tools.specs.Private.Flawed.{are_paired, is_flawed, is_well_formed, unit_in, numbers_from, numbers_left, FindsNext, HasFlawedIn, HasLinesOf, IsFound, IsScanning}
-use Rattle.properties_tools.specs.declared.propedit.utf_8.Flaw.{Flaw}
-use Rattle.properties_tools.specs.declared.propedit.utf_8.Flaw.TheVariants.{IllFormed, Zero}
+use Rattle.properties_tools.specs.declared.propedit.ill_formed.Flaw.{Flaw}
+use Rattle.properties_tools.specs.declared.propedit.ill_formed.Flaw.TheVariants.{IllFormed, Zero}
 use Rattle.properties_tools.proofs.Paired.{paired-well_formed, well_formed-paired}
 
 -- whether a byte is 0
@@ -362,14 +362,16 @@ utf_16-paired UTF_8 bytes h k = absurd (k refl)
 utf_16-paired UTF_16LE bytes h k = refl
 utf_16-paired UTF_16BE bytes h k = refl
 
--- whether a conversion succeeds
-pub ok-is_utf8 : {T E : Type 0} (P : T → Type 0) (Q : E → Type 0) (bytes : List ℕ) (r : Result T E)
-    → MatchResult r (λ s. P s × IsUtf8 bytes) (λ e. ¬ (IsUtf8 bytes) × Q e)
-    → is_ok r ≡ is_utf8 bytes
-ok-is_utf8 P Q bytes (Ok s) h = sym (is_utf8-from_IsUtf8 bytes h.1)
-ok-is_utf8 P Q bytes (Err e) h = elim (cases_Bool (is_utf8 bytes)) [
-  | inl k ↦ absurd (h.0 (IsUtf8-from_is_utf8 bytes k))
-  | inr k ↦ sym k
+-- bytes are a text if their longest well-formed front is all of them
+pub longest-is_utf8 : (bytes : List ℕ) (n : ℕ) → IsLongestText bytes n → (n == length bytes) ≡ is_utf8 bytes
+longest-is_utf8 bytes n h = elim (eqb_tells n (length bytes)) [
+  | inl same ↦ same.0 ∙ sym (is_utf8-from_IsUtf8 bytes (subst IsUtf8 (take_all n bytes (omega (arith, same.1))) h.text))
+  | inr other ↦
+      let shorter : is_utf8 bytes ≡ true → ⊥ = λ k.
+      let all = subst IsUtf8 (sym (take_all (length bytes) bytes (omega arith))) (IsUtf8-from_is_utf8 bytes k) in
+      let most = h.longest (length bytes) (omega arith) all in
+      other.1 (omega (arith, h.within, most)) in
+      other.0 ∙ sym (false_from_ne_true (is_utf8 bytes) shorter)
 ]
 
 pub ruleset flawed = (scanning-start, flags-ascii)

@@ -38,7 +38,7 @@ use Rattle.properties_tools.proofs.LookedUp.{lost}
 use Rattle.properties_tools.specs.Propedit.Listing.{is_key_listed, list_status, listed_keys, AreKeysOf}
 use Rattle.properties_tools.specs.Propedit.Texts.{end_byte, ended, ended_all}
 use Rattle.properties_tools.proofs.LastPairs.{first-same, first-new, has_not, has-left, has-last, has-split}
-use Rattle.properties_tools.specs.declared.propedit.request.TextEnd.{TextEnd}
+use Rattle.properties_tools.specs.declared.propedit.request.Terminator.{Terminator}
 use Rattle.properties_tools.specs.Private.FirstKeys.{also_held, none_held, AddsKey, IsIndexed}
 use Rattle.properties_tools.specs.Private.Collected.{FindsListed, HasListedText, ListsKey, ListsLine}
 use Rattle.properties_tools.specs.declared.propedit.first_keys.FirstKeys.{FirstKeys}
@@ -47,7 +47,7 @@ use Rattle.properties_format.proofs.Maps.{value_in}
 
 -- ---- a logical line that has no key
 
-pub lists-none : (prefix : List ℕ) (end : TextEnd) (o : Outcome) (s : FirstKeys) → None ≡ outcome_pair o → ListsKey prefix end (outcome_key o) s s
+pub lists-none : (prefix : List ℕ) (end : Terminator) (o : Outcome) (s : FirstKeys) → None ≡ outcome_pair o → ListsKey prefix end (outcome_key o) s s
 lists-none prefix end ignored s none = refl
 lists-none prefix end (given (comment text)) s none = refl
 lists-none prefix end (given (pair key value)) s none = absurd (cc)
@@ -101,7 +101,7 @@ listed-same prefix key (k ∷ ks) p = elim (cases_Bool (is_key_listed prefix k))
 ]
 
 -- These keys came, and those of them that are listed are held and printed.
-pub record AreListed (prefix : List ℕ) (end : TextEnd) (all : List (List ℕ)) (s : FirstKeys) : Type 0 where
+pub record AreListed (prefix : List ℕ) (end : Terminator) (all : List (List ℕ)) (s : FirstKeys) : Type 0 where
   pub keys : List (List ℕ)
   pub first : AreFirstOf all keys
   pub held : List ℕ → Option ℕ
@@ -111,7 +111,7 @@ pub record AreListed (prefix : List ℕ) (end : TextEnd) (all : List (List ℕ))
   pub text : s.text.items ≡ ended_all end (listed_keys prefix keys)
 
 -- one key more
-pub listed-more : (prefix : List ℕ) (end : TextEnd) (all : List (List ℕ)) (key : List ℕ) (s t : FirstKeys) → AreListed prefix end all s
+pub listed-more : (prefix : List ℕ) (end : Terminator) (all : List (List ℕ)) (key : List ℕ) (s t : FirstKeys) → AreListed prefix end all s
     → ListsKey prefix end (Some key) s t
     → AreListed prefix end (all ++ key ∷ []) t
 listed-more prefix end all key s t h (inl (p, same)) = elim (has_or key h.keys) [
@@ -161,18 +161,18 @@ listed-more prefix end all key s t h (inr (p, (number, first, adds))) = elim (ad
       }
 ]
   where
-    ended-push : (e : TextEnd) (ks : List (List ℕ)) (k : List ℕ) → ended_all e (ks ++ k ∷ []) ≡ ended_all e ks ++ ended e k
+    ended-push : (e : Terminator) (ks : List (List ℕ)) (k : List ℕ) → ended_all e (ks ++ k ∷ []) ≡ ended_all e ks ++ ended e k
     ended-push e [] k = append-nil (ended e k)
     ended-push e (j ∷ ks) k = ap (λ v. ended e j ++ v) (ended-push e ks k) ∙ sym (append_assoc (ended e j) (ended_all e ks) (ended e k))
 
 -- what a key that is listed adds
-pub lists-key : (prefix : List ℕ) (end : TextEnd) (key : List ℕ) (number first : ℕ) (s t : FirstKeys) → is_key_listed prefix key ≡ true
+pub lists-key : (prefix : List ℕ) (end : Terminator) (key : List ℕ) (number first : ℕ) (s t : FirstKeys) → is_key_listed prefix key ≡ true
     → AddsKey end key number s first t
     → ListsKey prefix end (Some key) s t
 lists-key prefix end key number first s t listed adds = inr (listed, (number, first, adds))
 
 -- These keys were collected from the groups that came, in which only comments are malformed.
-pub record HasListed {R : Type 0} (reader : Reader R) (e : Encoding) (from : R) (prefix : List ℕ) (end : TextEnd) (s : FirstKeys) (state : ReaderState)
+pub record HasListed {R : Type 0} (reader : Reader R) (e : Encoding) (from : R) (prefix : List ℕ) (end : Terminator) (s : FirstKeys) (state : ReaderState)
     (to : R) : Type 0 where
   pub groups : List (List Line)
   pub collected : Collected reader e from groups state to
@@ -180,7 +180,7 @@ pub record HasListed {R : Type 0} (reader : Reader R) (e : Encoding) (from : R) 
   pub listed : AreListed prefix end (pair_keys (pairs_in groups)) s
 
 -- a logical line more
-listed-line : (prefix : List ℕ) (end : TextEnd) (gs : List (List Line)) (g : List Line) (s t : FirstKeys) → AreListed prefix end (pair_keys (pairs_in gs)) s
+listed-line : (prefix : List ℕ) (end : Terminator) (gs : List (List Line)) (g : List Line) (s t : FirstKeys) → AreListed prefix end (pair_keys (pairs_in gs)) s
     → ListsKey prefix end (outcome_key (outcome_of (joined g))) s t → AreListed prefix end (pair_keys (pairs_in (gs ++ g ∷ []))) t
 listed-line prefix end gs g s t h lists =
     let grown = ap pair_keys (pairs_in-push gs g) ∙ filter_map-append pair_key (pairs_in gs) (pair_from (first_number g) (outcome_of (joined g)) []) in
@@ -196,7 +196,7 @@ listed-line prefix end gs g s t h lists =
     by (given (pair key value)) k = listed-more prefix end (pair_keys (pairs_in gs)) key s t h k
     by (broken how) k = same k
 
-module _ {R : Type 0} {reader : Reader R} {e : Encoding} {prefix : List ℕ} {end : TextEnd} where
+module _ {R : Type 0} {reader : Reader R} {e : Encoding} {prefix : List ℕ} {end : Terminator} where
   -- before the first line
   pub listed-none : (from : R) (state : ReaderState) (s : FirstKeys) → state ≡ start e → IsIndexed none_held s → s.text.items ≡ []
       → HasListed reader e from prefix end s state from
@@ -274,28 +274,28 @@ module _ {R : Type 0} {reader : Reader R} {e : Encoding} {prefix : List ℕ} {en
 
 -- ---- the status
 
-pub status-none : (end : TextEnd) (ks : List (List ℕ)) → length (ended_all end ks) ≡ 0 → list_status ks ≡ 1
+pub status-none : (end : Terminator) (ks : List (List ℕ)) → length (ended_all end ks) ≡ 0 → list_status ks ≡ 1
 status-none end [] h = refl
 status-none end (k ∷ ks) h =
     let a = length-append (ended end k) (ended_all end ks) in
     let b = length-append (encode_utf8_all k) (end_byte end ∷ []) in
     absurd (omega arith)
 
-pub status-some : (end : TextEnd) (ks : List (List ℕ)) → 0 < length (ended_all end ks) → list_status ks ≡ 0
+pub status-some : (end : Terminator) (ks : List (List ℕ)) → 0 < length (ended_all end ks) → list_status ks ≡ 0
 status-some end [] h = absurd (omega arith)
 status-some end (k ∷ ks) h = refl
 
 -- ---- a slice
 
 -- What reading them from an input returns.
-abbrev pub CollectsKeys : {R : Type 0} → Reader R → Encoding → List ℕ → TextEnd → R → Result (Vec ℕ) PropertiesError → R → Type 0
+abbrev pub CollectsKeys : {R : Type 0} → Reader R → Encoding → List ℕ → Terminator → R → Result (Vec ℕ) PropertiesError → R → Type 0
 CollectsKeys reader e prefix end from (Ok text) to =
     (bytes : List ℕ) × HasRead reader from bytes to × (has_ended reader to ≡ true) × HasListedText e bytes prefix end text.items
 CollectsKeys reader e prefix end from (Err error) to =
     StopsAtPair reader e from error to ⊎ (FailsToFind reader e from error to ⊎ StopsFinding reader e from error to)
 
 -- What collecting the keys of a slice returns. In a sound source it fails only for want of memory.
-pub slice-listed : (e : Encoding) (prefix : List ℕ) (end : TextEnd) (from to : Bor (List ℕ)) (result : Result (Vec ℕ) PropertiesError)
+pub slice-listed : (e : Encoding) (prefix : List ℕ) (end : Terminator) (from to : Bor (List ℕ)) (result : Result (Vec ℕ) PropertiesError)
     → length from.now + 1 < 2 ^ 64
     → CollectsKeys slice_reader e prefix end from result to → FindsListed e from.now prefix end result
 slice-listed e prefix end from to (Ok text) small h = subst (λ v. HasListedText e v prefix end text.items) (slice-whole h.1 h.2) h.3
@@ -303,7 +303,7 @@ slice-listed e prefix end from to (Err error) small h =
     lost e from.now error (slice-tells_pairs {Z = Unit {0}} e from to [] (Err error) small h)
 
 -- Where a slice is doesn't matter.
-pub listed-at : {e : Encoding} {from to next : Bor (List ℕ)} {prefix : List ℕ} {end : TextEnd} {s : FirstKeys} {state : ReaderState} → to.now ≡ next.now
+pub listed-at : {e : Encoding} {from to next : Bor (List ℕ)} {prefix : List ℕ} {end : Terminator} {s : FirstKeys} {state : ReaderState} → to.now ≡ next.now
     → HasListed slice_reader e from prefix end s state to → HasListed slice_reader e from prefix end s state next
 listed-at same h = record { groups = h.groups; collected = collected-slice same h.collected; in_comments = h.in_comments; listed = h.listed }
 

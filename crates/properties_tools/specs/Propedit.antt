@@ -25,7 +25,7 @@ use Rattle.properties_tools.specs.declared.propedit.request.Change.{Change as As
 use Rattle.properties_tools.specs.declared.propedit.request.Command.TheVariants as command
 use Rattle.properties_tools.specs.declared.propedit.request.Source.{Source}
 use Rattle.properties_tools.specs.declared.propedit.request.Source.TheVariants.{StandardInput, File}
-use Rattle.properties_tools.specs.declared.propedit.request.Work.{Work}
+use Rattle.properties_tools.specs.declared.propedit.request.Job.{Job}
 use Rattle.properties_tools.specs.declared.propedit.error.Failure.{Failure}
 use Rattle.std.specs.Global.{Vec}
 use Rattle.counted_io.specs.Streams.{Reader, Sink}
@@ -61,9 +61,9 @@ AnswersCommand name e (command.ListValues prefix end) source result = ListsValue
 AnswersCommand name e command.Check source result = Checks name e source result
 AnswersCommand name e (command.Change change) source result = ChangesTo e source change result
 
--- What the command of some work gives for its source.
-abbrev pub Answers : Work → List ℕ → Result Answer Failure → Type 0
-Answers work source result = AnswersCommand (name_of work.source) (encoding_of work.encoding) work.command source result
+-- What the command of some job gives for its source.
+abbrev pub Answers : Job → List ℕ → Result Answer Failure → Type 0
+Answers job source result = AnswersCommand (name_of job.source) (encoding_of job.encoding) job.command source result
 
 -- ---- how it ends
 
@@ -75,49 +75,49 @@ Ends error_sink name errors (Err failure) status errors' = (status ≡ failure_s
 -- ---- a command
 
 -- What the source gave to its end was answered, and printing the answer returned this.
-pub record PrintsAnswer {R W : Type 0} (reader : Reader R) (sink : Sink W) (work : Work) (input : R) (output : W)
+pub record PrintsAnswer {R W : Type 0} (reader : Reader R) (sink : Sink W) (job : Job) (input : R) (output : W)
     (answer : Answer) (printed : Result Unit PropertiesError) (input' : R) (output' : W) : Type 0 where
   pub source : List ℕ
   pub read : GivesWhole reader input source input'
-  pub answers : Answers work source (Ok answer)
+  pub answers : Answers job source (Ok answer)
   pub writes : WritesSource sink output answer.text.items printed output'
 
 -- What the source gave to its end has no answer, and nothing was printed.
-pub record HasNoAnswer {R W : Type 0} (reader : Reader R) (work : Work) (input : R) (output : W) (failure : Failure) (input' : R) (output' : W) : Type 0 where
+pub record HasNoAnswer {R W : Type 0} (reader : Reader R) (job : Job) (input : R) (output : W) (failure : Failure) (input' : R) (output' : W) : Type 0 where
   pub source : List ℕ
   pub read : GivesWhole reader input source input'
-  pub fails : Answers work source (Err failure)
+  pub fails : Answers job source (Err failure)
   pub unwritten : output' ≡ output
 
 -- The source couldn't be read to its end, and nothing was printed. The error is that of a failed read, as reading a whole
 -- source gives it, or Memory where no read failed.
-pub record FailsInSource {R W : Type 0} (reader : Reader R) (work : Work) (input : R) (output : W) (failure : Failure) (input' : R) (output' : W) : Type 0 where
+pub record FailsInSource {R W : Type 0} (reader : Reader R) (job : Job) (input : R) (output : W) (failure : Failure) (input' : R) (output' : W) : Type 0 where
   pub error : PropertiesError
-  pub fails : ReadsSource reader (encoding_of work.encoding) input (Err error) input'
+  pub fails : ReadsSource reader (encoding_of job.encoding) input (Err error) input'
   pub is : failure ≡ Input error
   pub unwritten : output' ≡ output
 
 -- Printing the answer failed.
-pub record FailsInOutput {R W : Type 0} (reader : Reader R) (sink : Sink W) (work : Work) (input : R) (output : W) (failure : Failure) (input' : R) (output' : W) : Type 0 where
+pub record FailsInOutput {R W : Type 0} (reader : Reader R) (sink : Sink W) (job : Job) (input : R) (output : W) (failure : Failure) (input' : R) (output' : W) : Type 0 where
   pub answer : Answer
   pub error : PropertiesError
-  pub prints : PrintsAnswer reader sink work input output answer (Err error) input' output'
+  pub prints : PrintsAnswer reader sink job input output answer (Err error) input' output'
   pub is : failure ≡ Output error
 
 -- What printing the answer to a command returns: the answer's status, or why it failed.
-abbrev pub Prints : {R W : Type 0} → Reader R → Sink W → Work → R → W → Result ℕ Failure → R → W → Type 0
-Prints reader sink work input output (Ok status) input' output' =
-    (answer : Answer) × PrintsAnswer reader sink work input output answer (Ok tt) input' output' × (status ≡ answer.status)
-Prints reader sink work input output (Err failure) input' output' =
-    FailsInSource reader work input output failure input' output'
-    ⊎ (HasNoAnswer reader work input output failure input' output' ⊎ FailsInOutput reader sink work input output failure input' output')
+abbrev pub Prints : {R W : Type 0} → Reader R → Sink W → Job → R → W → Result ℕ Failure → R → W → Type 0
+Prints reader sink job input output (Ok status) input' output' =
+    (answer : Answer) × PrintsAnswer reader sink job input output answer (Ok tt) input' output' × (status ≡ answer.status)
+Prints reader sink job input output (Err failure) input' output' =
+    FailsInSource reader job input output failure input' output'
+    ⊎ (HasNoAnswer reader job input output failure input' output' ⊎ FailsInOutput reader sink job input output failure input' output')
 
 -- What the program does for a command: it reads the source, prints the answer, and ends so.
-pub record Runs {R W E : Type 0} (reader : Reader R) (sink : Sink W) (error_sink : Sink E) (work : Work) (input : R) (output : W) (errors : E)
+pub record Runs {R W E : Type 0} (reader : Reader R) (sink : Sink W) (error_sink : Sink E) (job : Job) (input : R) (output : W) (errors : E)
     (status : ℕ) (input' : R) (output' : W) (errors' : E) : Type 0 where
   pub result : Result ℕ Failure
-  pub prints : Prints reader sink work input output result input' output'
-  pub ends : Ends error_sink (name_of work.source) errors result status errors'
+  pub prints : Prints reader sink job input output result input' output'
+  pub ends : Ends error_sink (name_of job.source) errors result status errors'
 
 -- ---- a text
 

@@ -34,7 +34,7 @@ pub fn filter<R: CountedRead, W: CountedWrite>(
 ) -> Result<(), PropertiesError>
     ensures filters { let e = encoding_of encoding in
         Filters R.CountedRead W.CountedWrite (all_of e) input.old writer.old result input.new writer.new }
-    ensures settles { let e = encoding_of encoding in
+    ensures idempotent { let e = encoding_of encoding in
         Settles R.CountedRead W.CountedWrite e input.old writer.old result input.new writer.new }
     ensures same_reader { IsSameReader R.CountedRead input.old input.new }
     ensures same_sink { IsSameSink W.CountedWrite writer.old writer.new }
@@ -87,6 +87,7 @@ pub(crate) fn filter_with<R: CountedRead, W: CountedWrite>(
     let mut lines = PropertiesWriter::new_with_encoding(alloc, writer, encoding)?;
     lines.set_ascii_only(ascii_only);
     let result = write_pairs(&mut items, &mut lines);
+    // Proof only: both streams are given back as they are now.
     let _ = items.into_inner();
     let _ = lines.into_inner();
     result

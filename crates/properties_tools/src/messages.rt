@@ -43,7 +43,7 @@ pub fn print_error<E: CountedWrite>(alloc: Global, errors: &mut E, error: Proper
 }
 
 /// A text in a message: its control characters are printed as escapes, as in `\u{1b}`, so that a name can neither
-/// reach the terminal's state nor begin a line.
+/// control the terminal nor begin a line.
 ///
 /// ```text
 /// format!(in alloc; "{}", Escaped("a\nb"))?; // `a\u{a}b`

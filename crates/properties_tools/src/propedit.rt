@@ -7,13 +7,13 @@ pub mod check;
 pub mod error;
 mod first_keys;
 pub mod get;
+pub mod ill_formed;
 pub mod in_place;
 mod line_findings;
 pub mod list;
 pub mod pairs;
 pub mod request;
 pub mod sound;
-pub mod utf_8;
 mod values;
 
 ghost use Rattle.std.specs.Prelude.{◌≡◌};
@@ -27,7 +27,7 @@ use crate::messages::print_line;
 use crate::propedit::answers::{answer_to, name};
 use crate::propedit::change::change;
 use crate::propedit::error::{FAILED, Failure, NO_MEMORY, STANDARD_OUTPUT, print_failure};
-use crate::propedit::request::{Change, Work};
+use crate::propedit::request::{Change, Job};
 use counted_io::{CountedRead, CountedWrite};
 use java_properties::{Encoding, read_source, write_source};
 use std::alloc::Global;
@@ -42,39 +42,39 @@ use std::alloc::Global;
 /// let mut output = Counted::new(Vec::new(alloc));
 /// let mut errors = Counted::new(Vec::new(alloc));
 /// // For the arguments `get port` the status is 0, and the output holds `80` and a line feed.
-/// propedit::run(alloc, &work, &mut input, &mut output, &mut errors);
+/// propedit::run(alloc, &job, &mut input, &mut output, &mut errors);
 /// ```
 pub fn run<R: CountedRead, W: CountedWrite, E: CountedWrite>(
     alloc: Global,
-    work: &Work,
+    job: &Job,
     input: &mut R,
     output: &mut W,
     errors: &mut E,
 ) -> u8
-    ensures runs { Runs R.CountedRead W.CountedWrite E.CountedWrite work.now
+    ensures runs { Runs R.CountedRead W.CountedWrite E.CountedWrite job.now
         input.old output.old errors.old result input.new output.new errors.new }
     ensures same_reader { IsSameReader R.CountedRead input.old input.new }
     ensures same_sink { IsSameSink W.CountedWrite output.old output.new }
     ensures same_error_sink { IsSameSink E.CountedWrite errors.old errors.new }
 {
-    let printed = print_answer(alloc, work, input, output);
-    exit_status(alloc, errors, name(&work.source), printed)
+    let printed = print_answer(alloc, job, input, output);
+    exit_status(alloc, errors, name(&job.source), printed)
 }
 
 // Prints what the command gives for the source, and returns the status of the answer.
 fn print_answer<R: CountedRead, W: CountedWrite>(
     alloc: Global,
-    work: &Work,
+    job: &Job,
     input: &mut R,
     output: &mut W,
 ) -> Result<u8, Failure>
-    ensures prints { Prints R.CountedRead W.CountedWrite work.now
+    ensures prints { Prints R.CountedRead W.CountedWrite job.now
         input.old output.old result input.new output.new }
     ensures same_reader { IsSameReader R.CountedRead input.old input.new }
     ensures same_sink { IsSameSink W.CountedWrite output.old output.new }
 {
-    let source = read_source(alloc, input, work.encoding)?;
-    let answer = answer_to(alloc, work, &source)?;
+    let source = read_source(alloc, input, job.encoding)?;
+    let answer = answer_to(alloc, job, &source)?;
     match write_source(output, &answer.text) {
         Ok(()) => Ok(answer.status),
         Err(error) => Err(Failure::Output(error)),
@@ -132,12 +132,12 @@ pub fn exit_status<E: CountedWrite>(
     }
 }
 
-/// Prints a text, as the usage or the version, and returns the exit status: 0, or 2 if it can't be printed, and then a
-/// line on `errors` says why.
+/// Prints a text, such as the help or the version, and returns the exit status: 0, or 2 if it can't be printed, and
+/// then a line on `errors` says why.
 ///
 /// ```text
 /// let mut output = Counted::new(Vec::new(alloc));
-/// propedit::print_text(alloc, "propedit 1.11.1\n", &mut output, &mut errors); // 0, and the output holds the text
+/// propedit::print_text(alloc, "propedit 1.12.0\n", &mut output, &mut errors); // 0, and the output holds the text
 /// ```
 pub fn print_text<W: CountedWrite, E: CountedWrite>(
     alloc: Global,

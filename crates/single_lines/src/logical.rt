@@ -1,4 +1,4 @@
-//! Joins any natural lines into logical lines. Only tests use it: the library's reader joins lines that it holds.
+//! Joins any natural lines into logical lines.
 
 ghost use Rattle.std.specs.Prelude.{◌≡◌, true, false};
 ghost use Rattle.std.specs.Iterator.{count_unless, IsFinite};

@@ -22,7 +22,7 @@ use std::marker::Model;
 #[derive(Drop)]
 pub struct NaturalLine(pub usize, pub String);
 
-/// The natural lines of a reader, decoded. Only tests use it.
+/// The natural lines of a reader, decoded.
 #[derive(Drop)]
 pub struct NaturalLines<R> {
     reader: R,

@@ -6,7 +6,7 @@ use Rattle.std.specs.Str.{IsUtf8, chars}
 use Rattle.std.proofs.lemmas.Str.{chars_past_char}
 use Rattle.std.proofs.StrCases.{chars_of_empty}
 use Rattle.properties_format.specs.Text.{is_blank, is_blanks, is_separator, is_empty}
-use Rattle.properties_format.specs.Computed.Settings.{holds_no_line_end, is_good_prefix, is_signed_separator}
+use Rattle.properties_format.specs.Computed.Settings.{holds_no_line_ending, is_good_prefix, is_signed_separator}
 use Rattle.properties_format.proofs.Split.Unique.{separator-full}
 use Rattle.properties_text.proofs.Texts.Characters.{is_empty-chars}
 use Rattle.properties_format.proofs.Settings.Tests.{is_good_prefix-from, IsGoodPrefix-from_test, is_good_separator-from, IsGoodSeparator-from_test}
@@ -23,7 +23,7 @@ past_last test whole last bs e h k = sym (h ∙ ap test (chars_of_empty bs e) �
 
 -- what is still to hold of a prefix, past its sign or before it
 abbrev pub prefix_left : Bool → List ℕ → Bool
-prefix_left true cs = holds_no_line_end cs
+prefix_left true cs = holds_no_line_ending cs
 prefix_left false cs = is_good_prefix cs
 
 pub prefix_left-end : (signed : Bool) → prefix_left signed [] ≡ signed

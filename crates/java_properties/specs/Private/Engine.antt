@@ -15,8 +15,8 @@ use Rattle.java_properties.specs.declared.writer.engine.Content.TheVariants.{Com
 use Rattle.properties_items.specs.declared.error.ErrorKind.TheVariants as kind
 use Rattle.properties_items.specs.declared.error.ErrorKind.{ErrorKind}
 use Rattle.properties_text.specs.declared.escape.UnescapeError.{UnescapeError}
-use Rattle.properties_text.specs.declared.encoding.line.LineEncoding.{LineEncoding}
-use Rattle.properties_text.specs.declared.encoding.line.LineEncoding.TheVariants as line
+use Rattle.properties_text.specs.declared.encoding.line_encoding.LineEncoding.{LineEncoding}
+use Rattle.properties_text.specs.declared.encoding.line_encoding.LineEncoding.TheVariants as line
 use Rattle.properties_text.specs.declared.escape.UnescapeError.TheVariants as error
 use Rattle.properties_text.specs.declared.parse.Span.{Span}
 use Rattle.properties_text.specs.declared.print.Pair.{Pair}

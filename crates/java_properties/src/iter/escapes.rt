@@ -6,7 +6,7 @@ ghost use Rattle.counted_io.specs.Streams.{IsSameReader};
 ghost use Rattle.properties_text.specs.Encoding.{encoding_of};
 ghost use Rattle.properties_text.specs.Parsing.{bytes_in, IsSpan};
 ghost use Rattle.properties_text.specs.Escaping.{Checks};
-ghost use Rattle.properties_text.specs.declared.encoding.line.LineEncoding.TheVariants.{Utf8};
+ghost use Rattle.properties_text.specs.declared.encoding.line_encoding.LineEncoding.TheVariants.{Utf8};
 ghost use Rattle.properties_lines.specs.LineReader.{lines_left};
 ghost use Rattle.java_properties.specs.Findings.{FindsFirstMalformed, FindsMalformed};
 ghost use Rattle.java_properties.specs.Private.LineByLine.{ChecksLine, FindsLineEscape, FindsNextEscape};

@@ -11,10 +11,14 @@ use properties_items::error::PropertiesError;
 use properties_items::line::Line;
 use properties_text::encoding::Encoding;
 use std::alloc::Global;
+use std::error::Error;
+use std::fmt;
 
 /// Why a reading ended early, and the items before the error.
 ///
 /// If memory or line numbers ran out, they are the input's first items, but the contract doesn't say how many.
+///
+/// It prints as the error.
 #[derive(Debug, Drop)]
 pub struct Stopped {
     /// The items before the error.
@@ -30,6 +34,18 @@ impl From<Stopped> for PropertiesError {
         stopped.error
     }
 }
+
+impl fmt::Display for Stopped {
+    ghost use Rattle.properties_items.specs.DisplayTexts.{error_display};
+
+    ghost output = { λ stopped. error_display stopped.error };
+
+    fn fmt<W: fmt::Write>(&self, f: &mut fmt::Formatter<W>) -> fmt::Result {
+        write!(f, "{}", self.error)
+    }
+}
+
+impl Error for Stopped {}
 
 /// Reads an input to its end and returns all its items: each comment and each pair, with its line number.
 ///

@@ -11,7 +11,7 @@ ghost use Rattle.properties_items.specs.Line.{ending_of};
 
 use properties_items::error::{PropertiesError, make};
 use properties_items::line::LineEnding;
-use properties_text::characters::{is_blank, is_comment_sign, is_line_end, is_separator};
+use properties_text::characters::{is_blank, is_comment_sign, is_line_ending, is_separator};
 use properties_text::parse::are_blanks;
 use std::alloc::Global;
 use std::marker::Model;
@@ -58,7 +58,7 @@ impl Settings {
         }
     }
 
-    /// Proof only: the texts can always be written.
+    /// Proof only: prefix and separator are good.
     pub fn are_always_good(&self)
         ensures { AreGoodSettings self.now }
     {
@@ -177,7 +177,7 @@ pub(crate) fn is_good_prefix(text: &str) -> bool
     let mut signed = false;
     for character in text.chars() {
         if signed {
-            if is_line_end(character) {
+            if is_line_ending(character) {
                 return false;
             }
         } else if is_comment_sign(character) {

@@ -14,7 +14,7 @@ use Rattle.properties_items.specs.declared.error.PropertiesError.{PropertiesErro
 use Rattle.properties_format.specs.Encoding.{repertoire, in_encoding, Repertoire}
 use Rattle.properties_editing.specs.Private.BodyIndex.{IsIndex, last_value, pairs_from, group_keys}
 use Rattle.properties_editing.specs.Private.Sound.{AreSound, AreSoundFor, IsResult}
-use Rattle.properties_editing.specs.declared.index.changes.IndexedSource.TheInside.{Inside}
+use Rattle.properties_editing.specs.declared.index.indexed_source.IndexedSource.TheInside.{Inside}
 use Rattle.std.specs.Borrow.{Bor}
 use Rattle.properties_format.specs.Body.{HeldLine}
 use Rattle.properties_format.specs.Edits.{Edit, IsEdited, AreEdited}

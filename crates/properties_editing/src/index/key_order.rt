@@ -4,7 +4,7 @@ ghost use Rattle.std.specs.Prelude.{◌≡◌, IfOk, Some, slice_get};
 ghost use Rattle.properties_editing.specs.Private.BodyIndex.{places_of, ArePlaced, IndexesSome};
 ghost use Rattle.properties_editing.specs.Private.Sources.{HasKeysOf};
 
-use crate::index::changes::IndexedSource;
+use crate::index::indexed_source::IndexedSource;
 use crate::index::{Index, IndexedPair};
 use std::alloc::{AllocError, Global};
 

@@ -78,7 +78,7 @@ pub fn close_up(source: &mut Vec<u8>, index: &mut Index, sweep: Sweep)
     source.truncate(size - removed);
 }
 
-// Moves the bytes from one position up to another down to a third, unless they are there.
+// Moves the bytes `from..to` down to `dest`, unless they are there.
 fn move_down(source: &mut Vec<u8>, from: usize, to: usize, dest: usize)
     requires order { from ≤ to }
     requires within { to ≤ length source.old.items }
@@ -92,7 +92,7 @@ fn move_down(source: &mut Vec<u8>, from: usize, to: usize, dest: usize)
     }
 }
 
-// Moves the parts in the places from one up to another down by so many bytes. If these are none, it looks at no part.
+// Moves the parts in the places `from..to` down by so many bytes. If `by` is 0, it looks at no part.
 fn lower_spans(spans: &mut Vec<Option<BodyPart>>, from: usize, to: usize, by: usize)
     requires order { from ≤ to }
     requires within { to ≤ length spans.old.items }

@@ -1,6 +1,6 @@
 -- The items of two texts of parts.
 use Rattle.std.proofs.Common.{◌≡◌, Bool, true, false, List, [], map, length, ap, ap₂, ◌∙◌}
-use Rattle.properties_format.specs.Lines.{InputEnd, line_ends, numbered_lines}
+use Rattle.properties_format.specs.Lines.{InputEnd, line_endings, numbered_lines}
 use Rattle.properties_format.specs.Computed.Lines.{lines_of, groups_of}
 use Rattle.properties_format.specs.Computed.Items.{entries_of, items_of_lines}
 use Rattle.properties_format.specs.Converting.{AreSameEntries, AreSameGroups}
@@ -36,7 +36,7 @@ groups_of-alike ps e h = rw (groups-on false ps e h, groups-on true ps e h) (gro
 
 items-on : (side : Bool) (ps : List Part) (e : InputEnd) → AreParts ps
     → items_of_lines (lines_of (text side ps)) e ≡ entries_of (length (lines_parts ps).ended) e (map (map (line_on side)) (all_groups ps e))
-items-on side ps e h = ap₂ (λ n v. entries_of n e v) (ap line_ends (lines-alike side ps h) ∙ same-count side (lines_parts ps).ended) (groups-on side ps e h)
+items-on side ps e h = ap₂ (λ n v. entries_of n e v) (ap line_endings (lines-alike side ps h) ∙ same-count side (lines_parts ps).ended) (groups-on side ps e h)
 
 -- Both texts of parts have the same items.
 pub items-alike : (ps : List Part) (e : InputEnd) → AreParts ps

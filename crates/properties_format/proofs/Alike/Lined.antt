@@ -2,8 +2,8 @@
 use Rattle.std.proofs.Common.{rules, ◌≡◌, ℕ, suc, ◌+◌, ◌==◌, ◌≤◌, Bool, true, false, List, [], ◌∷◌, ◌++◌, map, length, refl, ap, sym, ◌∙◌, inl, inr, arith}
 use Rattle.std.specs.Prelude.{if◌then◌else◌}
 use Rattle.std.proofs.lemmas.Bool.{cases_Bool}
-use Rattle.properties_format.specs.Text.{backslash, line_feed, carriage_return, is_line_end, LineEnding, lf, cr, crlf}
-use Rattle.properties_format.specs.Lines.{Ended, Lines, InputEnd, end, HoldsNoLineEnd, numbered}
+use Rattle.properties_format.specs.Text.{backslash, line_feed, carriage_return, is_line_ending, LineEnding, lf, cr, crlf}
+use Rattle.properties_format.specs.Lines.{Ended, Lines, InputEnd, end, HoldsNoLineEnding, numbered}
 use Rattle.properties_format.specs.Computed.Lines.{is_lone_lf, cr_before, character_before, before, lines_of}
 use Rattle.properties_format.specs.Escapes.{letter_u, Spelling, itself, escaped, unicode, surrogates, last, spelling_text, spelling_character, Four, are_hexadecimal, four_text}
 use Rattle.properties_format.proofs.Escapes.Laws.{IsWhole}
@@ -49,8 +49,8 @@ abbrev end_parts : ℕ → PartLines → PartLines
 end_parts c lines = if c == line_feed then record lines { ended = empty_line lf lines.ended } else record lines { ended = cr_parts lines.ended }
 
 abbrev part_before : Part → PartLines → PartLines
-part_before (same c) lines = if is_line_end c then end_parts c lines else front_part (same c) lines.ended lines.last
-part_before (after_backslash c) lines = if is_line_end c then (let m = end_parts c lines in front_part lone m.ended m.last) else front_part (after_backslash c) lines.ended lines.last
+part_before (same c) lines = if is_line_ending c then end_parts c lines else front_part (same c) lines.ended lines.last
+part_before (after_backslash c) lines = if is_line_ending c then (let m = end_parts c lines in front_part lone m.ended m.last) else front_part (after_backslash c) lines.ended lines.last
 part_before (past p q) lines = front_part (past p q) lines.ended lines.last
 part_before lone lines = front_part lone lines.ended lines.last
 
@@ -69,16 +69,16 @@ text-cons : (c : ℕ) (x : List ℕ) (ls : List Ended) (tail : List ℕ)
     → (let m = text_before x ls tail in character_before c m.ended m.last) ≡ text_before (c ∷ x) ls tail
 text-cons c x ls tail = grind (arith)
 
-plain-front : (x y : List ℕ) → HoldsNoLineEnd x → lines_of (x ++ y) ≡ (let m = lines_of y in text_before x m.ended m.last)
+plain-front : (x y : List ℕ) → HoldsNoLineEnding x → lines_of (x ++ y) ≡ (let m = lines_of y in text_before x m.ended m.last)
 plain-front [] y h = sym (search (rules))
 plain-front (c ∷ x) y h = grind (arith, before-plain, plain-front x y h.1, text-cons)
 
-pub four-plain : (d : Four) (x : List ℕ) → are_hexadecimal d ≡ true → HoldsNoLineEnd x → HoldsNoLineEnd (four_text d ++ x)
+pub four-plain : (d : Four) (x : List ℕ) → are_hexadecimal d ≡ true → HoldsNoLineEnding x → HoldsNoLineEnding (four_text d ++ x)
 four-plain d x h k = let g = digits d h in (digit-plain d.first g.0, (digit-plain d.second g.1, (digit-plain d.third g.2, (digit-plain d.fourth g.3, k))))
 
-spelling-plain : (s : Spelling) → IsWhole s → 0x80 ≤ spelling_character s → HoldsNoLineEnd (spelling_text s)
-spelling-plain (itself c) h k = let e : is_line_end c ≡ false = grind (arith) in (e, tt)
-spelling-plain (escaped c) h k = let b = escaped-beyond c k in let e : is_line_end c ≡ false = grind (arith) in (refl, (e, tt))
+spelling-plain : (s : Spelling) → IsWhole s → 0x80 ≤ spelling_character s → HoldsNoLineEnding (spelling_text s)
+spelling-plain (itself c) h k = let e : is_line_ending c ≡ false = grind (arith) in (e, tt)
+spelling-plain (escaped c) h k = let b = escaped-beyond c k in let e : is_line_ending c ≡ false = grind (arith) in (refl, (e, tt))
 spelling-plain (unicode d) h k = (refl, (refl, four-plain d [] h.0 tt))
 spelling-plain (surrogates high low) h k = (refl, (refl, four-plain high (backslash ∷ letter_u ∷ four_text low) h.0 (refl, (refl, four-plain low [] h.2 tt))))
 spelling-plain last h k = absurd h
@@ -88,7 +88,7 @@ front-on : (side : Bool) (p : Part) (ls : List PartEnded) (tail : List Part)
 front-on side p [] tail = refl
 front-on side p (l ∷ ls) tail = refl
 
-plain-part : (side : Bool) (p : Part) (x : List ℕ) (lines : PartLines) → HoldsNoLineEnd (part_text side p) → lines_of x ≡ lines_on side lines
+plain-part : (side : Bool) (p : Part) (x : List ℕ) (lines : PartLines) → HoldsNoLineEnding (part_text side p) → lines_of x ≡ lines_on side lines
     → lines_of (part_text side p ++ x) ≡ lines_on side (front_part p lines.ended lines.last)
 plain-part side p x lines h e =
     plain-front (part_text side p) x h ∙ ap (λ v. let m : Lines = v in text_before (part_text side p) m.ended m.last) e ∙ front-on side p lines.ended lines.last
@@ -114,7 +114,7 @@ cr-on side (l ∷ ls) = elim (cases_Bool (is_lone_part l.parts l.by)) [
   | inr e ↦ rw (lone-on side l.parts l.by, e) refl
 ]
 
-end-on : (side : Bool) (c : ℕ) (lines : PartLines) → is_line_end c ≡ true → before c (lines_on side lines) ≡ lines_on side (end_parts c lines)
+end-on : (side : Bool) (c : ℕ) (lines : PartLines) → is_line_ending c ≡ true → before c (lines_on side lines) ≡ lines_on side (end_parts c lines)
 end-on side c lines h = elim (cases_Bool (c == line_feed)) [
   | inl e ↦ rw e refl
   | inr e ↦ let f : (c == carriage_return) ≡ true = grind (arith) in rw (e, f) (ap (λ v. let m : Lines = record { ended = v; last = text side lines.last } in m) (cr-on side lines.ended))
@@ -122,11 +122,11 @@ end-on side c lines h = elim (cases_Bool (c == line_feed)) [
 
 pub lines-alike : (side : Bool) (ps : List Part) → AreParts ps → lines_of (text side ps) ≡ lines_on side (lines_parts ps)
 lines-alike side [] h = refl
-lines-alike side (same c ∷ ps) h = elim (cases_Bool (is_line_end c)) [
+lines-alike side (same c ∷ ps) h = elim (cases_Bool (is_line_ending c)) [
   | inl e ↦ rw e (ap (before c) (lines-alike side ps h.1) ∙ end-on side c (lines_parts ps) e)
   | inr e ↦ rw e (plain-part side (same c) (text side ps) (lines_parts ps) (e, tt) (lines-alike side ps h.1))
 ]
-lines-alike side (after_backslash c ∷ ps) h = elim (cases_Bool (is_line_end c)) [
+lines-alike side (after_backslash c ∷ ps) h = elim (cases_Bool (is_line_ending c)) [
   | inl e ↦ rw e (plain-part side lone (c ∷ text side ps) _ (refl, tt) (ap (before c) (lines-alike side ps h.1) ∙ end-on side c (lines_parts ps) e))
   | inr e ↦ rw e (plain-part side (after_backslash c) (text side ps) (lines_parts ps) (refl, (e, tt)) (lines-alike side ps h.1))
 ]
@@ -188,13 +188,13 @@ pub line-parts : (ps : List Part) → AreParts ps → AreLineParts (lines_parts 
 line-parts [] h = record { ended = tt; last = tt }
 line-parts (same c ∷ ps) h =
     let k = line-parts ps h.1 in
-    elim (cases_Bool (is_line_end c)) [
+    elim (cases_Bool (is_line_ending c)) [
       | inl e ↦ rw e (end-parts c (lines_parts ps) k)
       | inr e ↦ rw e (front-parts (same c) (lines_parts ps).ended (lines_parts ps).last (λ qs. h.0) k.ended k.last)
     ]
 line-parts (after_backslash c ∷ ps) h =
     let k = line-parts ps h.1 in
-    elim (cases_Bool (is_line_end c)) [
+    elim (cases_Bool (is_line_ending c)) [
       | inl e ↦ rw e (lone-front (end_parts c (lines_parts ps)) (end-parts c (lines_parts ps) k) (end-empty c (lines_parts ps)))
       | inr e ↦ rw e (front-parts (after_backslash c) (lines_parts ps).ended (lines_parts ps).last (λ qs. tt) k.ended k.last)
     ]

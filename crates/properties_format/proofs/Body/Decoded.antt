@@ -3,7 +3,7 @@
 use Rattle.std.proofs.Common.{◌≡◌, ℕ, true, List, [], ap, arith}
 use Rattle.properties_format.specs.Text.{characters}
 use Rattle.properties_format.specs.Encoding.{Encoding}
-use Rattle.properties_format.specs.Lines.{Lines, HoldsNoLineEnd, IsLines}
+use Rattle.properties_format.specs.Lines.{Lines, HoldsNoLineEnding, IsLines}
 use Rattle.properties_format.specs.Computed.Lines.{lines_of}
 use Rattle.properties_format.specs.Cut.{IsCut}
 use Rattle.properties_format.specs.Computed.Cut.{cut_of, decoded_line}
@@ -18,7 +18,7 @@ pub decoded-nil : (e : Encoding) → decoded_line e [] ≡ []
 decoded-nil e = ap characters (pieces_of-nil e)
 
 -- If a text contains no line ending, its bytes contain none.
-pub plain-bytes : (e : Encoding) (d : List ℕ) → is_editable e ≡ true → HoldsNoLineEnd (decoded_line e d) → HoldsNoLineEnd d
+pub plain-bytes : (e : Encoding) (d : List ℕ) → is_editable e ≡ true → HoldsNoLineEnding (decoded_line e d) → HoldsNoLineEnding d
 plain-bytes e d ok h = grind (arith, no_end-undecoded e d h)
 
 -- the lines of undecoded bytes

@@ -3,7 +3,7 @@ use Rattle.std.proofs.Common.{◌≡◌, ℕ, ◌+◌, List, [], ◌∷◌, ◌+
 use Rattle.std.proofs.lemmas.Bool.{cases_Bool}
 use Rattle.std.proofs.lemmas.List.{length_push}
 use Rattle.properties_format.specs.Encoding.{Encoding, byte_order_mark}
-use Rattle.properties_format.specs.Lines.{Ended, end, Line, Lines, numbered, numbered_lines, line_ends, joined_after, joined, first_number}
+use Rattle.properties_format.specs.Lines.{Ended, end, Line, Lines, numbered, numbered_lines, line_endings, joined_after, joined, first_number}
 use Rattle.properties_format.specs.Computed.Encoding.{decoded_of}
 use Rattle.properties_format.specs.Computed.Lines.{lines_of, closes, groups_after, groups_of}
 use Rattle.properties_format.specs.Computed.Cut.{cut_of, decoded_line}
@@ -117,5 +117,5 @@ pub items_of-groups : (e : Encoding) (source : List ℕ)
     → items_of e source end ≡ entries_in 1 (held_groups_of (byte_order_mark e source).encoding (byte_order_mark e source).body)
 unfolding items_of
 items_of-groups e source =
-    folded-source (λ n x rest. followed n (outcome_of x) rest) (entries_of (line_ends (lines_of (decoded_of e source))) end) entries_in
+    folded-source (λ n x rest. followed n (outcome_of x) rest) (entries_of (line_endings (lines_of (decoded_of e source))) end) entries_in
     (λ g gs. refl) (λ n g gs. refl) (λ n. refl) e source

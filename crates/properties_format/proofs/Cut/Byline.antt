@@ -2,10 +2,10 @@
 -- the decoded text.
 use Rattle.std.proofs.Common.{◌≡◌, ℕ, ◌<◌, ◌⊎◌, true, List, [], ◌∷◌, ◌++◌, refl, ap, ap₂, sym, ◌∙◌, subst, inl, inr, append_assoc, arith}
 use Rattle.std.proofs.lemmas.Bool.{cases_Bool}
-use Rattle.properties_format.specs.Text.{is_line_end, LineEnding, line_ending_text, characters}
-use Rattle.properties_format.specs.Lines.{Ended, Lines, put_together, HoldsNoLineEnd, BeginsWithNoLoneLf, AreLines, IsLines}
+use Rattle.properties_format.specs.Text.{is_line_ending, LineEnding, line_ending_text, characters}
+use Rattle.properties_format.specs.Lines.{Ended, Lines, put_together, HoldsNoLineEnding, BeginsWithNoLoneLf, AreLines, IsLines}
 use Rattle.properties_format.specs.Encoding.{Encoding, IsAligned, IsDecoded, byte_order_mark}
-use Rattle.properties_format.specs.Cut.{HoldsNoLineEndUnit, line_ending_bytes, bytes_together, AreCut, IsCut, IsDecodedLine, AreDecodedLines, IsByline}
+use Rattle.properties_format.specs.Cut.{HoldsNoLineEndingUnit, line_ending_bytes, bytes_together, AreCut, IsCut, IsDecodedLine, AreDecodedLines, IsByline}
 use Rattle.properties_format.specs.Computed.Encoding.{pieces_of, decoded_of}
 use Rattle.properties_format.specs.Computed.Lines.{lines_of}
 use Rattle.properties_format.specs.Computed.Cut.{cut_of, decoded_line}
@@ -49,19 +49,19 @@ decoded-together e (l ∷ ls) last h = grind (arith, decoded-line, decoded-toget
 -- ---- Its lines.
 
 -- A text contains no CR and no LF; or it is the text before the first one, that one, and the text after it.
-first-end : (x : List ℕ) → HoldsNoLineEnd x ⊎ ((t : List ℕ) × (c : ℕ) × (s : List ℕ) × (is_line_end c ≡ true) × (x ≡ t ++ c ∷ s))
+first-end : (x : List ℕ) → HoldsNoLineEnding x ⊎ ((t : List ℕ) × (c : ℕ) × (s : List ℕ) × (is_line_ending c ≡ true) × (x ≡ t ++ c ∷ s))
 first-end [] = inl tt
-first-end (c ∷ x) = elim (cases_Bool (is_line_end c)) [
+first-end (c ∷ x) = elim (cases_Bool (is_line_ending c)) [
   | inl h ↦ inr ([], c, x, h, refl)
   | inr h ↦ elim (first-end x) [ inl p ↦ inl (h, p) | inr q ↦ inr (c ∷ q.0, q.1, q.2, q.3, ap (λ v. c ∷ v) q.4) ]
 ]
 
 -- A line ending is an ASCII character.
-pub end-ascii : (c : ℕ) → is_line_end c ≡ true → c < 0x80
+pub end-ascii : (c : ℕ) → is_line_ending c ≡ true → c < 0x80
 end-ascii c h = grind (arith)
 
 -- Bytes without a line ending unit decode to a text without a line ending.
-pub no_end-decoded : (e : Encoding) (d : List ℕ) → HoldsNoLineEndUnit e d → HoldsNoLineEnd (decoded_line e d)
+pub no_end-decoded : (e : Encoding) (d : List ℕ) → HoldsNoLineEndingUnit e d → HoldsNoLineEnding (decoded_line e d)
 no_end-decoded e d h = grind (arith, first-end, cut-at_ascii, no_end_unit-at)
 
 -- Only an empty list of bytes decodes to an empty text.
@@ -87,16 +87,16 @@ pub decoded_lines-cut : (e : Encoding) (d : List ℕ) → decoded_lines e (cut_o
 decoded_lines-cut e d = lines_of-only (decoded_line e d) (decoded_lines e (cut_of e d)) (decoded_lines-meets e d (cut_of e d) (cut_of-meets e d))
 
 -- If no decoded line is ended, the lines of bytes, put together, contain no line ending unit.
-no_ended : (e : Encoding) (ls : List Ended) (last : List ℕ) → decoded_ended e ls ≡ [] → AreCut e ls last → HoldsNoLineEndUnit e (bytes_together e ls last)
+no_ended : (e : Encoding) (ls : List Ended) (last : List ℕ) → decoded_ended e ls ≡ [] → AreCut e ls last → HoldsNoLineEndingUnit e (bytes_together e ls last)
 no_ended e [] last h k = k
 no_ended e (l ∷ ls) last h k = absurd (cc)
 
 -- Bytes that decode to a text without a line ending contain no line ending unit.
-pub no_end-undecoded : (e : Encoding) (d : List ℕ) → HoldsNoLineEnd (decoded_line e d) → HoldsNoLineEndUnit e d
+pub no_end-undecoded : (e : Encoding) (d : List ℕ) → HoldsNoLineEnding (decoded_line e d) → HoldsNoLineEndingUnit e d
 no_end-undecoded e d h =
     let c = cut_of-meets e d in
     let k = ap (λ v. v.ended) (decoded_lines-cut e d ∙ lines_of-plain (decoded_line e d) h) in
-    subst (HoldsNoLineEndUnit e) (sym c.bytes) (no_ended e (cut_of e d).ended (cut_of e d).last k c.are_cut)
+    subst (HoldsNoLineEndingUnit e) (sym c.bytes) (no_ended e (cut_of e d).ended (cut_of e d).last k c.are_cut)
 
 -- ---- Splitting commutes with decoding.
 

@@ -1,11 +1,11 @@
 -- The computed lines of some bytes are lines of these bytes.
 use Rattle.std.proofs.Common.{◌≡◌, ℕ, ◌%◌, ◌==◌, ◌<◌, false, List, [], ◌∷◌, ◌++◌, length, refl, ap₂, sym, ◌∙◌, subst, inl, inr, arith, lit<, eqb-true}
 use Rattle.std.proofs.lemmas.Bool.{cases_Bool, or_cases}
-use Rattle.properties_format.specs.Text.{line_feed, carriage_return, is_line_end, LineEnding, lf, cr, line_ending_text}
-use Rattle.properties_format.specs.Lines.{Ended, Lines, put_together, HoldsNoLineEnd, BeginsWithNoLoneLf, AreLines, IsLines}
+use Rattle.properties_format.specs.Text.{line_feed, carriage_return, is_line_ending, LineEnding, lf, cr, line_ending_text}
+use Rattle.properties_format.specs.Lines.{Ended, Lines, put_together, HoldsNoLineEnding, BeginsWithNoLoneLf, AreLines, IsLines}
 use Rattle.properties_format.specs.Utf16.{low_first, high_first}
 use Rattle.properties_format.specs.Encoding.{Encoding, windows_1252, utf_8, utf_16le, utf_16be, IsAligned, ascii_bytes}
-use Rattle.properties_format.specs.Cut.{units_of_two, HoldsNoLineEndUnit, line_ending_bytes, bytes_together, AreCut, IsCut}
+use Rattle.properties_format.specs.Cut.{units_of_two, HoldsNoLineEndingUnit, line_ending_bytes, bytes_together, AreCut, IsCut}
 use Rattle.properties_format.specs.Computed.Lines.{end_before, cr_before, lines_of}
 use Rattle.properties_format.specs.Computed.Cut.{two_before, unit_before, cut_of_two, cut_of}
 use Rattle.properties_format.proofs.Lines.Meets.{lines_of-meets}
@@ -15,7 +15,7 @@ use Rattle.properties_format.proofs.Cut.Only.{ending-windows_1252, ending-utf_8}
 -- ---- If units are bytes.
 
 module _ (e : Encoding) (same : (by : LineEnding) → line_ending_bytes e by ≡ line_ending_text by)
-    (none : (d : List ℕ) → HoldsNoLineEnd d → HoldsNoLineEndUnit e d) (whole : (d : List ℕ) → IsAligned e d) where
+    (none : (d : List ℕ) → HoldsNoLineEnding d → HoldsNoLineEndingUnit e d) (whole : (d : List ℕ) → IsAligned e d) where
   one-together : (ls : List Ended) (last : List ℕ) → put_together ls last ≡ bytes_together e ls last
   one-together [] last = refl
   one-together (l ∷ ls) last = ap₂ (λ v w. l.text ++ (v ++ w)) (sym (same l.by)) (one-together ls last)
@@ -31,8 +31,8 @@ module _ (e : Encoding) (same : (by : LineEnding) → line_ending_bytes e by ≡
 
 -- In this encoding, units are two bytes each, and a CR or an LF has its bytes.
 record IsOfTwo (e : Encoding) (unit : ℕ → ℕ → ℕ) : Type 0 where
-  none : (d : List ℕ) → HoldsNoLineEnd (units_of_two unit d) → HoldsNoLineEndUnit e d
-  units : (d : List ℕ) → HoldsNoLineEndUnit e d → HoldsNoLineEnd (units_of_two unit d)
+  none : (d : List ℕ) → HoldsNoLineEnding (units_of_two unit d) → HoldsNoLineEndingUnit e d
+  units : (d : List ℕ) → HoldsNoLineEndingUnit e d → HoldsNoLineEnding (units_of_two unit d)
   whole : (d : List ℕ) → length d % 2 ≡ 0 → IsAligned e d
   even : (d : List ℕ) → IsAligned e d → length d % 2 ≡ 0
   ascii : (c a b : ℕ) → c < 0x80 → unit a b ≡ c → a ∷ b ∷ [] ≡ ascii_bytes e c
@@ -60,14 +60,14 @@ cr-meets e [] last d h = cr-apart e [] last d tt h
 cr-meets e (l ∷ ls) last d h = cr-meets-line e l.text l.by ls last d h
 
 -- Any other unit at the front.
-two-meets : (e : Encoding) (unit : ℕ → ℕ → ℕ) (a b : ℕ) (ended : List Ended) (last d : List ℕ) → IsOfTwo e unit → is_line_end (unit a b) ≡ false
+two-meets : (e : Encoding) (unit : ℕ → ℕ → ℕ) (a b : ℕ) (ended : List Ended) (last d : List ℕ) → IsOfTwo e unit → is_line_ending (unit a b) ≡ false
     → IsCut e d (record { ended = ended; last = last }) → IsCut e (a ∷ b ∷ d) (two_before a b (record { ended = ended; last = last }))
 two-meets e unit a b ended last d h k m = grind (arith)
 
 -- A line ending unit is a CR or an LF.
 unit-meets : (e : Encoding) (unit : ℕ → ℕ → ℕ) (a b : ℕ) (lines : Lines) (d : List ℕ) → IsOfTwo e unit
     → IsCut e d lines → IsCut e (a ∷ b ∷ d) (unit_before (unit a b) a b lines)
-unit-meets e unit a b lines d t h = elim (cases_Bool (is_line_end (unit a b))) [
+unit-meets e unit a b lines d t h = elim (cases_Bool (is_line_ending (unit a b))) [
   | inl k ↦ elim (or_cases (unit a b == line_feed) (unit a b == carriage_return) k) [
     | inl m ↦
         let q : unit a b ≡ line_feed = eqb-true (unit a b) line_feed m in

@@ -4,13 +4,13 @@ use Rattle.properties_format.specs.Text.{LineEnding, cr, line_ending_text}
 use Rattle.properties_format.specs.Lines.{Ended, Lines, BeginsWithNoLoneLf}
 use Rattle.properties_format.specs.Utf16.{low_first, high_first}
 use Rattle.properties_format.specs.Encoding.{Encoding, windows_1252, utf_8, utf_16le, utf_16be, IsAligned}
-use Rattle.properties_format.specs.Cut.{HoldsNoLineEndUnit, line_ending_bytes, bytes_together, AreCut, IsCut}
+use Rattle.properties_format.specs.Cut.{HoldsNoLineEndingUnit, line_ending_bytes, bytes_together, AreCut, IsCut}
 use Rattle.properties_format.specs.Computed.Cut.{cut_of}
 use Rattle.properties_format.proofs.Lines.Only.{lines_of-plain, lines_of-before}
 use Rattle.properties_format.proofs.Cut.Two.{two-plain, two-line}
 
 -- Bytes without a line ending unit are one line.
-pub cut_of-plain : (e : Encoding) (d : List ℕ) → HoldsNoLineEndUnit e d → cut_of e d ≡ record { ended = []; last = d }
+pub cut_of-plain : (e : Encoding) (d : List ℕ) → HoldsNoLineEndingUnit e d → cut_of e d ≡ record { ended = []; last = d }
 cut_of-plain utf_16le d h = two-plain low_first d h
 cut_of-plain utf_16be d h = two-plain high_first d h
 cut_of-plain e d h = lines_of-plain d h
@@ -25,7 +25,7 @@ ending-utf_8 by = grind (arith)
 
 -- A line and its end before bytes whose lines are known.
 pub cut_of-before : (e : Encoding) (text : List ℕ) (by : LineEnding) (y : List ℕ) (ls : List Ended) (last : List ℕ)
-    → HoldsNoLineEndUnit e text → IsAligned e text → (by ≡ cr → BeginsWithNoLoneLf ls) → cut_of e y ≡ record { ended = ls; last = last }
+    → HoldsNoLineEndingUnit e text → IsAligned e text → (by ≡ cr → BeginsWithNoLoneLf ls) → cut_of e y ≡ record { ended = ls; last = last }
     → cut_of e (text ++ (line_ending_bytes e by ++ y)) ≡ record { ended = record { text = text; by = by } ∷ ls; last = last }
 cut_of-before windows_1252 text by y ls last p a k h = rw (ending-windows_1252 by) (lines_of-before text by y ls last p k h)
 cut_of-before utf_8 text by y ls last p a k h = rw (ending-utf_8 by) (lines_of-before text by y ls last p k h)

@@ -2,7 +2,7 @@
 use Rattle.std.proofs.Common.{◌≡◌, ◌≢◌, ℕ, true, List, [], ◌∷◌, ◌++◌, Some, None, refl, ap, sym, ◌∙◌, inl, inr, append-nil, subst}
 use Rattle.properties_format.specs.Text.{LineEnding, line_ending_text}
 use Rattle.properties_format.specs.Encoding.{Encoding}
-use Rattle.properties_format.specs.Lines.{Ended, HoldsNoLineEnd, IsWhole, joined}
+use Rattle.properties_format.specs.Lines.{Ended, HoldsNoLineEnding, IsWhole, joined}
 use Rattle.properties_format.specs.Computed.Cut.{decoded_line}
 use Rattle.properties_format.specs.Items.{pair, given}
 use Rattle.properties_format.specs.Body.{HeldLine, HasKey, as_groups, as_lines, groups_bytes}
@@ -40,7 +40,7 @@ empty-other e key = has_key-false key (empty_line e None ∷ []) (ap (is_pair_wi
 -- ---- a pair after closed groups
 
 module _ (e : Encoding) (by second : LineEnding) (gs : List (List HeldLine)) (key value pb : List ℕ) (ok : is_editable e ≡ true) (k : AreClosedBy e by gs)
-    (plain : HoldsNoLineEnd pb) (some : pb ≢ []) (whole : IsWhole (record { number = 0; text = decoded_line e pb } ∷ []))
+    (plain : HoldsNoLineEnding pb) (some : pb ≢ []) (whole : IsWhole (record { number = 0; text = decoded_line e pb } ∷ []))
     (said : outcome_of (joined (record { number = 0; text = decoded_line e pb } ∷ [])) ≡ given (pair key value)) where
   abbrev pub line : HeldLine
   line = record { bytes = pb; text = decoded_line e pb; ending = Some second }

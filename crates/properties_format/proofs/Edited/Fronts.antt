@@ -3,7 +3,7 @@
 use Rattle.std.proofs.Common.{◌≡◌, ℕ, ◌+◌, Bool, true, false, List, [], ◌∷◌, ◌++◌, refl, ap, ◌∙◌, inr, arith}
 use Rattle.properties_format.specs.Text.{line_feed}
 use Rattle.properties_format.specs.Encoding.{Encoding}
-use Rattle.properties_format.specs.Lines.{Ended, Lines, end, more, Line, numbered, line_ends, IsWhole, joined}
+use Rattle.properties_format.specs.Lines.{Ended, Lines, end, more, Line, numbered, line_endings, IsWhole, joined}
 use Rattle.properties_format.specs.Computed.Lines.{lines_of, ends_in_cr, rest_of_end, lines_to_come, groups_of}
 use Rattle.properties_format.specs.Items.{ignored}
 use Rattle.properties_format.specs.Changed.{line_before, AreLinesOf}
@@ -79,7 +79,7 @@ line_texts-append : (e : Encoding) (x d : List ℕ) → (lines_of x).last ≡ []
 line_texts-append e x d h =
     let ls = lines_of x in
     rw (← line_texts-numbered e 0 (x ++ d), lines_to_come-append 0 x d end, decoded_each-append, decoded-more e 0 ls.ended ls.last, h)
-    (ap (λ v. ended_lines e ls.ended ++ v) (line_texts-numbered e (0 + line_ends ls) (rest_of_end (ends_in_cr x) d)))
+    (ap (λ v. ended_lines e ls.ended ++ v) (line_texts-numbered e (0 + line_endings ls) (rest_of_end (ends_in_cr x) d)))
 
 -- ---- a group at the front
 

@@ -4,7 +4,7 @@ use Rattle.std.specs.Prelude.{All}
 use Rattle.std.proofs.lemmas.List.Elements.{recursion_from_All}
 use Rattle.properties_format.specs.Text.{scalar, equals_sign}
 use Rattle.properties_format.specs.Encoding.{Encoding, output_encoding, Repertoire}
-use Rattle.properties_format.specs.Lines.{HoldsNoLineEnd, Line, IsWhole, joined}
+use Rattle.properties_format.specs.Lines.{HoldsNoLineEnding, Line, IsWhole, joined}
 use Rattle.properties_format.specs.Items.{pair, given}
 use Rattle.properties_format.specs.Computed.Items.{outcome_of}
 use Rattle.properties_format.specs.Printing.{in_key_or_value, printed_characters, encoded_text, printed_key}
@@ -75,5 +75,5 @@ pair-outcome t first key value h k =
 
 -- Its bytes contain no CR and no LF.
 pub pair-plain : (r : Repertoire) (first : Bool) (key value : List ℕ) → is_editable r.encoding ≡ true → All scalar key → All scalar value
-    → HoldsNoLineEnd (pair_bytes r first key value)
+    → HoldsNoLineEnding (pair_bytes r first key value)
 pair-plain r first key value ok h k = plain-bytes r.encoding _ ok (rw (pair-decoded r first key value ok h k) (pair-read_as r first key value h k).plain)

@@ -5,7 +5,7 @@ use Rattle.properties_format.specs.Text.{LineEnding, cr}
 use Rattle.properties_format.specs.Encoding.{Encoding, IsAligned}
 use Rattle.properties_format.specs.Lines.{Lines, is_open, is_comment_line}
 use Rattle.properties_format.specs.Computed.Lines.{begins_with_lf}
-use Rattle.properties_format.specs.Cut.{units, HoldsNoLineEndUnit, line_ending_bytes}
+use Rattle.properties_format.specs.Cut.{units, HoldsNoLineEndingUnit, line_ending_bytes}
 use Rattle.properties_format.specs.Computed.Cut.{decoded_line}
 use Rattle.properties_format.specs.Body.{HeldLine, HasKey, last_ending}
 use Rattle.properties_format.specs.Edited.{final_group, is_last_open, is_left_open, is_empty_line}
@@ -18,13 +18,13 @@ use Rattle.properties_format.proofs.Edited.Made.{last_place-some}
 -- ---- the next line
 
 -- A line and its ending before any bytes; a CR is a line ending by itself only if no LF unit follows.
-pub held_lines-line : (e : Encoding) (text : List ℕ) (by : LineEnding) (y : List ℕ) → HoldsNoLineEndUnit e text → IsAligned e text
+pub held_lines-line : (e : Encoding) (text : List ℕ) (by : LineEnding) (y : List ℕ) → HoldsNoLineEndingUnit e text → IsAligned e text
     → (by ≡ cr → begins_with_lf (units e y) ≡ false)
     → held_lines_of e (text ++ (line_ending_bytes e by ++ y)) ≡ record { bytes = text; text = decoded_line e text; ending = Some by } ∷ held_lines_of e y
 held_lines-line e text by y h a k = ap (λ v. let w : Lines = v in held_of e w.ended w.last) (cut_of-line e text by y h a k)
 
 -- the last line
-pub held_lines-last : (e : Encoding) (text : List ℕ) → HoldsNoLineEndUnit e text
+pub held_lines-last : (e : Encoding) (text : List ℕ) → HoldsNoLineEndingUnit e text
     → held_lines_of e text ≡ record { bytes = text; text = decoded_line e text; ending = None } ∷ []
 held_lines-last e text h = ap (λ v. let w : Lines = v in held_of e w.ended w.last) (cut_of-plain e text h)
 

@@ -14,7 +14,7 @@ use Rattle.properties_format.specs.Valued.{ending_among, ending_in, IsBodyValued
 use Rattle.properties_format.specs.Edits.{Edit, put, remove, set_value, IsEdited, AreEdited, IsEditAllResult, IsEditPairsResult}
 use Rattle.properties_format.specs.AsciiOnly.{AreAsciiBytes, AreItemsInBoth, beyond_ascii, IsSubsequence, PutsInAscii, IsInAscii}
 use Rattle.properties_format.proofs.Encodings.ByteOrderMarks.{decoded_of-unmarked}
-use Rattle.properties_format.proofs.Printing.Characters.{AreAscii, AreAscii-append, AreEncodable-ascii, encoded_text-ascii, line_end-ascii}
+use Rattle.properties_format.proofs.Printing.Characters.{AreAscii, AreAscii-append, AreEncodable-ascii, encoded_text-ascii, line_ending-ascii}
 use Rattle.properties_format.proofs.ReadBack.Bytes.{ascii-scalars, text-decoded}
 use Rattle.properties_format.proofs.AsciiOnly.{ascii-unmarked, bytes-ascii, ascii-of}
 use Rattle.properties_format.proofs.Items.Unique.{items_of-meets}
@@ -135,7 +135,7 @@ valued-puts e gs key value body (inr (inl r)) =
     rw (r.division, groups_bytes-append r.before (r.group ∷ r.after), r.bytes, front-bytes e r.group r.between r.front r.is_front, append_assoc r.front)
     (puts-after (groups_bytes r.before) _ _ (puts-after r.front _ _ (search (puts-tail, encoded-in_ascii, value_text-ascii))))
 valued-puts e gs key value body (inr (inr r)) =
-    let one : AreAscii (ending_in gs) = line_end-ascii (ending_among lf (held_in gs)) in
+    let one : AreAscii (ending_in gs) = line_ending-ascii (ending_among lf (held_in gs)) in
     rw (r.bytes, append_assoc)
     (more-puts (groups_bytes gs) _ (search (AreAscii-append, separation_by-ascii, new_pair_bytes-ascii, one, (new_separator-fit gs key r.separator r.is_separator).good)))
 
@@ -161,7 +161,7 @@ module _ (e : Encoding) (source : List ℕ) (ok : is_editable (byte_order_mark e
           rw (r.division, groups_bytes-append r.before _, r.bytes) (puts-after (groups_bytes r.before) _ _ (search (puts-tail, pair_bytes-ascii)))
       set-puts (inr r) =
           rw (r.bytes, append_assoc)
-          (more-puts (groups_bytes h.groups) _ (search (AreAscii-append, separation_by-ascii, line_end-ascii, line_end-ascii lf, pair_bytes-ascii)))
+          (more-puts (groups_bytes h.groups) _ (search (AreAscii-append, separation_by-ascii, line_ending-ascii, line_ending-ascii lf, pair_bytes-ascii)))
 
   -- A key that is removed puts in an LF at most.
   pub key_removed-puts : (key result : List ℕ) → IsKeyRemoved e source key result → PutsInAscii source result

@@ -3,7 +3,7 @@ use Rattle.std.proofs.Common.{◌≡◌, ℕ, true, List, [], ◌∷◌, refl, s
 use Rattle.std.specs.Prelude.{if◌then◌else◌}
 use Rattle.std.proofs.lemmas.Bool.{cases_Bool, cond-true}
 use Rattle.properties_format.specs.Encoding.{Encoding, byte_order_mark, Repertoire}
-use Rattle.properties_format.specs.Lines.{end, InputEnd, Line, line_ends, numbered_lines}
+use Rattle.properties_format.specs.Lines.{end, InputEnd, Line, line_endings, numbered_lines}
 use Rattle.properties_format.specs.Computed.Encoding.{decoded_of}
 use Rattle.properties_format.specs.Computed.Lines.{lines_of, groups_of}
 use Rattle.properties_format.specs.Items.{AreItems}
@@ -92,7 +92,7 @@ same-results_of : (e : Encoding) (source made : List ℕ) → EscapesAre e sourc
 unfolding items_of malformed_escapes_of
 same-results_of e source made h =
     let lines = lines_of (decoded_of e source) in
-    rw (same-groups (line_ends lines) (groups_of (numbered_lines lines end) end) made (rw (malformed_escapes_of-only e source h.0 h.1) at h.2))
+    rw (same-groups (line_endings lines) (groups_of (numbered_lines lines end) end) made (rw (malformed_escapes_of-only e source h.0 h.1) at h.2))
 
 -- The results of such a source are the same as if its comments were read.
 pub passing_over-is_reading : (r : Repertoire) (source : List ℕ) (edits : List Edit) → PassingOverIsReading r source edits
@@ -113,4 +113,4 @@ pub no-escapes : (e : Encoding) (source : List ℕ) → AreItems (items_of e sou
 unfolding items_of malformed_escapes_of
 no-escapes e source h =
     let lines = lines_of (decoded_of e source) in
-    sound-escapes (line_ends lines) end (groups_of (numbered_lines lines end) end) h
+    sound-escapes (line_endings lines) end (groups_of (numbered_lines lines end) end) h

@@ -1,7 +1,7 @@
 -- The pairs of a source: they exist and are unique, and their map changes as the edits say, whatever the comments are.
 use Rattle.std.proofs.Common.{◌≡◌, ℕ, false, List, [], ◌∷◌, ◌++◌, Option, refl, ap, sym, ◌∙◌, subst}
 use Rattle.properties_format.specs.Encoding.{Encoding, Repertoire}
-use Rattle.properties_format.specs.Lines.{end, Line, line_ends, joined, first_number}
+use Rattle.properties_format.specs.Lines.{end, Line, line_endings, joined, first_number}
 use Rattle.properties_format.specs.Items.{comment, pair, Entry, item, AreItems, Outcome, ignored, given, broken}
 use Rattle.properties_format.specs.Maps.{IsMap, IsValue}
 use Rattle.properties_format.specs.Edited.{edited}
@@ -91,7 +91,7 @@ values-same n (g ∷ gs) key h = value-step (first_number g) (outcome_of (joined
 
 items-values : (e : Encoding) (source key : List ℕ) → AreItems (items_of e source end) → value_in (pairs_of e source) key ≡ value_in (items_of e source end) key
 unfolding items_of
-items-values e source key h = values-same (line_ends (lines_of (decoded_of e source))) _ key h
+items-values e source key h = values-same (line_endings (lines_of (decoded_of e source))) _ key h
 
 -- The value of a key in such a source is the same where comments are passed over.
 pub value-among_pairs : (e : Encoding) (source key : List ℕ) (value : Option (List ℕ)) → ValueIsAmongPairs e source key value

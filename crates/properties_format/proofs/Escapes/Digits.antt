@@ -2,7 +2,7 @@
 use Rattle.std.proofs.Common.{◌≡◌, ◌==◌, ℕ, ◌+◌, ◌*◌, ◌/◌, ◌%◌, ◌<◌, true, false, arith}
 use Rattle.std.specs.Char.{digit_char}
 use Rattle.std.proofs.lemmas.Bool.{and_from, and_parts, le-leb, lt-ltb}
-use Rattle.properties_format.specs.Text.{backslash, is_blank, is_line_end, is_separator}
+use Rattle.properties_format.specs.Text.{backslash, is_blank, is_line_ending, is_separator}
 use Rattle.properties_format.specs.Escapes.{is_hexadecimal, hexadecimal_value, Four, are_hexadecimal, code_unit, is_high, is_low}
 use Rattle.properties_format.specs.Printing.{high_surrogate, low_surrogate}
 
@@ -22,7 +22,7 @@ hexadecimal-plain c h = (not_backslash c h, grind (arith), grind (arith))
     not_backslash c h = grind (arith)
 
 -- A hexadecimal digit isn't a line ending.
-pub digit-plain : (c : ℕ) → is_hexadecimal c ≡ true → is_line_end c ≡ false
+pub digit-plain : (c : ℕ) → is_hexadecimal c ≡ true → is_line_ending c ≡ false
 digit-plain c h = grind (arith)
 
 -- Each of four hexadecimal digits is a hexadecimal digit.

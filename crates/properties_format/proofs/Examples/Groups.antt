@@ -1,7 +1,7 @@
 -- Worked examples of groups, of logical lines, and of the line in which a read fails.
 use Rattle.std.proofs.Common.{◌≡◌, ℕ, ◌+◌, List, [], ◌∷◌, refl}
 use Rattle.std.specs.Prelude.{map, codes}
-use Rattle.properties_format.specs.Lines.{Line, line_ends, numbered_lines, InputEnd, end, fault, more, ending_backslashes}
+use Rattle.properties_format.specs.Lines.{Line, line_endings, numbered_lines, InputEnd, end, fault, more, ending_backslashes}
 use Rattle.properties_format.specs.Computed.Lines.{lines_of, logical_lines}
 
 -- natural lines, numbered
@@ -160,5 +160,5 @@ faults =
     ∷ (codes "a\\\n", 2)
     ∷ []
 
-each_failed : map (λ (text, number). line_ends (lines_of text) + 1) faults ≡ map (λ (text, number). number) faults
+each_failed : map (λ (text, number). line_endings (lines_of text) + 1) faults ≡ map (λ (text, number). number) faults
 each_failed = refl

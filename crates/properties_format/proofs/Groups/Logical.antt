@@ -1,7 +1,7 @@
 -- The logical lines, given the next natural line.
 use Rattle.std.proofs.Common.{arith, ◌≡◌, ℕ, ◌+◌, ◌⊎◌, true, false, List, [], ◌∷◌, ◌++◌, refl, inl, inr}
 use Rattle.properties_format.specs.Text.{LineEnding, cr, line_ending_text}
-use Rattle.properties_format.specs.Lines.{HoldsNoLineEnd, Line, InputEnd, is_open, is_comment_line, without_open_backslash, joined, addition}
+use Rattle.properties_format.specs.Lines.{HoldsNoLineEnding, Line, InputEnd, is_open, is_comment_line, without_open_backslash, joined, addition}
 use Rattle.properties_format.specs.Computed.Lines.{begins_with_lf, lines_to_come, groups_after, groups_of, logical, logical_lines, joins_after}
 use Rattle.properties_format.proofs.Lines.Steps.{lines_to_come-line}
 use Rattle.properties_format.proofs.Groups.Steps.{groups_of-comment_line, groups_of-closed, groups_of-open, groups_after-closed, groups_after-open}
@@ -36,7 +36,7 @@ abbrev pub IsNotContinued : List ℕ → Type 0
 IsNotContinued x = (is_comment_line x ≡ true) ⊎ (is_open x ≡ false)
 
 -- Such a line is a group.
-pub groups-line : (n : ℕ) (text : List ℕ) (by : LineEnding) (y : List ℕ) (e : InputEnd) → HoldsNoLineEnd text → (by ≡ cr → begins_with_lf y ≡ false)
+pub groups-line : (n : ℕ) (text : List ℕ) (by : LineEnding) (y : List ℕ) (e : InputEnd) → HoldsNoLineEnding text → (by ≡ cr → begins_with_lf y ≡ false)
     → IsNotContinued text
     → groups_of (lines_to_come n false [] (text ++ (line_ending_text by ++ y)) e) e
     ≡ (record { number = n + 1; text = text } ∷ []) ∷ groups_of (lines_to_come (n + 1) false [] y e) e

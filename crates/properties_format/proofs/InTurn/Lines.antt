@@ -2,7 +2,7 @@
 use Rattle.std.proofs.Common.{◌≡◌, ◌≢◌, ℕ, true, false, List, [], ◌∷◌, ◌++◌, Option, Some, None, refl, ap, ap₂, sym, ◌∙◌, append_assoc, append-nil}
 use Rattle.properties_format.specs.Text.{LineEnding, lf, cr, line_ending_text}
 use Rattle.properties_format.specs.Encoding.{Encoding}
-use Rattle.properties_format.specs.Lines.{Lines, HoldsNoLineEnd}
+use Rattle.properties_format.specs.Lines.{Lines, HoldsNoLineEnding}
 use Rattle.properties_format.specs.Computed.Lines.{begins_with_lf, ends_in_cr}
 use Rattle.properties_format.specs.Body.{HeldLine, as_lines, ending_bytes, group_bytes, last_ending}
 use Rattle.properties_format.specs.Edited.{is_editable, is_empty_line}
@@ -19,9 +19,9 @@ use Rattle.properties_format.proofs.Edited.LogicalLines.{ends-right}
 -- separated from an LF.
 abbrev pub AreLinesBy : Encoding → Option LineEnding → List HeldLine → Type 0
 AreLinesBy e o [] = ⊥
-AreLinesBy e o (h ∷ []) = HoldsNoLineEnd h.bytes × (h.text ≡ decoded_line e h.bytes) × (h.ending ≡ o)
+AreLinesBy e o (h ∷ []) = HoldsNoLineEnding h.bytes × (h.text ≡ decoded_line e h.bytes) × (h.ending ≡ o)
 AreLinesBy e o (h ∷ i ∷ hs) =
-    HoldsNoLineEnd h.bytes × (h.text ≡ decoded_line e h.bytes)
+    HoldsNoLineEnding h.bytes × (h.text ≡ decoded_line e h.bytes)
     × ((by : LineEnding) × (h.ending ≡ Some by) × (by ≡ cr → begins_with_lf (group_bytes (i ∷ hs)) ≡ false))
     × AreLinesBy e o (i ∷ hs)
 
@@ -31,7 +31,7 @@ line-made : (e : Encoding) (h : HeldLine) (o : Option LineEnding) → h.text ≡
 line-made e h o s t = rw (← s, ← t)
 
 -- An ended line before any bytes.
-lines-next : (e : Encoding) (h : HeldLine) (by : LineEnding) (y : List ℕ) → is_editable e ≡ true → HoldsNoLineEnd h.bytes → h.text ≡ decoded_line e h.bytes
+lines-next : (e : Encoding) (h : HeldLine) (by : LineEnding) (y : List ℕ) → is_editable e ≡ true → HoldsNoLineEnding h.bytes → h.text ≡ decoded_line e h.bytes
     → h.ending ≡ Some by → (by ≡ cr → begins_with_lf y ≡ false) → held_lines_of e (h.bytes ++ (ending_bytes h.ending ++ y)) ≡ h ∷ held_lines_of e y
 lines-next e h by y ok p s t k =
     ap (λ o. held_lines_of e (h.bytes ++ (ending_bytes o ++ y))) t
@@ -124,7 +124,7 @@ pub bytes-with : (o : Option LineEnding) (h : HeldLine) (hs : List HeldLine) →
 bytes-with o h hs = rw (bytes-unended, unended-with, ending-with)
 
 -- A line before others.
-line-before : (e : Encoding) (o : Option LineEnding) (h : HeldLine) (by : LineEnding) (w : List HeldLine) → HoldsNoLineEnd h.bytes
+line-before : (e : Encoding) (o : Option LineEnding) (h : HeldLine) (by : LineEnding) (w : List HeldLine) → HoldsNoLineEnding h.bytes
     → h.text ≡ decoded_line e h.bytes → h.ending ≡ Some by → (by ≡ cr → begins_with_lf (group_bytes w) ≡ false) → AreLinesBy e o w → AreLinesBy e o (h ∷ w)
 line-before e o h by [] p s t k a = absurd a
 line-before e o h by (i ∷ w) p s t k a = (p, s, (by, t, k), a)

@@ -2,7 +2,7 @@
 use Rattle.std.proofs.Common.{ℕ, ◌+◌, ◌<◌, ◌≤◌, List, [], ◌∷◌, ◌++◌, length, arith, append_assoc, subst, zero-add}
 use Rattle.properties_format.specs.Encoding.{Encoding}
 use Rattle.properties_format.specs.Computed.Encoding.{decoded_of}
-use Rattle.properties_format.specs.Lines.{InputEnd, end, Ended, Line, Lines, line_ends, numbered, AreWhole, lines_in, last_group, IsGroups, first_number}
+use Rattle.properties_format.specs.Lines.{InputEnd, end, Ended, Line, Lines, line_endings, numbered, AreWhole, lines_in, last_group, IsGroups, first_number}
 use Rattle.properties_format.specs.Computed.Lines.{lines_of, groups_of, groups_in}
 use Rattle.properties_format.specs.Items.{Entry, NumbersAscend, last_entries}
 use Rattle.properties_format.specs.Computed.Items.{entries_of, items_of}
@@ -90,11 +90,11 @@ entries-ascend low high n ending (g ∷ gs) h k =
 
 -- The numbers of the entries of lines after n line endings ascend strictly, and are at least n + 1.
 pub lines-ascend : (n : ℕ) (lines : Lines) (ending : InputEnd)
-    → NumbersAscend n (entries_of (n + line_ends lines) ending (groups_of (numbered n lines.ended lines.last ending) ending))
+    → NumbersAscend n (entries_of (n + line_endings lines) ending (groups_of (numbered n lines.ended lines.last ending) ending))
 lines-ascend n lines ending =
-    let high = n + line_ends lines + last_line ending in
+    let high = n + line_endings lines + last_line ending in
     let numbers = numbered n lines.ended lines.last ending in
-    entries-ascend n high (n + line_ends lines) ending (groups_of numbers ending) (omega arith)
+    entries-ascend n high (n + line_endings lines) ending (groups_of numbers ending) (omega arith)
     (groups-within n high numbers ending (groups_of numbers ending) (groups_of-meets numbers ending)
     (numbered-within n lines.ended lines.last ending high (omega arith)))
 
@@ -103,4 +103,4 @@ pub items_of-ascend : (e : Encoding) (bytes : List ℕ) (ending : InputEnd) → 
 unfolding items_of
 items_of-ascend e bytes ending =
     let lines = lines_of (decoded_of e bytes) in
-    subst (λ v. NumbersAscend 0 (entries_of v ending (groups_in e bytes ending))) (zero-add (line_ends lines)) (lines-ascend 0 lines ending)
+    subst (λ v. NumbersAscend 0 (entries_of v ending (groups_in e bytes ending))) (zero-add (line_endings lines)) (lines-ascend 0 lines ending)

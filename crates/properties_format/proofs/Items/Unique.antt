@@ -2,7 +2,7 @@
 use Rattle.std.proofs.Common.{◌≡◌, ℕ, List, [], ◌∷◌, refl, ap, ap₂, ◌∙◌, inl, inr}
 use Rattle.properties_format.specs.Encoding.{Encoding}
 use Rattle.properties_format.specs.Computed.Encoding.{decoded_of}
-use Rattle.properties_format.specs.Lines.{InputEnd, Line, line_ends, joined, first_number}
+use Rattle.properties_format.specs.Lines.{InputEnd, Line, line_endings, joined, first_number}
 use Rattle.properties_format.specs.Computed.Lines.{lines_of, groups_in}
 use Rattle.properties_format.specs.Split.{Logical, IsSplit}
 use Rattle.properties_format.specs.Computed.Split.{split_of}
@@ -98,12 +98,12 @@ module _ (e : Encoding) (bytes : List ℕ) (ending : InputEnd) where
   items_of-meets =
       let groups = groups_in e bytes ending in
       let h = groups_in-meets e bytes ending in
-      let entries = entries_of-meets (line_ends (lines_of (decoded_of e bytes))) ending groups in
+      let entries = entries_of-meets (line_endings (lines_of (decoded_of e bytes))) ending groups in
       record { groups = groups; has_groups = h; are_entries = rw (lines_in-only e bytes ending h) entries }
 
   -- The input has no other items.
   pub items_of-only : (entries : List Entry) → IsItems e bytes ending entries → entries ≡ items_of e bytes ending
   unfolding items_of
   items_of-only entries h =
-      entries_of-only (line_ends h.has_groups.lines) ending h.groups entries h.are_entries
-      ∙ ap₂ (λ v w. entries_of (line_ends v) ending w) (lines_in-only e bytes ending h.has_groups) (groups_in-only e bytes ending h.groups h.has_groups)
+      entries_of-only (line_endings h.has_groups.lines) ending h.groups entries h.are_entries
+      ∙ ap₂ (λ v w. entries_of (line_endings v) ending w) (lines_in-only e bytes ending h.has_groups) (groups_in-only e bytes ending h.groups h.has_groups)

@@ -3,7 +3,7 @@ use Rattle.std.proofs.Common.{arith, ◌≡◌, ℕ, ◌+◌, false, List, ◌�
 use Rattle.std.proofs.lemmas.Bool.{cases_Bool}
 use Rattle.properties_format.specs.Text.{characters}
 use Rattle.properties_format.specs.Computed.Encoding.{pieces_of}
-use Rattle.properties_format.specs.Lines.{InputEnd, Line, line_ends, numbered}
+use Rattle.properties_format.specs.Lines.{InputEnd, Line, line_endings, numbered}
 use Rattle.properties_format.specs.Computed.Lines.{lines_of}
 use Rattle.properties_format.specs.Items.{Entry, last_entries}
 use Rattle.properties_format.specs.ItemsToCome.{ReaderState, in_force, IsItemsToCome, AreLinesToCome, ComesFirst, LinesComeFirst}
@@ -40,7 +40,7 @@ first_comes {new = new} h = record { items = λ d ending. to_come_are (h.others 
 -- the ending adds.
 natural-going : (s : ReaderState) (d : List ℕ) (ending : InputEnd) → s.is_done ≡ false
     → (natural_to_come s d ending ≡ numbered s.passed (lines_of (text_to_come s d)).ended (lines_of (text_to_come s d)).last ending)
-    × (last_to_come s d ending ≡ last_entries (s.passed + line_ends (lines_of (text_to_come s d))) ending)
+    × (last_to_come s d ending ≡ last_entries (s.passed + line_endings (lines_of (text_to_come s d))) ending)
 unfolding natural_to_come last_to_come
 natural-going s d ending h = (rw h refl, rw h refl)
 

@@ -2,11 +2,11 @@
 -- is taken, the input ends.
 use Rattle.std.proofs.Common.{rules, arith, ◌≡◌, ◌==◌, ℕ, ◌+◌, ◌<◌, Bool, true, false, List, [], ◌∷◌, ◌++◌, length, refl, ap, ap₂, sym, ◌∙◌, inl, inr, append_assoc, append-nil, eqb-true, add-zero}
 use Rattle.std.proofs.lemmas.Bool.{or_cases}
-use Rattle.properties_format.specs.Text.{line_feed, carriage_return, is_line_end, LineEnding, lf, characters}
+use Rattle.properties_format.specs.Text.{line_feed, carriage_return, is_line_ending, LineEnding, lf, characters}
 use Rattle.properties_format.specs.Encoding.{InForce, ascii_bytes, byte_order_mark, IsAligned}
 use Rattle.properties_format.specs.Computed.Encoding.{pieces_of, awaits_bom}
 use Rattle.properties_format.specs.Computed.Cut.{decoded_line}
-use Rattle.properties_format.specs.Lines.{HoldsNoLineEnd, InputEnd, end, more, numbered}
+use Rattle.properties_format.specs.Lines.{HoldsNoLineEnding, InputEnd, end, more, numbered}
 use Rattle.properties_format.specs.Computed.Lines.{begins_with_lf, rest_of_end, lines_of}
 use Rattle.properties_format.specs.Items.{last_entries}
 use Rattle.properties_format.specs.ItemsToCome.{ReaderState, in_force}
@@ -18,7 +18,7 @@ use Rattle.properties_format.proofs.Cut.Units.{lf_first-append}
 use Rattle.properties_format.proofs.Cut.Byline.{no_end-decoded, end-ascii}
 use Rattle.properties_format.proofs.Cut.Steps.{line_in_front}
 use Rattle.properties_format.proofs.Cut.ToCome.{decoded-no_lf}
-use Rattle.properties_format.specs.Cut.{units, HoldsNoLineEndUnit}
+use Rattle.properties_format.specs.Cut.{units, HoldsNoLineEndingUnit}
 use Rattle.properties_format.proofs.Lines.Steps.{lines_of-line, lines_of-cr, cr_end}
 use Rattle.properties_format.proofs.Encodings.Cuts.{characters-cut_ascii}
 use Rattle.properties_format.proofs.Encodings.Characters.{pieces_of-ascii}
@@ -35,9 +35,9 @@ pub record HoldsLine (s : ReaderState) (l : List ℕ) (c : ℕ) (rest : List ℕ
   pub decided : s.is_decided ≡ true
   pub passed : s.after_cr ≡ false
   pub held : s.held ≡ l ++ (ascii_bytes s.encoding c ++ rest)
-  pub ends : is_line_end c ≡ true
+  pub ends : is_line_ending c ≡ true
   pub aligned : IsAligned s.encoding l
-  pub none : HoldsNoLineEndUnit s.encoding l
+  pub none : HoldsNoLineEndingUnit s.encoding l
 
 -- ---- states with equal text to come
 
@@ -110,7 +110,7 @@ gives-passed_last s ending h m = gives-passed s [] ending h (ap (λ v. begins_wi
 -- ---- a line
 
 -- A line and the character that ends it, before any text.
-pub lines_of-ended : (text : List ℕ) (c : ℕ) (y : List ℕ) → HoldsNoLineEnd text → is_line_end c ≡ true
+pub lines_of-ended : (text : List ℕ) (c : ℕ) (y : List ℕ) → HoldsNoLineEnding text → is_line_ending c ≡ true
     → (by : LineEnding)
     × (lines_of (text ++ c ∷ y) ≡ line_in_front text by (lines_of (rest_of_end (c == carriage_return) y)))
 lines_of-ended text c y h k = elim (or_cases (c == line_feed) (c == carriage_return) k) [
@@ -126,7 +126,7 @@ unfolding natural_to_come last_to_come
 gives-lines s t d ending text by h k m e = grind (arith, one-more)
 
 -- The decoded line is known to contain no line ending.
-line-plain : (s : ReaderState) (l : List ℕ) (c : ℕ) (rest d : List ℕ) (ending : InputEnd) → HoldsLine s l c rest → HoldsNoLineEnd (decoded_line s.encoding l)
+line-plain : (s : ReaderState) (l : List ℕ) (c : ℕ) (rest d : List ℕ) (ending : InputEnd) → HoldsLine s l c rest → HoldsNoLineEnding (decoded_line s.encoding l)
     → Gives s d (next_line s l ∷ []) (after_line s c rest) d ending
 line-plain s l c rest d ending h plain =
     let text = decoded_line s.encoding l in
@@ -146,7 +146,7 @@ gives-line s l c rest d ending h = line-plain s l c rest d ending h (no_end-deco
 -- ---- nothing comes
 
 -- What is returned if nothing more comes.
-at-last : (s : ReaderState) (ending : InputEnd) → HoldsNoEnd s → HoldsNoLineEnd (decoded_line s.encoding s.held)
+at-last : (s : ReaderState) (ending : InputEnd) → HoldsNoEnd s → HoldsNoLineEnding (decoded_line s.encoding s.held)
     → (natural_to_come s [] ending ≡ numbered s.passed [] (next_line s s.held).text ending) × (last_to_come s [] ending ≡ last_entries s.passed ending)
 unfolding natural_to_come last_to_come
 at-last s ending h plain = search (rules, add-zero, text-decided, append-nil, rest_of_end-none, plain-no_lf, lines_of-plain)

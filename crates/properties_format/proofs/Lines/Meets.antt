@@ -2,12 +2,12 @@
 use Rattle.std.proofs.Common.{rules, arith, ◌≡◌, ℕ, false, List, [], ◌∷◌, refl}
 use Rattle.std.proofs.lemmas.Bool.{or_from, or_parts}
 use Rattle.std.proofs.lemmas.Bool.Decides.{eqb_tells}
-use Rattle.properties_format.specs.Text.{carriage_return, is_line_end}
+use Rattle.properties_format.specs.Text.{carriage_return, is_line_ending}
 use Rattle.properties_format.specs.Lines.{Ended, Lines, IsLines}
 use Rattle.properties_format.specs.Computed.Lines.{cr_before, character_before, before, lines_of}
 
 -- A character that ends no line is neither a CR nor an LF.
-pub before-plain : (c : ℕ) (lines : Lines) → is_line_end c ≡ false → before c lines ≡ character_before c lines.ended lines.last
+pub before-plain : (c : ℕ) (lines : Lines) → is_line_ending c ≡ false → before c lines ≡ character_before c lines.ended lines.last
 before-plain c lines h = grind (arith, or_parts)
 
 -- A CR before any lines, or before none.

@@ -1,12 +1,12 @@
 -- A text has exactly one list of lines, and a line before a text is a line before its lines.
 use Rattle.std.proofs.Common.{arith, ◌≡◌, ℕ, List, [], ◌∷◌, ◌++◌, refl, ap, sym, ◌∙◌}
 use Rattle.properties_format.specs.Text.{LineEnding, lf, cr, line_ending_text}
-use Rattle.properties_format.specs.Lines.{Ended, Lines, put_together, HoldsNoLineEnd, BeginsWithNoLoneLf, AreLines, IsLines}
+use Rattle.properties_format.specs.Lines.{Ended, Lines, put_together, HoldsNoLineEnding, BeginsWithNoLoneLf, AreLines, IsLines}
 use Rattle.properties_format.specs.Computed.Lines.{end_before, cr_before, before, lines_of}
 use Rattle.properties_format.proofs.Lines.Meets.{before-plain}
 
 -- A text without line endings is one line.
-pub lines_of-plain : (l : List ℕ) → HoldsNoLineEnd l → lines_of l ≡ record { ended = []; last = l }
+pub lines_of-plain : (l : List ℕ) → HoldsNoLineEnding l → lines_of l ≡ record { ended = []; last = l }
 lines_of-plain [] h = refl
 lines_of-plain (c ∷ l) h = ap (before c) (lines_of-plain l h.1) ∙ before-plain c (record { ended = []; last = l }) h.0
 
@@ -21,7 +21,7 @@ cr-before ls h1 = grind (arith, cr-before-line)
 
 -- A line and its end before a text whose lines are known.
 pub lines_of-before : (text : List ℕ) (by : LineEnding) (y : List ℕ) (ls : List Ended) (last : List ℕ)
-    → HoldsNoLineEnd text → (by ≡ cr → BeginsWithNoLoneLf ls) → lines_of y ≡ record { ended = ls; last = last }
+    → HoldsNoLineEnding text → (by ≡ cr → BeginsWithNoLoneLf ls) → lines_of y ≡ record { ended = ls; last = last }
     → lines_of (text ++ (line_ending_text by ++ y)) ≡ record { ended = record { text = text; by = by } ∷ ls; last = last }
 lines_of-before (c ∷ text) by y ls last h k e =
     ap (before c) (lines_of-before text by y ls last h.1 k e) ∙ before-plain c (record { ended = record { text = text; by = by } ∷ ls; last = last }) h.0

@@ -2,39 +2,39 @@
 use Rattle.std.proofs.Common.{rules, ◌≡◌, ℕ, false, List, [], ◌∷◌, ◌++◌, refl, ap, ◌∙◌, suc, ◌+◌, append_assoc, arith}
 use Rattle.std.proofs.lemmas.Bool.{or_parts}
 use Rattle.properties_format.specs.Text.{line_feed, carriage_return, LineEnding, line_ending_text}
-use Rattle.properties_format.specs.Lines.{Ended, put_together, HoldsNoLineEnd, BeginsWithNoLoneLf, AreLines}
+use Rattle.properties_format.specs.Lines.{Ended, put_together, HoldsNoLineEnding, BeginsWithNoLoneLf, AreLines}
 use Rattle.properties_format.specs.Computed.Lines.{begins_with_lf, ends_in_cr, without_leading_lf, lines_of}
 use Rattle.properties_format.proofs.Lines.Meets.{lines_of-meets}
 
 -- Two texts without line endings have none together.
-pub plain-append : (x y : List ℕ) → HoldsNoLineEnd x → HoldsNoLineEnd y → HoldsNoLineEnd (x ++ y)
+pub plain-append : (x y : List ℕ) → HoldsNoLineEnding x → HoldsNoLineEnding y → HoldsNoLineEnding (x ++ y)
 plain-append [] y h k = k
 plain-append (c ∷ x) y h k = (h.0, plain-append x y h.1 k)
 
 -- The front of a text without line endings has none.
-pub plain-left : (x y : List ℕ) → HoldsNoLineEnd (x ++ y) → HoldsNoLineEnd x
+pub plain-left : (x y : List ℕ) → HoldsNoLineEnding (x ++ y) → HoldsNoLineEnding x
 plain-left [] y h = tt
 plain-left (c ∷ x) y h = (h.0, plain-left x y h.1)
 
 -- The rest of a text without line endings has none.
-pub plain-right : (x y : List ℕ) → HoldsNoLineEnd (x ++ y) → HoldsNoLineEnd y
+pub plain-right : (x y : List ℕ) → HoldsNoLineEnding (x ++ y) → HoldsNoLineEnding y
 plain-right [] y h = h
 plain-right (c ∷ x) y h = plain-right x y h.1
 
 -- The last of a text's lines contains no line ending.
-pub plain-last : (ls : List Ended) (last : List ℕ) → AreLines ls last → HoldsNoLineEnd last
+pub plain-last : (ls : List Ended) (last : List ℕ) → AreLines ls last → HoldsNoLineEnding last
 plain-last [] last h = h
 plain-last (l ∷ ls) last h = plain-last ls last h.2
 
-pub last-plain : (x : List ℕ) → HoldsNoLineEnd (lines_of x).last
+pub last-plain : (x : List ℕ) → HoldsNoLineEnding (lines_of x).last
 last-plain x = plain-last (lines_of x).ended (lines_of x).last (lines_of-meets x).are_lines
 
 -- A text without line endings doesn't begin with an LF.
-pub plain-no_lf : (x : List ℕ) → HoldsNoLineEnd x → begins_with_lf x ≡ false
+pub plain-no_lf : (x : List ℕ) → HoldsNoLineEnding x → begins_with_lf x ≡ false
 plain-no_lf x h = grind (arith)
 
 -- A text without line endings doesn't end in a CR.
-pub plain-no_cr : (x : List ℕ) → HoldsNoLineEnd x → ends_in_cr x ≡ false
+pub plain-no_cr : (x : List ℕ) → HoldsNoLineEnding x → ends_in_cr x ≡ false
 plain-no_cr (c ∷ d ∷ ds) h = plain-no_cr (d ∷ ds) h.1
 plain-no_cr x h1 = grind (arith, or_parts)
 

@@ -4,7 +4,7 @@ use Rattle.std.specs.Prelude.{Some, is_some, unwrap_or, nat_lt}
 use Rattle.std.specs.Char.{digit_char}
 use Rattle.std.proofs.lemmas.Bool.{cond_both, and_from, and_parts}
 use Rattle.std.proofs.lemmas.Str.{encode_ascii}
-use Rattle.properties_format.specs.Text.{scalar, line_ending_text, LineEnding, is_blank, is_separator, is_line_end, space, backslash}
+use Rattle.properties_format.specs.Text.{scalar, line_ending_text, LineEnding, is_blank, is_separator, is_line_ending, space, backslash}
 use Rattle.properties_format.specs.Encoding.{Encoding, encoded, Repertoire}
 use Rattle.properties_format.specs.Settings.{repertoire_of, Settings, IsGoodSeparator}
 use Rattle.properties_format.specs.Items.{Content, comment, pair}
@@ -81,8 +81,8 @@ encoded_text-ascii e [] h = refl
 encoded_text-ascii e (c ∷ x) h = ap (λ o. unwrap_or o [] ++ encoded_text e x) (encoded-ascii e c h.0) ∙ ap (λ v. c ∷ v) (encoded_text-ascii e x h.1)
 
 -- a line ending is an ASCII text
-pub line_end-ascii : (by : LineEnding) → AreAscii (line_ending_text by)
-line_end-ascii by = grind (arith)
+pub line_ending-ascii : (by : LineEnding) → AreAscii (line_ending_text by)
+line_ending-ascii by = grind (arith)
 
 -- ---- what is printed can be encoded
 
@@ -160,7 +160,7 @@ printed_key-encodable r first key =
 -- ---- values as people write them
 
 -- A character that a value may have unescaped isn't a backslash or a line ending, and is ASCII.
-pub free-plain : (c : ℕ) → is_free c ≡ true → ((c == backslash) ≡ false) × (is_line_end c ≡ false) × (c < 0x80)
+pub free-plain : (c : ℕ) → is_free c ≡ true → ((c == backslash) ≡ false) × (is_line_ending c ≡ false) × (c < 0x80)
 free-plain c h = (grind (arith), grind (arith), grind (arith))
 
 -- A space and a separator are special.
@@ -214,4 +214,4 @@ pub printed_text-encodable : (e : Encoding) (s : Settings) (first : Bool) (line 
     → AreEncodable e (printed_text e s first line)
 printed_text-encodable e s first (comment text) g = grind (arith, AreEncodable-append, printed_characters-encodable)
 printed_text-encodable e s first (pair key value) g =
-    search (rules, AreEncodable-append, printed_key-encodable, AreEncodable-ascii, good_separator-ascii, written_value-encodable, line_end-ascii)
+    search (rules, AreEncodable-append, printed_key-encodable, AreEncodable-ascii, good_separator-ascii, written_value-encodable, line_ending-ascii)

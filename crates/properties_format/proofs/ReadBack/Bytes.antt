@@ -13,7 +13,7 @@ use Rattle.properties_format.specs.Printing.{Place, in_key_or_value, printed_cha
 use Rattle.properties_format.specs.Writing.{Call, comment_call, pair_call, settings_after_call, written_line, lines_with, AreOfScalars, AreGoodSettings}
 use Rattle.properties_format.proofs.Encodings.Pieces.{pieces_of-nil}
 use Rattle.properties_format.proofs.Encodings.Characters.{pieces_of-encoded}
-use Rattle.properties_format.proofs.Printing.Characters.{AreEncodable, AreEncodable-append, AreAscii, line_end-ascii, unicode_escape-ascii, good_separator-ascii, printed-either, printed_text-encodable, AreEncodable-ascii, printed-encodable, free-plain}
+use Rattle.properties_format.proofs.Printing.Characters.{AreEncodable, AreEncodable-append, AreAscii, line_ending-ascii, unicode_escape-ascii, good_separator-ascii, printed-either, printed_text-encodable, AreEncodable-ascii, printed-encodable, free-plain}
 use Rattle.properties_format.proofs.ReadBack.Lines.{line_text, wrote_text, settings_after_call-good}
 
 -- ---- what can be encoded decodes to itself
@@ -109,7 +109,7 @@ printed-scalars e s first (pair key value) g h =
     (ascii-scalars s.kv_separator (good_separator-ascii s.kv_separator g.separator))
     (scalars-append (written_value e s value) (line_ending_text s.line_ending)
     (written_value-scalars e s value (recursion_from_All scalar value h.1))
-    (ascii-scalars (line_ending_text s.line_ending) (line_end-ascii s.line_ending))))
+    (ascii-scalars (line_ending_text s.line_ending) (line_ending-ascii s.line_ending))))
 
 -- ---- everything that is written
 

@@ -3,9 +3,9 @@
 use Rattle.std.proofs.Common.{rules, ◌≡◌, ◌⊎◌, ℕ, ◌<◌, ◌==◌, true, false, List, [], ◌∷◌, ◌++◌, map, refl, ap, sym, ◌∙◌, append_assoc, ap₂, subst, arith}
 use Rattle.std.specs.List.{AllByRecursion}
 use Rattle.std.proofs.lemmas.Bool.{cond-true}
-use Rattle.properties_format.specs.Text.{scalar, backslash, is_line_end, is_comment_sign}
+use Rattle.properties_format.specs.Text.{scalar, backslash, is_line_ending, is_comment_sign}
 use Rattle.properties_format.specs.Encoding.{Repertoire}
-use Rattle.properties_format.specs.Lines.{HoldsNoLineEnd, is_comment_line}
+use Rattle.properties_format.specs.Lines.{HoldsNoLineEnding, is_comment_line}
 use Rattle.properties_format.specs.Split.{AreBlanks}
 use Rattle.properties_format.specs.Computed.Split.{trimmed}
 use Rattle.properties_format.specs.Escapes.{Spelling, itself, spelling_text, spelling_character, spellings_before}
@@ -30,12 +30,12 @@ record ArePlainlyPrinted (x y : List ℕ) : Type 0 where
   characters : map spelling_character spellings ≡ y
   whole : AreWhole spellings
   keep : AllKeepBlanks spellings
-  plain : HoldsNoLineEnd x
+  plain : HoldsNoLineEnding x
 
 -- ---- one more character at the front
 
 -- It contains no line ending.
-plainly-plain : (c : ℕ) (p : Spelling) → IsSafe p ⊎ ((p ≡ itself c) × ((c == backslash) ≡ false) × (is_line_end c ≡ false)) → HoldsNoLineEnd (spelling_text p)
+plainly-plain : (c : ℕ) (p : Spelling) → IsSafe p ⊎ ((p ≡ itself c) × ((c == backslash) ≡ false) × (is_line_ending c ≡ false)) → HoldsNoLineEnding (spelling_text p)
 plainly-plain c p h = grind (arith, safe-plain)
 
 -- A plainly spelt character before a plainly spelt text.
@@ -47,7 +47,7 @@ plainly-cons x y c cs s t =
       characters = ap₂ (λ v w. v ∷ w) s.character t.characters;
       whole = (search (rules), t.whole);
       keep = (s.keeps, t.keep);
-      plain = plain-append x y (subst HoldsNoLineEnd (sym s.text) (plainly-plain c s.spelling s.safe)) t.plain;
+      plain = plain-append x y (subst HoldsNoLineEnding (sym s.text) (plainly-plain c s.spelling s.safe)) t.plain;
     }
 
 -- ---- the text of a comment, and the tail of a prefix before it
@@ -58,7 +58,7 @@ comment-plainly r [] h = record { spellings = []; text = refl; characters = refl
 comment-plainly r (c ∷ x) h = search (rules, plainly-cons, in_comment-printed, comment-plainly r x h.1)
 
 -- The tail of a prefix without a backslash, before a plainly spelt text, is plainly spelt.
-tail-plainly : (r : Repertoire) (tail y cs : List ℕ) → AllByRecursion scalar tail → HoldsNoBackslash tail → HoldsNoLineEnd tail
+tail-plainly : (r : Repertoire) (tail y cs : List ℕ) → AllByRecursion scalar tail → HoldsNoBackslash tail → HoldsNoLineEnding tail
     → ArePlainlyPrinted y cs → ArePlainlyPrinted (printed_characters r in_prefix tail ++ y) (tail ++ cs)
 tail-plainly r [] y cs h b p s = s
 tail-plainly r (c ∷ tail) y cs h b p s = search (rules, append_assoc, plainly-cons, literal-plainly, tail-plainly r tail y cs h.1 b.1 p.1 s)
@@ -70,7 +70,7 @@ pub literal-ascii : (r : Repertoire) (c : ℕ) → c < 0x80 → literal r c ≡ 
 literal-ascii r c h = cond-true (may_be_unescaped r c) (c ∷ []) (unicode_escape c) (may_be_unescaped-ascii r c h)
 
 -- A comment sign is ASCII, and isn't a line ending.
-pub sign-ascii : (c : ℕ) → is_comment_sign c ≡ true → (c < 0x80) × (is_line_end c ≡ false)
+pub sign-ascii : (c : ℕ) → is_comment_sign c ≡ true → (c < 0x80) × (is_line_ending c ≡ false)
 sign-ascii c h = (grind (arith), grind (arith))
 
 -- The blanks and the comment sign of a prefix are printed unescaped.

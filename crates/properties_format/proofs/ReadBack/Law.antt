@@ -4,7 +4,7 @@ use Rattle.std.proofs.lemmas.List.Elements.{All-from_recursion}
 use Rattle.properties_format.specs.Text.{scalar, number_sign, space}
 use Rattle.properties_format.specs.Encoding.{Encoding, windows_1252, output_encoding, characters}
 use Rattle.properties_format.specs.Computed.Encoding.{pieces_of, decoded_of}
-use Rattle.properties_format.specs.Lines.{end, line_ends}
+use Rattle.properties_format.specs.Lines.{end, line_endings}
 use Rattle.properties_format.specs.Computed.Lines.{lines_of}
 use Rattle.properties_format.specs.Items.{IsItems}
 use Rattle.properties_format.specs.Computed.Items.{items_of_lines, items_of}
@@ -47,7 +47,7 @@ pub items_of-wrote : (e : Encoding) (s : Settings) (calls : List Call) → outpu
     → AreOfScalars calls → items_of e (wrote e s 0 calls) end ≡ items_read_back s 0 calls
 unfolding items_of
 items_of-wrote e s calls own g c h =
-    ap (λ x. items_of_lines (lines_of x) end) (wrote-decoded e s calls own g h) ∙ (text-read e (line_ends (lines_of (wrote_text e s 0 calls))) s 0 calls g c h).read
+    ap (λ x. items_of_lines (lines_of x) end) (wrote-decoded e s calls own g h) ∙ (text-read e (line_endings (lines_of (wrote_text e s 0 calls))) s 0 calls g c h).read
 
 -- What the calls wrote has these items by the definition of items.
 pub IsItems-wrote : (e : Encoding) (s : Settings) (calls : List Call) → output_encoding e ≡ e → AreGoodSettings s → ArePrefixesClean s calls

@@ -6,7 +6,7 @@ use Rattle.std.proofs.lemmas.Bool.{not-true, cond_both}
 use Rattle.properties_format.specs.Text.{scalar, LineEnding, line_ending_text, is_blanks, is_empty}
 use Rattle.properties_format.specs.Encoding.{Encoding}
 use Rattle.properties_format.specs.Settings.{repertoire_of, Settings}
-use Rattle.properties_format.specs.Lines.{HoldsNoLineEnd, Line, end, joined}
+use Rattle.properties_format.specs.Lines.{HoldsNoLineEnding, Line, end, joined}
 use Rattle.properties_format.specs.Computed.Lines.{begins_with_lf, lines_to_come, groups_of}
 use Rattle.properties_format.specs.Items.{Content, comment, pair, Entry, item}
 use Rattle.properties_format.specs.Computed.Items.{entries_of}
@@ -100,7 +100,7 @@ pub joined-alone : (l : Line) → IsNotContinued l.text → joined (l ∷ []) �
 joined-alone l h1 = grind (arith, joined-comment_line, joined-closed)
 
 -- A text that isn't empty and contains no line ending doesn't begin with an LF, whatever follows.
-front-no_lf : (x y : List ℕ) → x ≢ [] → HoldsNoLineEnd x → begins_with_lf (x ++ y) ≡ false
+front-no_lf : (x y : List ℕ) → x ≢ [] → HoldsNoLineEnding x → begins_with_lf (x ++ y) ≡ false
 front-no_lf x y h1 h2 = grind (arith, plain-no_lf)
 
 -- One line before such a text.

@@ -4,7 +4,7 @@ use Rattle.std.specs.List.{AllByRecursion}
 use Rattle.std.proofs.lemmas.Bool.{cond_both}
 use Rattle.properties_format.specs.Text.{scalar, is_blanks}
 use Rattle.properties_format.specs.Encoding.{Repertoire}
-use Rattle.properties_format.specs.Lines.{HoldsNoLineEnd, is_open}
+use Rattle.properties_format.specs.Lines.{HoldsNoLineEnding, is_open}
 use Rattle.properties_format.specs.Split.{Logical, AreBlanks, IsBetween, blanks, separator}
 use Rattle.properties_format.specs.Computed.Split.{split_of}
 use Rattle.properties_format.specs.Escapes.{Spelling, spelling_text, spelling_character, spellings_before}
@@ -26,7 +26,7 @@ use Rattle.properties_format.proofs.ReadBack.Values.{AreLooselyPrinted, loose-me
 -- What a line's text is read as, if it is a line of its own.
 pub record IsReadAs (text : List ℕ) (content : Content) : Type 0 where
   pub some : text ≢ []
-  pub plain : HoldsNoLineEnd text
+  pub plain : HoldsNoLineEnding text
   pub alone : IsNotContinued text
   pub outcome : outcome_of text ≡ given content
 
@@ -48,7 +48,7 @@ key-printed r first key h =
 -- A quiet text: it contains no backslash and no line ending.
 pub record IsQuiet (x : List ℕ) : Type 0 where
   pub slashes : HoldsNoBackslash x
-  pub plain : HoldsNoLineEnd x
+  pub plain : HoldsNoLineEnding x
 
 -- Two quiet texts together are quiet.
 quiet-append : (x y : List ℕ) → IsQuiet x → IsQuiet y → IsQuiet (x ++ y)
@@ -59,7 +59,7 @@ quiet-append x y h k = record { slashes = go x y h.slashes k.slashes; plain = pl
     go (c ∷ x) y h k = (h.0, go x y h.1 k)
 
 -- Blanks contain no line ending.
-pub blanks-plain : (x : List ℕ) → AreBlanks x → HoldsNoLineEnd x
+pub blanks-plain : (x : List ℕ) → AreBlanks x → HoldsNoLineEnding x
 blanks-plain [] h = tt
 blanks-plain (c ∷ x) h = (grind (arith), blanks-plain x h.1)
 

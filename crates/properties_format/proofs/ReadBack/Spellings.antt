@@ -2,7 +2,7 @@
 use Rattle.std.proofs.Common.{rules, ◌≡◌, ◌⊎◌, ℕ, ◌<◌, ◌≤◌, ◌==◌, ◌||◌, true, false, List, [], ◌∷◌, ◌++◌, refl, sym, ◌∙◌, inl, inr, arith, eqb-true, ltb-true, ltb-false, subst, ap₂}
 use Rattle.std.specs.Prelude.{nat_lt}
 use Rattle.std.proofs.lemmas.Bool.{or_cases, or_parts, cond_both}
-use Rattle.properties_format.specs.Text.{scalar, line_feed, carriage_return, space, backslash, is_blank, is_line_end, is_comment_sign, is_separator}
+use Rattle.properties_format.specs.Text.{scalar, line_feed, carriage_return, space, backslash, is_blank, is_line_ending, is_comment_sign, is_separator}
 use Rattle.properties_format.specs.Encoding.{Repertoire}
 use Rattle.properties_format.specs.Escapes.{letter_u, escaped_character, are_hexadecimal, code_unit, is_high, is_low, is_surrogate, pair_character, Spelling, itself, escaped, unicode, surrogates, last, spelling_text, spelling_character, IsSpelling}
 use Rattle.properties_format.specs.Printing.{in_key_or_value, in_comment, unit_escape, high_surrogate, low_surrogate, unicode_escape, may_be_unescaped, literal, is_special, letter_escape, has_letter, printed_character}
@@ -12,8 +12,8 @@ use Rattle.properties_format.proofs.Printing.Characters.{may_be_unescaped-ascii,
 
 -- the spelling may be used in a key or a value
 abbrev pub IsSafe : Spelling → Type 0
-IsSafe (itself c) = ((c == backslash) ≡ false) × (is_blank c ≡ false) × (is_separator c ≡ false) × (is_comment_sign c ≡ false) × (is_line_end c ≡ false)
-IsSafe (escaped c) = ((c == letter_u) ≡ false) × (is_line_end c ≡ false)
+IsSafe (itself c) = ((c == backslash) ≡ false) × (is_blank c ≡ false) × (is_separator c ≡ false) × (is_comment_sign c ≡ false) × (is_line_ending c ≡ false)
+IsSafe (escaped c) = ((c == letter_u) ≡ false) × (is_line_ending c ≡ false)
 IsSafe (unicode d) = (are_hexadecimal d ≡ true) × (is_surrogate (code_unit d) ≡ false)
 IsSafe (surrogates high low) = IsSpelling (surrogates high low) []
 IsSafe last = ⊥
@@ -30,7 +30,7 @@ pub record IsPlainlyPrinted (x : List ℕ) (c : ℕ) : Type 0 where
   pub spelling : Spelling
   pub text : x ≡ spelling_text spelling
   pub character : spelling_character spelling ≡ c
-  pub safe : IsSafe spelling ⊎ ((spelling ≡ itself c) × ((c == backslash) ≡ false) × (is_line_end c ≡ false))
+  pub safe : IsSafe spelling ⊎ ((spelling ≡ itself c) × ((c == backslash) ≡ false) × (is_line_ending c ≡ false))
   pub keeps : KeepsBlanks spelling
 
 -- ---- `\u` escapes
@@ -102,7 +102,7 @@ unicode-plainly c h b =
 -- ---- unescaped characters, and escapes of a backslash and one character
 
 -- A backslash and a character that isn't u or a line ending are a safe spelling of what they mean.
-escape-printed : (c d : ℕ) → (d == letter_u) ≡ false → is_line_end d ≡ false → escaped_character d ≡ c → IsSafelyPrinted (backslash ∷ d ∷ []) c
+escape-printed : (c d : ℕ) → (d == letter_u) ≡ false → is_line_ending d ≡ false → escaped_character d ≡ c → IsSafelyPrinted (backslash ∷ d ∷ []) c
 escape-printed c d u l e = record { spelling = escaped d; text = refl; character = e; safe = (u, l) }
 
 -- A backslash and a special character are a safe spelling of that character.
@@ -121,7 +121,7 @@ itself-printed : (c : ℕ) → IsOrdinary c → IsSafelyPrinted (c ∷ []) c
 itself-printed c o =
     let a = o.special in
     let b = o.letter in
-    let plain : is_line_end c ≡ false = grind (arith) in
+    let plain : is_line_ending c ≡ false = grind (arith) in
     let d = or_parts (c == backslash) (c == space || (is_separator c || is_comment_sign c)) a in
     record {
       spelling = itself c;
@@ -145,7 +145,7 @@ in_key_or_value-printed r c h =
 -- ---- comments and prefixes
 
 -- A backslash and a character are a plain spelling, if neither that character nor the one they mean is a blank.
-escape-plainly : (c d : ℕ) → (d == letter_u) ≡ false → is_line_end d ≡ false → escaped_character d ≡ c → is_blank d ≡ false
+escape-plainly : (c d : ℕ) → (d == letter_u) ≡ false → is_line_ending d ≡ false → escaped_character d ≡ c → is_blank d ≡ false
     → is_blank (escaped_character d) ≡ false → IsPlainlyPrinted (backslash ∷ d ∷ []) c
 escape-plainly c d u l e b f = record { spelling = escaped d; text = refl; character = e; safe = inl (u, l); keeps = KeepsBlanks-escaped d b f }
 
@@ -155,7 +155,7 @@ at-character_plainly c d x e s = rw (eqb-true c d e) s
 
 -- Unescaped if that is allowed, otherwise escaped, a character that isn't a backslash or a line ending is plainly
 -- spelt.
-pub literal-plainly : (r : Repertoire) (c : ℕ) → scalar c → (c == backslash) ≡ false → is_line_end c ≡ false → IsPlainlyPrinted (literal r c) c
+pub literal-plainly : (r : Repertoire) (c : ℕ) → scalar c → (c == backslash) ≡ false → is_line_ending c ≡ false → IsPlainlyPrinted (literal r c) c
 literal-plainly r c h b l =
     cond_both (may_be_unescaped r c) (c ∷ []) (unicode_escape c) (λ x. IsPlainlyPrinted x c)
     (λ k. record { spelling = itself c; text = refl; character = refl; safe = inr (refl, b, l); keeps = KeepsBlanks-itself c })

@@ -4,7 +4,7 @@ use Rattle.std.specs.List.{AllByRecursion}
 use Rattle.std.proofs.lemmas.Bool.{cases_Bool}
 use Rattle.properties_format.specs.Text.{scalar, backslash, is_blank, is_comment_sign, is_separator, begins}
 use Rattle.properties_format.specs.Encoding.{Repertoire}
-use Rattle.properties_format.specs.Lines.{HoldsNoLineEnd, is_open}
+use Rattle.properties_format.specs.Lines.{HoldsNoLineEnding, is_open}
 use Rattle.properties_format.specs.Split.{IsKey}
 use Rattle.properties_format.specs.Escapes.{letter_u, Four, four_text, are_hexadecimal, Spelling, itself, escaped, unicode, surrogates, last, spelling_text, spelling_character, spellings_before, means}
 use Rattle.properties_format.specs.Computed.Escapes.{meaning_of}
@@ -60,16 +60,16 @@ printed-means x y s = ap meaning_of s.text ∙ meaning_of-all s.spellings (are_s
 -- ---- no line ending
 
 -- A safe spelling contains no line ending.
-pub safe-plain : (p : Spelling) → IsSafe p → HoldsNoLineEnd (spelling_text p)
+pub safe-plain : (p : Spelling) → IsSafe p → HoldsNoLineEnding (spelling_text p)
 safe-plain p h = search (rules, digits, digit-plain)
 
 -- Safe spellings contain no line ending.
-are_safe-plain : (ps : List Spelling) → AreSafe ps → HoldsNoLineEnd (spellings_before ps [])
+are_safe-plain : (ps : List Spelling) → AreSafe ps → HoldsNoLineEnding (spellings_before ps [])
 are_safe-plain [] h = tt
 are_safe-plain (p ∷ ps) h = plain-append (spelling_text p) (spellings_before ps []) (safe-plain p h.0) (are_safe-plain ps h.1)
 
 -- A safely spelt text contains no line ending.
-pub printed-plain : (x y : List ℕ) → AreSafelyPrinted x y → HoldsNoLineEnd x
+pub printed-plain : (x y : List ℕ) → AreSafelyPrinted x y → HoldsNoLineEnding x
 printed-plain x y s = rw s.text (are_safe-plain s.spellings s.safe)
 
 -- ---- no open backslash

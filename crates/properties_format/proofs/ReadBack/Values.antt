@@ -3,9 +3,9 @@
 use Rattle.std.proofs.Common.{rules, ◌≡◌, ◌⊎◌, ℕ, ◌==◌, ◌&&◌, ◌||◌, Bool, true, false, List, [], ◌∷◌, ◌++◌, map, refl, ap, ap₂, sym, ◌∙◌, inl, inr, append_assoc, append-nil, eqb-true, lit<, subst, arith}
 use Rattle.std.specs.List.{AllByRecursion}
 use Rattle.std.proofs.lemmas.Bool.{cond_both}
-use Rattle.properties_format.specs.Text.{scalar, space, backslash, is_blank, is_line_end, is_separator, is_empty, begins}
+use Rattle.properties_format.specs.Text.{scalar, space, backslash, is_blank, is_line_ending, is_separator, is_empty, begins}
 use Rattle.properties_format.specs.Encoding.{Repertoire}
-use Rattle.properties_format.specs.Lines.{HoldsNoLineEnd, is_open}
+use Rattle.properties_format.specs.Lines.{HoldsNoLineEnding, is_open}
 use Rattle.properties_format.specs.Escapes.{Spelling, itself, spelling_text, spelling_character, spellings_before, means}
 use Rattle.properties_format.specs.Computed.Escapes.{meaning_of}
 use Rattle.properties_format.specs.Printing.{in_key_or_value, unit_escape, printed_character, is_free, printed_inside, printed_first, printed_last, printed_rest, printed_value}
@@ -20,7 +20,7 @@ use Rattle.properties_format.proofs.ReadBack.Texts.{safe-plain, safe-closed, saf
 
 -- a loose spelling: a safe one, or a character as itself, which isn't a backslash or a line ending
 abbrev IsLoose : Spelling → Type 0
-IsLoose p = IsSafe p ⊎ ((c : ℕ) × (p ≡ itself c) × ((c == backslash) ≡ false) × (is_line_end c ≡ false))
+IsLoose p = IsSafe p ⊎ ((c : ℕ) × (p ≡ itself c) × ((c == backslash) ≡ false) × (is_line_ending c ≡ false))
 
 -- each of these spellings is loose
 abbrev AreLoose : List Spelling → Type 0
@@ -66,12 +66,12 @@ pub loose-means : (x y : List ℕ) → AreLooselyPrinted x y → meaning_of x �
 loose-means x y s = ap meaning_of s.text ∙ meaning_of-all s.spellings (are_loose-whole s.spellings s.loose) ∙ ap means s.characters
 
 -- Loose spellings contain no line ending.
-are_loose-plain : (ps : List Spelling) → AreLoose ps → HoldsNoLineEnd (spellings_before ps [])
+are_loose-plain : (ps : List Spelling) → AreLoose ps → HoldsNoLineEnding (spellings_before ps [])
 are_loose-plain [] h = tt
 are_loose-plain (p ∷ ps) h = plain-append (spelling_text p) (spellings_before ps []) (search (rules, safe-plain)) (are_loose-plain ps h.1)
 
 -- A loosely spelt text contains no line ending.
-pub loosely-plain : (x y : List ℕ) → AreLooselyPrinted x y → HoldsNoLineEnd x
+pub loosely-plain : (x y : List ℕ) → AreLooselyPrinted x y → HoldsNoLineEnding x
 loosely-plain x y s = rw s.text (are_loose-plain s.spellings s.loose)
 
 -- A loose spelling leaves no line open.

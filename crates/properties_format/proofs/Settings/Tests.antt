@@ -2,10 +2,10 @@
 use Rattle.std.proofs.Common.{◌≡◌, ℕ, true, List, [], ◌∷◌, ◌++◌, refl, ap, ◌∙◌, inl, inr, arith}
 use Rattle.std.proofs.lemmas.Bool.{cases_Bool, and_parts, and_from, or_left, or_right}
 use Rattle.properties_format.specs.Text.{is_blank, is_blanks, is_comment_sign, is_separator}
-use Rattle.properties_format.specs.Lines.{HoldsNoLineEnd}
+use Rattle.properties_format.specs.Lines.{HoldsNoLineEnding}
 use Rattle.properties_format.specs.Split.{AreBlanks}
 use Rattle.properties_format.specs.Settings.{IsGoodPrefix, IsSignedSeparator, IsGoodSeparator}
-use Rattle.properties_format.specs.Computed.Settings.{holds_no_line_end, is_good_prefix, is_signed_separator, is_good_separator}
+use Rattle.properties_format.specs.Computed.Settings.{holds_no_line_ending, is_good_prefix, is_signed_separator, is_good_separator}
 use Rattle.properties_format.specs.Writing.{tail_of}
 use Rattle.properties_format.proofs.Split.Unique.{sign-full, separator-full}
 
@@ -22,14 +22,14 @@ is_blanks-from [] h = refl
 is_blanks-from (c ∷ x) h = and_from (is_blank c) (is_blanks x) h.0 (is_blanks-from x h.1)
 
 -- A text that passes the test contains no line ending.
-pub HoldsNoLineEnd-from_test : (x : List ℕ) → holds_no_line_end x ≡ true → HoldsNoLineEnd x
-HoldsNoLineEnd-from_test [] h = tt
-HoldsNoLineEnd-from_test (c ∷ x) h = grind (arith, HoldsNoLineEnd-from_test x)
+pub HoldsNoLineEnding-from_test : (x : List ℕ) → holds_no_line_ending x ≡ true → HoldsNoLineEnding x
+HoldsNoLineEnding-from_test [] h = tt
+HoldsNoLineEnding-from_test (c ∷ x) h = grind (arith, HoldsNoLineEnding-from_test x)
 
 -- A text without line endings passes the test.
-pub holds_no_line_end-from : (x : List ℕ) → HoldsNoLineEnd x → holds_no_line_end x ≡ true
-holds_no_line_end-from [] h = refl
-holds_no_line_end-from (c ∷ x) h = grind (arith, holds_no_line_end-from x h.1)
+pub holds_no_line_ending-from : (x : List ℕ) → HoldsNoLineEnding x → holds_no_line_ending x ≡ true
+holds_no_line_ending-from [] h = refl
+holds_no_line_ending-from (c ∷ x) h = grind (arith, holds_no_line_ending-from x h.1)
 
 -- ---- prefixes
 
@@ -41,14 +41,14 @@ IsGoodPrefix-from_test (c ∷ cs) h = elim (cases_Bool (is_blank c)) [
       let g = IsGoodPrefix-from_test cs (rw e at h) in
       record { indent = c ∷ g.indent; sign = g.sign; tail = g.tail; division = cc (g.division); indented = (e, g.indented); signed = g.signed; one_line = g.one_line }
   | inr e ↦
-      let p = and_parts (is_comment_sign c) (holds_no_line_end cs) (rw e at h) in
-      record { indent = []; sign = c; tail = cs; division = refl; indented = tt; signed = p.0; one_line = HoldsNoLineEnd-from_test cs p.1 }
+      let p = and_parts (is_comment_sign c) (holds_no_line_ending cs) (rw e at h) in
+      record { indent = []; sign = c; tail = cs; division = refl; indented = tt; signed = p.0; one_line = HoldsNoLineEnding-from_test cs p.1 }
 ]
 
 -- Blanks, a comment sign and a text without a line ending pass the test.
-divided-is_good : (indent : List ℕ) (sign : ℕ) (tail : List ℕ) → AreBlanks indent → is_comment_sign sign ≡ true → HoldsNoLineEnd tail
+divided-is_good : (indent : List ℕ) (sign : ℕ) (tail : List ℕ) → AreBlanks indent → is_comment_sign sign ≡ true → HoldsNoLineEnding tail
     → is_good_prefix (indent ++ (sign ∷ tail)) ≡ true
-divided-is_good [] sign tail h m p = grind (arith, sign-full, holds_no_line_end-from)
+divided-is_good [] sign tail h m p = grind (arith, sign-full, holds_no_line_ending-from)
 divided-is_good (c ∷ indent) sign tail h m p = rw h.0 (divided-is_good indent sign tail h.1 m p)
 
 -- A good prefix passes the test.

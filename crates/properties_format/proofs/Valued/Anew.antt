@@ -4,7 +4,7 @@ use Rattle.std.proofs.lemmas.Bool.{cond_both, not-true}
 use Rattle.properties_format.specs.Text.{LineEnding, line_ending_text, is_blanks, is_empty}
 use Rattle.properties_format.specs.Encoding.{Encoding, begins_like_bom}
 use Rattle.properties_format.specs.Settings.{repertoire_of, Settings}
-use Rattle.properties_format.specs.Lines.{HoldsNoLineEnd, BeginsWithNoLoneLf, IsWhole}
+use Rattle.properties_format.specs.Lines.{HoldsNoLineEnding, BeginsWithNoLoneLf, IsWhole}
 use Rattle.properties_format.specs.Computed.Cut.{decoded_line}
 use Rattle.properties_format.specs.Items.{Content, comment, pair, given}
 use Rattle.properties_format.specs.Computed.Items.{outcome_of}
@@ -19,7 +19,7 @@ use Rattle.properties_format.specs.Laws.{AreReadBack}
 use Rattle.properties_format.specs.Computed.Body.{is_pair_with}
 use Rattle.properties_format.specs.Computed.Edited.{last_place}
 use Rattle.properties_format.proofs.Encodings.ByteOrderMarks.{byte_order_mark-none}
-use Rattle.properties_format.proofs.Printing.Characters.{encoded_text-append, encoded_text-ascii, line_end-ascii}
+use Rattle.properties_format.proofs.Printing.Characters.{encoded_text-append, encoded_text-ascii, line_ending-ascii}
 use Rattle.properties_format.proofs.ReadBack.Lines.{IsLineReadAs, comment-line, pair-line, joined-alone, settings_after_call-good, wrote-text}
 use Rattle.properties_format.proofs.ReadBack.Bytes.{AreWritable, line-writable}
 use Rattle.properties_format.proofs.ReadBack.Unmarked.{wrote_text-unmarked}
@@ -47,7 +47,7 @@ abbrev group_of : Encoding → List ℕ → LineEnding → List HeldLine
 group_of e bytes by = record { bytes = bytes; text = decoded_line e bytes; ending = Some by } ∷ []
 
 -- Such a group before others.
-line-left : (e : Encoding) (bytes : List ℕ) (by : LineEnding) (gs : List (List HeldLine)) → HoldsNoLineEnd bytes → bytes ≢ []
+line-left : (e : Encoding) (bytes : List ℕ) (by : LineEnding) (gs : List (List HeldLine)) → HoldsNoLineEnding bytes → bytes ≢ []
     → IsWhole (as_lines (group_of e bytes by)) → AreLeft e gs → AreLeft e (group_of e bytes by ∷ gs)
 line-left e bytes by gs plain some whole (l, full) = (
   record {
@@ -82,7 +82,7 @@ writable-left e (c ∷ x) y w =
 line-bytes : (e : Encoding) (x text : List ℕ) (by : LineEnding) → x ≡ text ++ line_ending_text by
     → group_bytes (group_of e (encoded_text e text) by) ≡ encoded_text e x
 line-bytes e x text by h =
-    ap (λ v. encoded_text e text ++ v) (append-nil (line_ending_text by) ∙ sym (encoded_text-ascii e (line_ending_text by) (line_end-ascii by)))
+    ap (λ v. encoded_text e text ++ v) (append-nil (line_ending_text by) ∙ sym (encoded_text-ascii e (line_ending_text by) (line_ending-ascii by)))
     ∙ sym (ap (encoded_text e) h ∙ encoded_text-append e text (line_ending_text by))
 
 -- A line before such bytes.

@@ -2,7 +2,7 @@
 use Rattle.std.proofs.Common.{arith, rules, ◌≡◌, ◌≢◌, ℕ, true, List, [], ◌∷◌, ◌++◌, Option, Some, None, refl, ap, ap₂, sym, ◌∙◌, inl, inr, append_assoc, append-nil, subst}
 use Rattle.properties_format.specs.Text.{LineEnding, cr}
 use Rattle.properties_format.specs.Encoding.{Encoding}
-use Rattle.properties_format.specs.Lines.{Ended, Lines, end, HoldsNoLineEnd, BeginsWithNoLoneLf, AreLines, IsLines, IsWhole, IsGroups, lines_in}
+use Rattle.properties_format.specs.Lines.{Ended, Lines, end, HoldsNoLineEnding, BeginsWithNoLoneLf, AreLines, IsLines, IsWhole, IsGroups, lines_in}
 use Rattle.properties_format.specs.Cut.{IsCut}
 use Rattle.properties_format.specs.Computed.Cut.{decoded_line}
 use Rattle.properties_format.specs.Body.{HeldLine, as_lines, as_groups, held_in, AreGroupsOf, groups_bytes, last_ending}
@@ -102,7 +102,7 @@ last_by-append (l ∷ m ∷ x) y h = last_by-append (m ∷ x) y h
 last_by-append x y h = refl
 
 -- With another last line, they are still lines.
-pub lines-last : (x : List Ended) (last : List ℕ) → AreLines x [] → HoldsNoLineEnd last → AreLines x last
+pub lines-last : (x : List Ended) (last : List ℕ) → AreLines x [] → HoldsNoLineEnding last → AreLines x last
 lines-last [] last h k = k
 lines-last (l ∷ x) last h k = (h.0, h.1, lines-last x last h.2 k)
 
@@ -182,7 +182,7 @@ cons-some (m ∷ a) l b = λ q. cc
 
 -- A group that keeps its first lines and has another line instead of the rest, with the same last line ending.
 pub changed-lined : (e : Encoding) (before : List (List HeldLine)) (kept : List HeldLine) (line : HeldLine) (more : List HeldLine)
-    (after : List (List HeldLine)) (bytes : List ℕ) → AreLined e (before ++ (kept ++ line ∷ more) ∷ after) → HoldsNoLineEnd bytes → bytes ≢ []
+    (after : List (List HeldLine)) (bytes : List ℕ) → AreLined e (before ++ (kept ++ line ∷ more) ∷ after) → HoldsNoLineEnding bytes → bytes ≢ []
     → IsWhole (as_lines (kept ++ record { bytes = bytes; text = decoded_line e bytes; ending = last_ending (kept ++ line ∷ more) } ∷ []))
     → AreLined e (before ++ (kept ++ record { bytes = bytes; text = decoded_line e bytes; ending = last_ending (kept ++ line ∷ more) } ∷ []) ∷ after)
 changed-lined e before kept line more [] bytes h plain some whole =
@@ -246,7 +246,7 @@ changed-lined e before kept line more (i ∷ after) bytes h plain some whole =
 -- the bytes of the lines contain no line ending
 abbrev pub ArePlain : List HeldLine → Type 0
 ArePlain [] = Unit {0}
-ArePlain (h ∷ hs) = HoldsNoLineEnd h.bytes × ArePlain hs
+ArePlain (h ∷ hs) = HoldsNoLineEnding h.bytes × ArePlain hs
 
 -- This holds for the lines of a text.
 held-plain : (e : Encoding) (ls : List Ended) (last : List ℕ) → AreLines ls last → ArePlain (held_of e ls last)
@@ -254,7 +254,7 @@ held-plain e [] last h = (h, tt)
 held-plain e (l ∷ ls) last h = (h.0, held-plain e ls last h.2)
 
 -- This holds for some of them.
-pub plain-lines : (a : List HeldLine) (h : HeldLine) (b : List HeldLine) → ArePlain (a ++ h ∷ b) → HoldsNoLineEnd h.bytes
+pub plain-lines : (a : List HeldLine) (h : HeldLine) (b : List HeldLine) → ArePlain (a ++ h ∷ b) → HoldsNoLineEnding h.bytes
 plain-lines [] h b k = k.0
 plain-lines (i ∷ a) h b k = plain-lines a h b k.1
 

@@ -5,7 +5,7 @@ use Rattle.std.specs.Prelude.{All}
 use Rattle.std.proofs.lemmas.List.Elements.{recursion_from_All}
 use Rattle.properties_format.specs.Text.{scalar, equals_sign, LineEnding, is_blanks}
 use Rattle.properties_format.specs.Encoding.{Encoding, Repertoire}
-use Rattle.properties_format.specs.Lines.{HoldsNoLineEnd, is_open, is_comment_line, IsWhole, joined}
+use Rattle.properties_format.specs.Lines.{HoldsNoLineEnding, is_open, is_comment_line, IsWhole, joined}
 use Rattle.properties_format.specs.Cut.{IsDecodedLine}
 use Rattle.properties_format.specs.Computed.Cut.{decoded_line}
 use Rattle.properties_format.specs.Split.{Logical, AreBlanks}
@@ -42,7 +42,7 @@ pub after-bytes : (r : Repertoire) (between value : List ℕ)
 after-bytes r between value = simp (value_text-parts, encoded_text-append, missing, value_after, missing-bytes)
 
 -- It contains no line ending.
-missing-plain : (between : List ℕ) → HoldsNoLineEnd (missing between)
+missing-plain : (between : List ℕ) → HoldsNoLineEnding (missing between)
 missing-plain between = grind (arith)
 
 -- What is printed for an empty value is only what is missing.
@@ -62,7 +62,7 @@ new_line r head between value ending =
 
 -- What holds for the changed group.
 pub record IsChangedPair (r : Repertoire) (key between front value : List ℕ) (kept : List HeldLine) (head : List ℕ) (ending : Option LineEnding) : Type 0 where
-  pub plain : HoldsNoLineEnd (new_bytes r head between value)
+  pub plain : HoldsNoLineEnding (new_bytes r head between value)
   pub some : new_bytes r head between value ≢ []
   pub whole : IsWhole (as_lines (kept ++ new_line r head between value ending ∷ []))
   pub has_pair : HasPair key value (kept ++ new_line r head between value ending ∷ [])
@@ -104,7 +104,7 @@ key-means e group key between front f (old, h) =
 
 -- The group with the front and another value.
 pub changed-pair : (r : Repertoire) (group : List HeldLine) (key between front value : List ℕ) (ending : Option LineEnding)
-    (f : IsFrontOf r.encoding group between front) → is_editable r.encoding ≡ true → All scalar value → IsLastFit group → HoldsNoLineEnd f.line.bytes
+    (f : IsFrontOf r.encoding group between front) → is_editable r.encoding ≡ true → All scalar value → IsLastFit group → HoldsNoLineEnding f.line.bytes
     → HasKey key group → IsChangedPair r key between front value f.kept f.head ending
 changed-pair r group key between front value ending f ok scalars fit line_plain has =
     let h = f.is_pair in
@@ -134,16 +134,16 @@ changed-pair r group key between front value ending f ok scalars fit line_plain 
     ap (λ v. joined (as_lines (f.kept ++ v ∷ []))) (sym same) ∙ joined_is in
     let anew = pair-anew _ f.key f.value va h between _ f.is_between
     (value-begins r (is_blanks (between_after between)) value all) (key-closed r.encoding group between front f) joined_new in
-    let value_plain : HoldsNoLineEnd (encoded_text r.encoding vt) =
+    let value_plain : HoldsNoLineEnding (encoded_text r.encoding vt) =
     plain-bytes r.encoding (encoded_text r.encoding vt) ok
-    (subst HoldsNoLineEnd (sym (ap (decoded_line r.encoding) (after-bytes r between value) ∙ text-after r.encoding between va ok writable))
+    (subst HoldsNoLineEnding (sym (ap (decoded_line r.encoding) (after-bytes r between value) ∙ text-after r.encoding between va ok writable))
     (plain-append (missing between) va (missing-plain between) (loosely-plain va value loose))) in
     let shorter : decoded_line r.encoding (f.head ++ missing between) ≡ f.head_text ++ missing between =
     ap (λ v. decoded_line r.encoding (f.head ++ v)) (sym (ap (encoded_text r.encoding) (no_value-text r between) ∙ missing-bytes r.encoding between))
     ∙ after-front r group between front [] f ok none
     ∙ ap (λ v. f.head_text ++ v) (no_value-text r between) in
     record {
-      plain = plain-append f.head (encoded_text r.encoding vt) (plain-left f.head f.tail (subst HoldsNoLineEnd f.cut line_plain)) value_plain;
+      plain = plain-append f.head (encoded_text r.encoding vt) (plain-left f.head f.tail (subst HoldsNoLineEnding f.cut line_plain)) value_plain;
       some = λ q. head-some r.encoding group between front f (no-front f.head (encoded_text r.encoding vt) q);
       whole = grind (arith, longer-whole);
       has_pair = record {

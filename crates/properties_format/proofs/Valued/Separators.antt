@@ -5,7 +5,7 @@ use Rattle.std.proofs.lemmas.Bool.{cases_Bool, cond_both}
 use Rattle.std.proofs.lemmas.List.Elements.{recursion_from_All}
 use Rattle.properties_format.specs.Text.{scalar, equals_sign, LineEnding, is_blank, is_blanks, is_separator, is_empty}
 use Rattle.properties_format.specs.Encoding.{Encoding, Repertoire}
-use Rattle.properties_format.specs.Lines.{HoldsNoLineEnd, is_open, IsWhole, joined}
+use Rattle.properties_format.specs.Lines.{HoldsNoLineEnding, is_open, IsWhole, joined}
 use Rattle.properties_format.specs.Cut.{IsDecodedLine}
 use Rattle.properties_format.specs.Computed.Cut.{decoded_line}
 use Rattle.properties_format.specs.Split.{AreBlanks, IsBetween, nothing, blanks, separator, IsPair}
@@ -168,7 +168,7 @@ added_line r first key sep value by =
 
 -- What holds for that group.
 pub record IsAddedPair (r : Repertoire) (first : Bool) (key sep value : List ℕ) (by : LineEnding) : Type 0 where
-  pub plain : HoldsNoLineEnd (added_bytes r first key sep value)
+  pub plain : HoldsNoLineEnding (added_bytes r first key sep value)
   pub some : added_bytes r first key sep value ≢ []
   pub whole : IsWhole (as_lines (added_line r first key sep value by ∷ []))
   pub has_pair : HasPair key value (added_line r first key sep value by ∷ [])
@@ -203,14 +203,14 @@ added-pair r first key sep value by ok k v f =
     let closed : is_open (written ++ (sep ++ va)) ≡ false = closed-after written sep va quiet.slashes sep_some (loosely-closed [] va value loose refl) in
     let closed_front : is_open (written ++ sep) ≡ false =
     ap (λ x. is_open (written ++ x)) (sym (append-nil sep)) ∙ closed-after written sep [] quiet.slashes sep_some refl in
-    let plain_text : HoldsNoLineEnd (written ++ (sep ++ va)) = search (rules, plain-append, printed-plain, loosely-plain) in
+    let plain_text : HoldsNoLineEnding (written ++ (sep ++ va)) = search (rules, plain-append, printed-plain, loosely-plain) in
     let line : HeldLine = record { bytes = added_bytes r first key sep value; text = written ++ (sep ++ va); ending = Some by } in
     let same : line ≡ added_line r first key sep value by =
     ap (λ x. let l : HeldLine = record { bytes = added_bytes r first key sep value; text = x; ending = Some by } in l) (sym decoded) in
     let joined_is : joined (as_lines (added_line r first key sep value by ∷ [])) ≡ written ++ (sep ++ va) = search (rules, joined-closed) in
     let p = pair-moved (written ++ (sep ++ va)) (joined (as_lines (added_line r first key sep value by ∷ []))) written va joined_is n.is_pair in
     record {
-      plain = plain-bytes r.encoding (added_bytes r first key sep value) ok (subst HoldsNoLineEnd (sym decoded) plain_text);
+      plain = plain-bytes r.encoding (added_bytes r first key sep value) ok (subst HoldsNoLineEnding (sym decoded) plain_text);
       some = text-some r.encoding (written ++ (sep ++ va)) ok writable (λ q. sep_some (no-front sep va (none-right written (sep ++ va) q)));
       whole = subst (λ x. IsWhole (as_lines (x ∷ []))) same (alone-whole (record { number = 0; text = written ++ (sep ++ va) }) (inr closed));
       has_pair = record {

@@ -1,6 +1,6 @@
 -- The lines of undecoded bytes, computed from the end of the bytes.
 use Rattle.std.specs.Prelude.{ℕ, if◌then◌else◌, List, [], ◌∷◌, map}
-use Rattle.properties_format.specs.Text.{is_line_end, characters}
+use Rattle.properties_format.specs.Text.{is_line_ending, characters}
 use Rattle.properties_format.specs.Lines.{Lines}
 use Rattle.properties_format.specs.Utf16.{low_first, high_first}
 use Rattle.properties_format.specs.Encoding.{Encoding, utf_16le, utf_16be}
@@ -14,7 +14,7 @@ two_before a b lines = let later = character_before b lines.ended lines.last in 
 
 -- the lines with one more unit of two bytes, with this value, at the front
 abbrev pub unit_before : ℕ → ℕ → ℕ → Lines → Lines
-unit_before u a b lines = if is_line_end u then before u lines else two_before a b lines
+unit_before u a b lines = if is_line_ending u then before u lines else two_before a b lines
 
 -- the lines of bytes with units of two bytes; an odd byte at the end belongs to the last line
 abbrev pub cut_of_two : (ℕ → ℕ → ℕ) → List ℕ → Lines

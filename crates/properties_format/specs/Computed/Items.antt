@@ -2,7 +2,7 @@
 use Rattle.std.specs.Prelude.{ℕ, List, [], ◌∷◌}
 use Rattle.properties_format.specs.Encoding.{Encoding}
 use Rattle.properties_format.specs.Computed.Encoding.{decoded_of}
-use Rattle.properties_format.specs.Lines.{InputEnd, Line, Lines, line_ends, numbered_lines, joined, first_number}
+use Rattle.properties_format.specs.Lines.{InputEnd, Line, Lines, line_endings, numbered_lines, joined, first_number}
 use Rattle.properties_format.specs.Computed.Lines.{lines_of, groups_of}
 use Rattle.properties_format.specs.Split.{Logical}
 use Rattle.properties_format.specs.Computed.Split.{split_of}
@@ -44,7 +44,7 @@ entries_of n ending (group ∷ groups) = followed (first_number group) (outcome_
 
 -- the entries of the lines of a text
 abbrev pub items_of_lines : Lines → InputEnd → List Entry
-items_of_lines lines ending = entries_of (line_ends lines) ending (groups_of (numbered_lines lines ending) ending)
+items_of_lines lines ending = entries_of (line_endings lines) ending (groups_of (numbered_lines lines ending) ending)
 
 -- the entries of an input
 unfoldable pub items_of : Encoding → List ℕ → InputEnd → List Entry

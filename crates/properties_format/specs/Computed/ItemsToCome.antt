@@ -3,14 +3,14 @@
 use Rattle.std.specs.Prelude.{ℕ, ◌+◌, if◌then◌else◌, List, [], ◌∷◌, Option, Some, None, ◌≡◌, true, false, ◌++◌}
 use Rattle.properties_format.specs.Text.{characters}
 use Rattle.properties_format.specs.Computed.Encoding.{pieces_of}
-use Rattle.properties_format.specs.Lines.{InputEnd, Line, Lines, line_ends, numbered}
+use Rattle.properties_format.specs.Lines.{InputEnd, Line, Lines, line_endings, numbered}
 use Rattle.properties_format.specs.Computed.Lines.{rest_of_end, lines_of, groups_of, logical_lines, joins_after}
 use Rattle.properties_format.specs.Items.{Entry, last_entries}
 use Rattle.properties_format.specs.ItemsToCome.{ReaderState, in_force}
 use Rattle.properties_format.specs.Computed.Items.{outcome_of, followed, entries_of}
 use Rattle.properties_format.specs.Encoding.{byte_order_mark}
 use Rattle.properties_format.specs.Computed.Cut.{decoded_line}
-use Rattle.properties_format.specs.Cut.{HoldsNoLineEndUnit}
+use Rattle.properties_format.specs.Cut.{HoldsNoLineEndingUnit}
 
 -- the characters to come, without an LF that belongs to the line ending before
 abbrev pub text_to_come : ReaderState → List ℕ → List ℕ
@@ -18,7 +18,7 @@ text_to_come s d = rest_of_end s.after_cr (characters (pieces_of (in_force s d).
 
 -- the entries of lines after n line endings
 abbrev pub further_entries : ℕ → Lines → InputEnd → List Entry
-further_entries n lines ending = entries_of (n + line_ends lines) ending (groups_of (numbered n lines.ended lines.last ending) ending)
+further_entries n lines ending = entries_of (n + line_endings lines) ending (groups_of (numbered n lines.ended lines.last ending) ending)
 
 -- the items to come
 unfoldable pub items_to_come : ReaderState → List ℕ → InputEnd → List Entry
@@ -32,7 +32,7 @@ natural_to_come s d ending = if s.is_done then [] else (let lines = lines_of (te
 
 -- what follows the last line: if a read failed, the error has the number of the line in which it failed
 unfoldable pub last_to_come : ReaderState → List ℕ → InputEnd → List Entry
-last_to_come s d ending = if s.is_done then [] else last_entries (s.passed + line_ends (lines_of (text_to_come s d))) ending
+last_to_come s d ending = if s.is_done then [] else last_entries (s.passed + line_endings (lines_of (text_to_come s d))) ending
 
 -- the entries of these logical lines, followed by the last entries
 abbrev pub entries_of_logical : List Line → List Entry → List Entry
@@ -76,7 +76,7 @@ next_line s l = record { number = s.passed + 1; text = decoded_line s.encoding l
 pub record HoldsNoEnd (s : ReaderState) : Type 0 where
   pub going : s.is_done ≡ false
   pub decided : s.is_decided ≡ true
-  pub none : HoldsNoLineEndUnit s.encoding s.held
+  pub none : HoldsNoLineEndingUnit s.encoding s.held
 
 -- ---- steps one after the other, whatever follows them
 

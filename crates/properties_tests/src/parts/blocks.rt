@@ -2,13 +2,13 @@
 
 use crate::same::same;
 use byte_blocks::{
-    Byte, ByteClass, Controls, Either, Except, LineEnds, Marks, PastAscii, Within, find,
+    Byte, ByteClass, Controls, Either, Except, LineEndings, Marks, NonAscii, Within, find,
     find_in_block, table_marks,
 };
 use std::simd::prelude::*;
 
 // The bytes that end a field of CSV.
-type FieldEnds = Either<Byte<b','>, LineEnds>;
+type FieldEnds = Either<Byte<b','>, LineEndings>;
 
 const TEXT: &[u8; 16] = b"a\t= \xe2\x82\xac,\r\n\x0c\\# !:";
 
@@ -27,9 +27,9 @@ fn marked_by_a_table() -> u64 {
 fn classes_mark_their_bytes(rt: HostRuntime) {
     let rows = [
         (marked::<Byte<b','>>(), 0b0000_0000_1000_0000),
-        (marked::<LineEnds>(), 0b0000_0011_0000_0000),
+        (marked::<LineEndings>(), 0b0000_0011_0000_0000),
         (marked::<Controls>(), 0b0000_0111_0000_0010),
-        (marked::<PastAscii>(), 0b0000_0000_0111_0000),
+        (marked::<NonAscii>(), 0b0000_0000_0111_0000),
         (marked::<Within<0x20, 0x3d>>(), 0b1111_0000_1000_1100),
         (marked::<Within<0x3d, 0x20>>(), 0),
         (marked::<FieldEnds>(), 0b0000_0011_1000_0000),
@@ -49,7 +49,7 @@ fn searches_return_the_first_place(rt: HostRuntime) {
         (find::<FieldEnds>(b"one,two\n"), Some(3)),
         (find::<FieldEnds>(b"one two\n"), Some(7)),
         (find::<FieldEnds>(b"one two"), None),
-        (find::<LineEnds>(text), Some(23)),
+        (find::<LineEndings>(text), Some(23)),
         (find_in_block::<Byte<b','>>(text, 4), Some(3)),
         (find_in_block::<Byte<b';'>>(text, 7), None),
         (marks.first(), Some(5)),

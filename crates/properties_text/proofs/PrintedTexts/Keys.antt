@@ -8,8 +8,8 @@ use Rattle.properties_format.specs.Escapes.{Meaning, means}
 use Rattle.properties_format.specs.Printing.{in_key_or_value, unicode_escape}
 use Rattle.properties_text.specs.Printing.{in_format, puts_of, key_bytes, escaped_key}
 use Rattle.properties_text.specs.PrintedTexts.{meaning_by, meaning_in, IsPut, Prints}
-use Rattle.properties_text.specs.declared.encoding.line.LineEncoding.{LineEncoding}
-use Rattle.properties_text.specs.declared.encoding.line.Spelt.{Spelt}
+use Rattle.properties_text.specs.declared.encoding.line_encoding.LineEncoding.{LineEncoding}
+use Rattle.properties_text.specs.declared.encoding.line_encoding.ReadCharacter.{ReadCharacter}
 use Rattle.properties_text.specs.declared.escape.UnescapeError.{UnescapeError}
 use Rattle.properties_text.specs.declared.escape.UnescapeError.TheVariants as error
 use Rattle.properties_text.specs.declared.print.Repertoire.{Repertoire}
@@ -99,7 +99,7 @@ rest-at bytes size read h =
     let whole : read + (size - read) ≡ size = omega (arith, h) in rw (take_rest, ← drop-take read (size - read) bytes, whole) refl
 
 -- The first character is escaped, and the rest is printed.
-pub escaped-rest : {e : LineEncoding} {escaped : Bool} {text rest mid written : List ℕ} {first : Spelt} (r : Repertoire) (old new : List ℕ) (at between : ℕ)
+pub escaped-rest : {e : LineEncoding} {escaped : Bool} {text rest mid written : List ℕ} {first : ReadCharacter} (r : Repertoire) (old new : List ℕ) (at between : ℕ)
     (result : Result ℕ UnescapeError) → IsReadBy escaped e text first → rest ≡ drop first.length text → mid ≡ written
     → take between written ≡ take at old ++ unicode_escape first.character
     → Prints (meaning_in e escaped rest) (puts_of r) mid between new result → Prints (meaning_in e escaped text) (escaped_key r) old at new result

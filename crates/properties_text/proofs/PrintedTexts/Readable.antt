@@ -6,7 +6,7 @@ use Rattle.properties_format.specs.Escapes.{means, breaks, Means}
 use Rattle.properties_text.specs.Escaping.{malformed_in}
 use Rattle.properties_text.specs.Printing.{puts_of, key_bytes}
 use Rattle.properties_text.specs.PrintedTexts.{meaning_by, meaning_in, bytes_of, key_of, value_of, IsPairPrinted, BreaksPair, PrintsPair, PrintsMeant}
-use Rattle.properties_text.specs.declared.encoding.line.LineEncoding.{LineEncoding}
+use Rattle.properties_text.specs.declared.encoding.line_encoding.LineEncoding.{LineEncoding}
 use Rattle.properties_text.specs.declared.escape.UnescapeError.{UnescapeError}
 use Rattle.properties_text.specs.declared.escape.UnescapeError.TheVariants as error
 use Rattle.properties_text.specs.declared.print.Pair.{Pair}

@@ -16,9 +16,9 @@ use Rattle.properties_format.proofs.Escapes.Unique.{text_in_front-means, text_in
 use Rattle.properties_text.specs.Escaping.{malformed_in, text_in, IsWell, IsReadBy, StandsBy, IsFirst}
 use Rattle.properties_text.specs.Printing.{printed_byte, printed_bytes, with_backslashes, put_of, puts_of}
 use Rattle.properties_text.specs.PrintedTexts.{meaning_by, meaning_in, printed_by, printed_in, is_copied, is_inside, past_in, rest_in, StopsIn, ArePut, ReadsBy, from_on, PutsStops, PrintsRest, IsRunPut, IsPut, Prints}
-use Rattle.properties_text.specs.declared.encoding.line.LineEncoding.{LineEncoding}
-use Rattle.properties_text.specs.declared.encoding.line.LineEncoding.TheVariants.{Windows1252, Utf8}
-use Rattle.properties_text.specs.declared.encoding.line.Spelt.{Spelt}
+use Rattle.properties_text.specs.declared.encoding.line_encoding.LineEncoding.{LineEncoding}
+use Rattle.properties_text.specs.declared.encoding.line_encoding.LineEncoding.TheVariants.{Windows1252, Utf8}
+use Rattle.properties_text.specs.declared.encoding.line_encoding.ReadCharacter.{ReadCharacter}
 use Rattle.properties_text.specs.declared.escape.UnescapeError.{UnescapeError}
 use Rattle.properties_text.specs.declared.escape.UnescapeError.TheVariants as error
 use Rattle.byte_blocks.specs.Marks.{clear_front}
@@ -35,7 +35,7 @@ use Rattle.properties_text.proofs.PrintedTexts.Steps.{printed-one, rest-well, pa
 -- ---- reading one character
 
 -- Any other character stands for itself.
-pub reads-itself : (escaped : Bool) (e : LineEncoding) (bs : List ℕ) (spelt : Spelt) → IsWell e bs → (get_or bs 0 0 ≡ backslash → escaped ≡ false)
+pub reads-itself : (escaped : Bool) (e : LineEncoding) (bs : List ℕ) (spelt : ReadCharacter) → IsWell e bs → (get_or bs 0 0 ≡ backslash → escaped ≡ false)
     → IsFirst e bs spelt → ReadsBy escaped e bs (Ok spelt)
 reads-itself false e bs spelt w other h = h
 reads-itself true e bs spelt w other h = record {
@@ -55,7 +55,7 @@ reads-itself true e bs spelt w other h = record {
 }
 
 -- So bytes mean the character and what is after it.
-pub read-meaning : (escaped : Bool) (e : LineEncoding) (bs : List ℕ) (spelt : Spelt) → StandsBy escaped e bs spelt
+pub read-meaning : (escaped : Bool) (e : LineEncoding) (bs : List ℕ) (spelt : ReadCharacter) → StandsBy escaped e bs spelt
     → meaning_in e escaped bs ≡ in_front spelt.character (meaning_in e escaped (drop spelt.length bs))
 read-meaning true e bs spelt h = spells-meaning e bs spelt h
 read-meaning false e bs spelt h = ap means h
@@ -91,7 +91,7 @@ module _ {holds : ℕ → Bool} {e : LineEncoding} {t : Repertoire} {whole : Mea
       }
 
   -- the character at a stop
-  pub stop-put : {spelt : Spelt} → so_far.read < length text → holds (get_or text so_far.read 0) ≡ true
+  pub stop-put : {spelt : ReadCharacter} → so_far.read < length text → holds (get_or text so_far.read 0) ≡ true
       → IsReadBy (holds backslash) e (drop so_far.read text) spelt → put.read ≡ so_far.read + spelt.length
       → take put.end new ≡ take so_far.end out ++ put_of t spelt.character → ArePut e t (holds backslash) whole text put new
   stop-put {spelt} inside stop h at printed =

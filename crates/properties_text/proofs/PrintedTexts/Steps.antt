@@ -22,8 +22,8 @@ use Rattle.properties_format.proofs.Printing.Characters.{encoded_text-append}
 use Rattle.properties_text.specs.Printing.{printed_byte, printed_bytes, in_format, put_of}
 use Rattle.properties_text.specs.Escaping.{text_in, IsWell}
 use Rattle.properties_text.specs.PrintedTexts.{meaning_by, meaning_in, printed_by, printed_in, is_copied, is_inside, inside, past, past_in, rest_in, StopsIn}
-use Rattle.properties_text.specs.declared.encoding.line.LineEncoding.{LineEncoding}
-use Rattle.properties_text.specs.declared.encoding.line.LineEncoding.TheVariants.{Windows1252, Utf8}
+use Rattle.properties_text.specs.declared.encoding.line_encoding.LineEncoding.{LineEncoding}
+use Rattle.properties_text.specs.declared.encoding.line_encoding.LineEncoding.TheVariants.{Windows1252, Utf8}
 use Rattle.properties_text.specs.declared.print.Repertoire.{Repertoire}
 use Rattle.properties_text.specs.declared.print.Repertoire.TheVariants as repertoire
 use Rattle.properties_text.proofs.Texts.Characters.{AreWide, AreInside, one, wide, encoded as bytes-of, character_and, wide-no_backslash}

@@ -15,9 +15,9 @@ use Rattle.properties_format.proofs.Escapes.Unique.{text_in_front-means, text_in
 use Rattle.properties_text.specs.Printing.{in_format, put_of, value_bytes, rest_bytes, inside_bytes, is_first_escaped, last_run}
 use Rattle.properties_text.specs.Escaping.{text_in, IsWell, IsReadBy}
 use Rattle.properties_text.specs.PrintedTexts.{meaning_by, meaning_in, PrintsMeant}
-use Rattle.properties_text.specs.declared.encoding.line.LineEncoding.{LineEncoding}
-use Rattle.properties_text.specs.declared.encoding.line.LineEncoding.TheVariants.{Windows1252, Utf8}
-use Rattle.properties_text.specs.declared.encoding.line.Spelt.{Spelt}
+use Rattle.properties_text.specs.declared.encoding.line_encoding.LineEncoding.{LineEncoding}
+use Rattle.properties_text.specs.declared.encoding.line_encoding.LineEncoding.TheVariants.{Windows1252, Utf8}
+use Rattle.properties_text.specs.declared.encoding.line_encoding.ReadCharacter.{ReadCharacter}
 use Rattle.properties_text.specs.declared.escape.UnescapeError.{UnescapeError}
 use Rattle.properties_text.specs.declared.escape.UnescapeError.TheVariants as error
 use Rattle.properties_text.specs.declared.print.Repertoire.{Repertoire}
@@ -100,7 +100,7 @@ module _ {e : LineEncoding} {r : Repertoire} {escaped : Bool} {before text rest 
         ∙ text_in_front-breaks held.done kind
 
     -- A run and the character after it are printed.
-    pub run-and-stop : (more run others new : List ℕ) (is_last : Bool) (spelt : Spelt) → run ≡ take n rest → others ≡ drop n rest → more ≡ line ++ run
+    pub run-and-stop : (more run others new : List ℕ) (is_last : Bool) (spelt : ReadCharacter) → run ≡ take n rest → others ≡ drop n rest → more ≡ line ++ run
         → IsReadBy escaped e others spelt → is_last ≡ (length (drop spelt.length others) == 0) → new ≡ more ++ inside_bytes r is_last spelt.character
         → IsPrintedTo e r escaped before text (drop spelt.length others) new
     run-and-stop more run others new is_last spelt run_is others_is extended read last put =
@@ -152,7 +152,7 @@ pub no-value : (e : LineEncoding) (r : Repertoire) (escaped after_blanks : Bool)
 no-value e r escaped after_blanks [] line h = ([], ap (meaning_by escaped) (no-text e [] refl) ∙ empty-means escaped, sym (append-nil line))
 no-value e r escaped after_blanks (b ∷ bytes) line h = absurd (grind (arith, nat_tests))
 
-module _ {e : LineEncoding} {escaped : Bool} {bytes : List ℕ} {first : Spelt} (r : Repertoire) (after_blanks : Bool) (line : List ℕ)
+module _ {e : LineEncoding} {escaped : Bool} {bytes : List ℕ} {first : ReadCharacter} (r : Repertoire) (after_blanks : Bool) (line : List ℕ)
     (read : IsReadBy escaped e bytes first) where
   abbrev pub rest : List ℕ
   rest = drop first.length bytes

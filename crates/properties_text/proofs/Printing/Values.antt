@@ -9,7 +9,7 @@ use Rattle.std.proofs.lemmas.Bool.Decides.{nat_tests}
 use Rattle.std.proofs.lemmas.List.{get_or-take, length-take}
 use Rattle.std.proofs.lemmas.List.Elements.{All-head, All-tail, All-nil, All-cons, All-from_get_or}
 use Rattle.memchr.specs.Find.{IsFirstByte}
-use Rattle.byte_blocks.specs.Classes.{is_control, is_past_ascii}
+use Rattle.byte_blocks.specs.Classes.{is_control, is_non_ascii}
 use Rattle.properties_format.specs.Text.{space, backslash, is_separator, is_comment_sign, is_empty}
 use Rattle.properties_format.specs.Encoding.{Repertoire}
 use Rattle.properties_format.specs.Printing.{in_key_or_value, is_special, has_letter, unicode_escape, printed_character, encoded_text, is_free, printed_inside, printed_first, printed_last, printed_rest, printed_value}
@@ -17,7 +17,7 @@ use Rattle.properties_format.specs.Writing.{HoldsNoBackslash}
 use Rattle.properties_format.proofs.Printing.Characters.{encoded_text-append, encoded_text-ascii, unicode_escape-ascii}
 use Rattle.properties_text.specs.Printing.{is_first_escaped, last_run}
 use Rattle.properties_text.specs.Escaping.{text_in, IsWell}
-use Rattle.properties_text.specs.declared.encoding.line.LineEncoding.{LineEncoding}
+use Rattle.properties_text.specs.declared.encoding.line_encoding.LineEncoding.{LineEncoding}
 use Rattle.properties_text.proofs.Printing.Bytes.{ascii-printed}
 use Rattle.properties_text.proofs.Spelt.First.{ascii-first}
 use Rattle.properties_format.proofs.Valued.Fronts.{right-some}
@@ -30,7 +30,7 @@ none-left (b ∷ x) h = absurd (grind (arith, nat_tests))
 -- ---- what stops a run
 
 abbrev pub stops : ℕ → Bool
-stops b = is_past_ascii b || (is_control b || b == 0x5c)
+stops b = is_non_ascii b || (is_control b || b == 0x5c)
 
 -- Any other byte is an ASCII character that is printed as it is.
 record IsPlain (b : ℕ) : Type 0 where
@@ -40,7 +40,7 @@ record IsPlain (b : ℕ) : Type 0 where
 
 plain : (b : ℕ) → stops b ≡ false → IsPlain b
 plain b h =
-    let p = or_parts (is_past_ascii b) (is_control b || b == 0x5c) h in
+    let p = or_parts (is_non_ascii b) (is_control b || b == 0x5c) h in
     let q = or_parts (is_control b) (b == 0x5c) p.1 in
     record { ascii = grind (arith, nat_tests, p.0); printable = grind (arith, nat_tests, q.0); other = q.1 }
 

@@ -11,9 +11,9 @@ use Rattle.properties_format.specs.Computed.Escapes.{in_front, with_low, meaning
 use Rattle.properties_format.proofs.Escapes.Laws.{IsMalformedUnit}
 use Rattle.properties_format.proofs.Escapes.Unique.{meaning_of-spelling}
 use Rattle.properties_text.specs.Escaping.{malformed_in, text_in, IsWell, Spells, Reads, digits_in, BeginsUnit, HasDigits, LacksDigits, HasLow, LacksLow, CountsFour, IsFirst, IsRead}
-use Rattle.properties_text.specs.declared.encoding.line.LineEncoding.{LineEncoding}
-use Rattle.properties_text.specs.declared.encoding.line.LineEncoding.TheVariants.{Windows1252, Utf8}
-use Rattle.properties_text.specs.declared.encoding.line.Spelt.{Spelt}
+use Rattle.properties_text.specs.declared.encoding.line_encoding.LineEncoding.{LineEncoding}
+use Rattle.properties_text.specs.declared.encoding.line_encoding.LineEncoding.TheVariants.{Windows1252, Utf8}
+use Rattle.properties_text.specs.declared.encoding.line_encoding.ReadCharacter.{ReadCharacter}
 use Rattle.properties_text.specs.declared.escape.Malformed.{Malformed}
 use Rattle.properties_text.specs.declared.escape.Malformed.TheVariants.{NotEnoughDigits, NotHex, InvalidCharacter}
 use Rattle.properties_text.proofs.Texts.Escapes.{IsUnit, IsUnread, malformed-unread, malformed-unpaired, scalar-unit, surrogate-unit, other-character}
@@ -178,7 +178,7 @@ reads-unpaired e bs high w b h out none =
 -- ---- what is
 
 -- What is spelt means the character and what is after it.
-pub spells-meaning : (e : LineEncoding) (bs : List ℕ) (spelt : Spelt) → Spells e bs spelt
+pub spells-meaning : (e : LineEncoding) (bs : List ℕ) (spelt : ReadCharacter) → Spells e bs spelt
     → meaning_of (text_in e bs) ≡ in_front spelt.character (meaning_of (text_in e (drop spelt.length bs)))
 spells-meaning e bs spelt s = rw (s.whole, s.character) (meaning_of-spelling s.spelling (text_in e (drop spelt.length bs)) s.stands)
 
@@ -270,7 +270,7 @@ reads-end {e} {bs} w one b =
     }
 
 -- A backslash before another character was read.
-pub reads-past : {e : LineEncoding} {bs : List ℕ} {first : Spelt} → IsWell e bs → 2 ≤ length bs → get_or bs 0 0 ≡ backslash → 0x80 ≤ get_or bs 1 0
+pub reads-past : {e : LineEncoding} {bs : List ℕ} {first : ReadCharacter} → IsWell e bs → 2 ≤ length bs → get_or bs 0 0 ≡ backslash → 0x80 ≤ get_or bs 1 0
     → IsFirst e (drop 1 bs) first → IsRead e bs record { character = first.character; length = 1 + first.length }
 reads-past {e} {bs} {first} w some b past f =
     let a = after-one e bs w (omega arith) (omega (arith, b)) in

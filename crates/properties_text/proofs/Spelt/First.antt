@@ -19,9 +19,9 @@ use Rattle.properties_format.proofs.Encodings.Utf8Characters.{encode-one, encode
 use Rattle.properties_format.proofs.Encodings.WellFormed.{scalar-from_char}
 use Rattle.properties_format.proofs.Encodings.Windows1252.{windows_1252-ascii, windows_1252_character-ascii}
 use Rattle.properties_text.specs.Escaping.{text_in, IsWell, length_by_first, IsFirst}
-use Rattle.properties_text.specs.declared.encoding.line.LineEncoding.{LineEncoding}
-use Rattle.properties_text.specs.declared.encoding.line.LineEncoding.TheVariants.{Windows1252, Utf8}
-use Rattle.properties_text.specs.declared.encoding.line.Spelt.{Spelt}
+use Rattle.properties_text.specs.declared.encoding.line_encoding.LineEncoding.{LineEncoding}
+use Rattle.properties_text.specs.declared.encoding.line_encoding.LineEncoding.TheVariants.{Windows1252, Utf8}
+use Rattle.properties_text.specs.declared.encoding.line_encoding.ReadCharacter.{ReadCharacter}
 use Rattle.properties_text.proofs.Texts.Characters.{character_and, first_ascii}
 
 -- ---- UTF-8
@@ -44,7 +44,7 @@ bytes-of : (xs rest : List ℕ) → 0 < length xs → get_or (xs ++ rest) 0 0 �
 bytes-of xs rest h = grind (arith, common_steps)
 
 -- what is read of a character: its number, and its number of bytes
-abbrev pub sequence_of : List ℕ → ℕ → Spelt
+abbrev pub sequence_of : List ℕ → ℕ → ReadCharacter
 sequence_of bs n = record { character = sequence_character (get_or bs 0 0 ∷ take (n - 1) (drop 1 bs)); length = n }
 
 -- Bytes that begin with those of a character.

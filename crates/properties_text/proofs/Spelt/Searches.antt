@@ -13,9 +13,9 @@ use Rattle.properties_format.specs.Computed.Escapes.{text_in_front, meaning_of}
 use Rattle.properties_format.specs.Computed.Cut.{characters_of}
 use Rattle.properties_format.proofs.Escapes.Laws.{meaning_of-plain_front, meaning_of-plain}
 use Rattle.properties_text.specs.Escaping.{holds_backslash, text_in, IsWell, IsRead}
-use Rattle.properties_text.specs.declared.encoding.line.LineEncoding.{LineEncoding}
-use Rattle.properties_text.specs.declared.encoding.line.LineEncoding.TheVariants.{Windows1252, Utf8}
-use Rattle.properties_text.specs.declared.encoding.line.Spelt.{Spelt}
+use Rattle.properties_text.specs.declared.encoding.line_encoding.LineEncoding.{LineEncoding}
+use Rattle.properties_text.specs.declared.encoding.line_encoding.LineEncoding.TheVariants.{Windows1252, Utf8}
+use Rattle.properties_text.specs.declared.encoding.line_encoding.ReadCharacter.{ReadCharacter}
 use Rattle.properties_text.proofs.Spelt.First.{own-byte}
 use Rattle.properties_text.proofs.Spelt.Escapes.{spells-meaning}
 use Rattle.properties_text.proofs.Texts.Resolving.{found_some, found_none, split_at, plain, IsResolvedTo, resolved_many}
@@ -72,7 +72,7 @@ pub record IsReadTo (e : LineEncoding) (text rest : List ℕ) : Type 0 where
   pub resolved : IsResolvedTo (text_in e text) [] done (text_in e rest)
 
 -- One escape was read.
-pub one-read : (e : LineEncoding) (text rest : List ℕ) (at : ℕ) (spelt : Spelt) → IsReadTo e text rest → IsSplitIn e rest at → IsRead e (drop at rest) spelt
+pub one-read : (e : LineEncoding) (text rest : List ℕ) (at : ℕ) (spelt : ReadCharacter) → IsReadTo e text rest → IsSplitIn e rest at → IsRead e (drop at rest) spelt
     → IsReadTo e text (drop spelt.length (drop at rest))
 one-read e text rest at spelt held s r = record {
   well = r.well;

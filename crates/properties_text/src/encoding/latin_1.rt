@@ -5,7 +5,7 @@ ghost use Rattle.std.specs.Str.{all_scalars};
 ghost use Rattle.properties_format.specs.Windows1252.{is_in_table};
 ghost use Rattle.properties_text.specs.Private.Tails.{lead_byte, last_byte};
 
-use byte_blocks::{ByteClass, Marks, PastAscii, Within, put_spread};
+use byte_blocks::{ByteClass, Marks, NonAscii, Within, put_spread};
 use std::simd::prelude::*;
 
 /// Marks the bytes 80 to 9F, whose characters in windows-1252 have other code points.
@@ -34,7 +34,7 @@ pub fn put_latin_1(run: &mut [u8], at: usize, v: u8x16, kept: usize) -> usize
         at,
         last_bytes(v),
         lead_bytes(v),
-        PastAscii::marks(v),
+        NonAscii::marks(v),
         kept,
     )
 }

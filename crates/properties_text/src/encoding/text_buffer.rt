@@ -94,7 +94,7 @@ impl TextBuffer {
         ensures kept { OnErr result (KeepsText self.old (text_of encoding bytes.now) self.new) }
         ensures utf8 { IsUtf8 self.new }
     {
-        // Tells the prover that the text so far is UTF-8.
+        // Proof only: the text so far is UTF-8.
         let _line = &self.line;
         let mut rest = bytes;
         while !rest.is_empty() {

@@ -9,11 +9,11 @@ ghost use Rattle.properties_format.specs.Encoding.{utf_8};
 ghost use Rattle.properties_text.specs.Encoding.{IsFirstPiece, IsLongestText, range_of};
 ghost use Rattle.properties_text.specs.Escaping.{IsFirst, length_by_first};
 ghost use Rattle.properties_text.specs.Private.Tails.{ones, GoesOn};
-ghost use Rattle.properties_text.specs.declared.encoding.line.LineEncoding.TheVariants.{Utf8};
+ghost use Rattle.properties_text.specs.declared.encoding.line_encoding.LineEncoding.TheVariants.{Utf8};
 
 use super::first_piece::FirstPiece;
-use super::line::Spelt;
-use byte_blocks::{ByteClass, Either, PastAscii, Within};
+use super::line_encoding::ReadCharacter;
+use byte_blocks::{ByteClass, Either, NonAscii, Within};
 use std::simd::prelude::*;
 
 // A range of bytes, both ends included.
@@ -124,6 +124,7 @@ pub fn as_text(bytes: &[u8]) -> Option<&str>
     if well_formed_length(bytes) < bytes.len() {
         return None;
     }
+    // SAFETY: all of the bytes are well-formed.
     Some(unsafe { str::from_utf8_unchecked(bytes) })
 }
 
@@ -134,6 +135,7 @@ pub fn text_front(bytes: &[u8]) -> (&str, &[u8])
     ensures longest { IsLongestText bytes.now (length result.0.now) }
 {
     let (front, after) = bytes.split_at(well_formed_length(bytes));
+    // SAFETY: the front is well-formed.
     (unsafe { str::from_utf8_unchecked(front) }, after)
 }
 
@@ -209,7 +211,7 @@ fn tails_after(wanted: u64, block: u8x16) -> Option<u64>
     ensures goes_on { IfSome result (λ after.
         (n : ℕ) → wanted ≡ ones n → (m : ℕ) × (after ≡ ones m) × GoesOn n block m) }
 {
-    let past = bits_of::<PastAscii>(block);
+    let past = bits_of::<NonAscii>(block);
     if past + wanted == 0 {
         return Some(0);
     }
@@ -236,14 +238,14 @@ fn bits_of<C: ByteClass>(block: u8x16) -> u64
 
 /// Returns the first character of a text that is well-formed and not empty.
 #[inline(always)]
-pub fn first_character(text: &[u8]) -> Spelt
+pub fn first_character(text: &[u8]) -> ReadCharacter
     requires some { 0 < length text.now }
     requires well { IsUtf8 text.now }
     ensures { IsFirst Utf8 text.now result }
 {
     let length = length_by_first(text[0]);
     let code = sequence_character(text[0], &text[1..length]);
-    Spelt {
+    ReadCharacter {
         character: char::from_u32(code).unwrap_or(char::REPLACEMENT_CHARACTER),
         length,
     }

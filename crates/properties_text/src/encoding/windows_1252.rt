@@ -57,6 +57,7 @@ pub fn as_text(bytes: &[u8]) -> Option<&str>
     ensures same { IfSome result (λ text. text.now ≡ bytes.now) }
 {
     if is_ascii(bytes) {
+        // SAFETY: ASCII is UTF-8.
         Some(unsafe { str::from_utf8_unchecked(bytes) })
     } else {
         None

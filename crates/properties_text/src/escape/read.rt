@@ -7,7 +7,7 @@ ghost use Rattle.properties_format.specs.Escapes.{letter_u, is_high, is_low, pai
 ghost use Rattle.properties_text.specs.Escaping.{digit_value, IsWell, IsRead, Reads, BeginsUnit, HasDigits, LacksDigits, HasLow, LacksLow, CountsFour};
 
 use super::Malformed;
-use crate::encoding::{LineEncoding, Spelt, pair_character};
+use crate::encoding::{LineEncoding, ReadCharacter, pair_character};
 
 // A value that no four digits have.
 const NONE: u32 = 0x1_0000;
@@ -35,7 +35,7 @@ static DIGIT_VALUES: [u32; 256] = [
 /// Reads the escape at the front of a well-formed text, whose first byte is a backslash. A backslash at the end of the
 /// text means U+0000.
 #[inline(always)]
-pub fn read_escape(encoding: LineEncoding, text: &[u8]) -> Result<Spelt, Malformed>
+pub fn read_escape(encoding: LineEncoding, text: &[u8]) -> Result<ReadCharacter, Malformed>
     requires some { 0 < length text.now }
     requires escape { get_or text.now 0 0 ≡ backslash }
     requires well { IsWell encoding text.now }
@@ -46,7 +46,7 @@ pub fn read_escape(encoding: LineEncoding, text: &[u8]) -> Result<Spelt, Malform
             return read_unicode(encoding, text);
         }
         if text[1] < 0x80 {
-            return Ok(Spelt {
+            return Ok(ReadCharacter {
                 character: char::from(escaped_byte(text[1])),
                 length: 2,
             });
@@ -57,7 +57,7 @@ pub fn read_escape(encoding: LineEncoding, text: &[u8]) -> Result<Spelt, Malform
 
 // What a backslash means before a non-ASCII character, and at the end of a text.
 #[inline(never)]
-fn read_other(encoding: LineEncoding, text: &[u8]) -> Spelt
+fn read_other(encoding: LineEncoding, text: &[u8]) -> ReadCharacter
     requires some { 0 < length text.now }
     requires escape { get_or text.now 0 0 ≡ backslash }
     requires past { 1 < length text.now → 0x80 ≤ get_or text.now 1 0 }
@@ -65,13 +65,13 @@ fn read_other(encoding: LineEncoding, text: &[u8]) -> Spelt
     ensures { IsRead encoding text.now result }
 {
     if text.len() == 1 {
-        return Spelt {
+        return ReadCharacter {
             character: '\0',
             length: 1,
         };
     }
     let escaped = encoding.first_character(&text[1..]);
-    Spelt {
+    ReadCharacter {
         character: escaped.character,
         length: 1 + escaped.length,
     }
@@ -97,7 +97,7 @@ fn escaped_byte(byte: u8) -> u8
 
 // Reads a `\u` escape. If its digits are a high surrogate, the next escape must be the low one; both make one character.
 #[inline(always)]
-fn read_unicode(encoding: LineEncoding, text: &[u8]) -> Result<Spelt, Malformed>
+fn read_unicode(encoding: LineEncoding, text: &[u8]) -> Result<ReadCharacter, Malformed>
     requires begins { BeginsUnit text.now }
     requires well { IsWell encoding text.now }
     ensures { Reads encoding text.now result }
@@ -106,13 +106,13 @@ fn read_unicode(encoding: LineEncoding, text: &[u8]) -> Result<Spelt, Malformed>
         return Err(what_is_wrong(encoding, &text[2..]));
     };
     if let Some(character) = char::from_u32(unit) {
-        return Ok(Spelt {
+        return Ok(ReadCharacter {
             character,
             length: 6,
         });
     }
     match low_surrogate(unit, &text[6..]) {
-        Some(character) => Ok(Spelt {
+        Some(character) => Ok(ReadCharacter {
             character,
             length: 12,
         }),

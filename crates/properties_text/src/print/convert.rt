@@ -10,14 +10,14 @@ ghost use Rattle.properties_text.specs.Converted.{converted_in, is_stop, StaysUp
 
 use super::runs::put_literal;
 use super::{Repertoire, is_copied};
-use crate::encoding::{LineEncoding, Spelt, byte_of};
+use crate::encoding::{LineEncoding, ReadCharacter, byte_of};
 use crate::escape::read_escape;
 use crate::line_buffer::{LineBuffer, make_room};
-use byte_blocks::{Byte, ByteClass, Either, PastAscii, find};
+use byte_blocks::{Byte, ByteClass, Either, NonAscii, find};
 use std::alloc::{AllocError, Global};
 
 // Where a run stops if spellings change: at a backslash, and at a non-ASCII byte.
-type Stops = Either<PastAscii, Byte<b'\\'>>;
+type Stops = Either<NonAscii, Byte<b'\\'>>;
 
 // The room for a block, or for a unit.
 const ROOM: usize = 32;
@@ -121,7 +121,7 @@ fn run_length(readable: bool, text: &[u8]) -> usize
     if readable {
         return first_of::<Stops>(text);
     }
-    let past = first_of::<PastAscii>(text);
+    let past = first_of::<NonAscii>(text);
     let mut count = past;
     while count > 0 && text[count - 1] == b'\\' {
         count -= 1;
@@ -211,7 +211,7 @@ fn put_spelling<'a>(
     readable: bool,
     encoding: LineEncoding,
     text: &'a [u8],
-    spelt: Spelt,
+    spelt: ReadCharacter,
 ) -> Front<'a>
     requires well { IsWell encoding text.now }
     requires read { IsRead encoding text.now spelt }

@@ -13,7 +13,7 @@ use super::Repertoire;
 use super::bytes::{first_16, put_any, put_byte, put_with_backslashes};
 use super::escapes::{LONGEST, put_escape};
 use super::part::Part;
-use crate::encoding::{LineEncoding, Spelt, byte_of, put_character};
+use crate::encoding::{LineEncoding, ReadCharacter, byte_of, put_character};
 use crate::escape::{Malformed, UnescapeError, read_escape};
 use crate::line_buffer::make_room;
 use byte_blocks::ByteClass;
@@ -91,7 +91,7 @@ pub fn put_literal(out: &mut [u8], at: usize, repertoire: Repertoire, character:
 pub fn first_character<Stops: ByteClass>(
     encoding: LineEncoding,
     text: &[u8],
-) -> Result<Spelt, Malformed>
+) -> Result<ReadCharacter, Malformed>
     requires some { 0 < length text.now }
     requires well { IsWell encoding text.now }
     ensures { ReadsBy (Stops.holds backslash) encoding text.now result }

@@ -15,7 +15,7 @@ use Rattle.properties_tools.specs.Propedit.Listing.{is_key_listed, listed_keys, 
 use Rattle.properties_tools.specs.Propedit.Sources.{IsSound}
 use Rattle.properties_tools.specs.Propedit.Texts.{ended_all}
 use Rattle.properties_tools.specs.Private.FirstKeys.{AddsKey as HoldsKey}
-use Rattle.properties_tools.specs.declared.propedit.request.TextEnd.{TextEnd}
+use Rattle.properties_tools.specs.declared.propedit.request.Terminator.{Terminator}
 use Rattle.properties_tools.specs.declared.propedit.first_keys.FirstKeys.{FirstKeys}
 use Rattle.std.specs.Option.{option_map}
 use Rattle.std.specs.declared.string.String.{String}
@@ -38,24 +38,24 @@ use Rattle.properties_tools.specs.declared.propedit.line_findings.LineFindings.{
 -- ---- The keys that are listed.
 
 -- the key that a logical line adds, if it is listed
-abbrev pub ListsKey : List ℕ → TextEnd → Option (List ℕ) → FirstKeys → FirstKeys → Type 0
+abbrev pub ListsKey : List ℕ → Terminator → Option (List ℕ) → FirstKeys → FirstKeys → Type 0
 ListsKey prefix end None old new = new ≡ old
 ListsKey prefix end (Some key) old new =
     ((is_key_listed prefix key ≡ false) × (new ≡ old)) ⊎ ((is_key_listed prefix key ≡ true) × ((number : ℕ) × (first : ℕ) × HoldsKey end key number old first new))
 
 -- What is held after a logical line; or why nothing is.
-abbrev pub ListsLine : ℕ → List ℕ → List ℕ → TextEnd → FirstKeys → Result Unit PropertiesError → FirstKeys → Type 0
+abbrev pub ListsLine : ℕ → List ℕ → List ℕ → Terminator → FirstKeys → Result Unit PropertiesError → FirstKeys → Type 0
 ListsLine number x prefix end old (Ok done) new =
     AreInComments (escapes_from number x (outcome_of x) []) × ListsKey prefix end (outcome_key (outcome_of x)) old new
 ListsLine number x prefix end old (Err error) new = ((is_comment_line x ≡ false) × IsNoItem number x error) ⊎ IsBareError kind.Memory error
 
 -- The text has the keys of a source that are listed, and all malformed escapes are in comments.
-abbrev pub HasListedText : Encoding → List ℕ → List ℕ → TextEnd → List ℕ → Type 0
+abbrev pub HasListedText : Encoding → List ℕ → List ℕ → Terminator → List ℕ → Type 0
 HasListedText e source prefix end text =
     EscapesAre e source AreInComments × ((keys : List (List ℕ)) × AreKeysOf e source keys × (text ≡ ended_all end (listed_keys prefix keys)))
 
 -- What finding them in a source returns. In a sound source it fails only if memory runs out.
-abbrev pub FindsListed : Encoding → List ℕ → List ℕ → TextEnd → Result (Vec ℕ) PropertiesError → Type 0
+abbrev pub FindsListed : Encoding → List ℕ → List ℕ → Terminator → Result (Vec ℕ) PropertiesError → Type 0
 FindsListed e source prefix end (Ok text) = HasListedText e source prefix end text.items
 FindsListed e source prefix end (Err error) = IsSound e source → IsBareError kind.Memory error
 
@@ -148,7 +148,7 @@ AddsEscapes number x old new = new ≡ old ++ map escape_finding (escape_records
 
 -- The key of a pair in this line is held from now on. If an earlier line has it, that is a finding.
 pub record AddsPair (w : Bool) (number : ℕ) (key : List ℕ) (old new : LineFindings) : Type 0 where
-  pub end : TextEnd
+  pub end : Terminator
   pub first : ℕ
   pub holds : HoldsKey end key number old.keys first new.keys
   pub repeats : new.repeats.items ≡ old.repeats.items ++ repeat_findings w (record { number = number; key = key; first = first })

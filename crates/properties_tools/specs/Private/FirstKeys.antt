@@ -7,7 +7,7 @@ use Rattle.std.specs.String.{string_cmp}
 use Rattle.std.proofs.Math.ListN.{set}
 use Rattle.java_properties.specs.Private.LineByLine.{number_at}
 use Rattle.properties_tools.specs.Propedit.Texts.{ended}
-use Rattle.properties_tools.specs.declared.propedit.request.TextEnd.{TextEnd}
+use Rattle.properties_tools.specs.declared.propedit.request.Terminator.{Terminator}
 use Rattle.properties_tools.specs.declared.propedit.first_keys.FirstKeys.{FirstKeys}
 use Rattle.properties_tools.specs.declared.propedit.first_keys.Place.{Place}
 
@@ -74,7 +74,7 @@ KeepsKey key place old new = (new.text ≡ old.text) × KeptPlace key place old 
 
 -- The key is held with the number of the line that is returned: it was before; or its line is this one, and its text is
 -- appended.
-abbrev pub AddsKey : TextEnd → List ℕ → ℕ → FirstKeys → ℕ → FirstKeys → Type 0
+abbrev pub AddsKey : Terminator → List ℕ → ℕ → FirstKeys → ℕ → FirstKeys → Type 0
 AddsKey end key number old first new =
     (held : List ℕ → Option ℕ) → IsIndexed held old
     → ((held key ≡ Some first) × (new ≡ old))

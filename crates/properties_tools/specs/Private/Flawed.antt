@@ -10,8 +10,8 @@ use Rattle.properties_lines.specs.Scanner.{HasRightFlags, bytes_of}
 use Rattle.properties_lines.specs.declared.scanner.RawLine.{RawLine}
 use Rattle.properties_lines.specs.declared.scanner.Scanner.{Scanner}
 use Rattle.properties_tools.specs.Propedit.Lines.{holds_zero, AreFlawedIn, HasFlawed}
-use Rattle.properties_tools.specs.declared.propedit.utf_8.Flaw.{Flaw}
-use Rattle.properties_tools.specs.declared.propedit.utf_8.Flaw.TheVariants.{IllFormed, Zero}
+use Rattle.properties_tools.specs.declared.propedit.ill_formed.Flaw.{Flaw}
+use Rattle.properties_tools.specs.declared.propedit.ill_formed.Flaw.TheVariants.{IllFormed, Zero}
 
 -- ---- the bytes of a line
 

@@ -20,24 +20,24 @@ use Rattle.properties_tools.specs.Messages.{escaped}
 use Rattle.properties_tools.specs.Propedit.Failures.{ill_formed_words, ill_formed_by_mark_words, not_utf_16_words, zero_words}
 use Rattle.properties_tools.specs.Propedit.Lines.{starts_with_bom, AreFlawedLines, IsFirstFlawed}
 use Rattle.properties_tools.specs.Propedit.Sources.{is_in_utf_16}
-use Rattle.properties_tools.specs.declared.propedit.check.Fault.{Fault}
-use Rattle.properties_tools.specs.declared.propedit.check.Fault.TheVariants.{HoldsZero, IllFormedLine, Escape, Repeats}
+use Rattle.properties_tools.specs.declared.propedit.check.FindingKind.{FindingKind}
+use Rattle.properties_tools.specs.declared.propedit.check.FindingKind.TheVariants.{HoldsZero, IllFormedLine, Escape, Repeats}
 use Rattle.properties_tools.specs.declared.propedit.check.Finding.{Finding}
 use Rattle.properties_tools.specs.declared.propedit.check.Words.{Words}
-use Rattle.properties_tools.specs.declared.propedit.check.Words.TheVariants.{WithEncoding, WithMark, NotUtf8, NotUtf16}
-use Rattle.properties_tools.specs.declared.propedit.utf_8.Flaw.TheVariants.{IllFormed, Zero}
+use Rattle.properties_tools.specs.declared.propedit.check.Words.TheVariants.{WithEncoding, WithByteOrderMark, NotUtf8, NotUtf16}
+use Rattle.properties_tools.specs.declared.propedit.ill_formed.Flaw.TheVariants.{IllFormed, Zero}
 
 -- ---- findings
 
 -- of the first line with U+0000, where there is one
 abbrev pub zero_findings : Option ℕ → List Finding
 zero_findings None = []
-zero_findings (Some number) = record { line_number = number; fault = HoldsZero } ∷ []
+zero_findings (Some number) = record { line_number = number; kind = HoldsZero } ∷ []
 
 -- what is said of the first ill-formed line of a source: what helps, if it is not UTF-8 and no line has U+0000
 abbrev pub first_words : Encoding → List ℕ → Bool → Words
 first_words e source has_zero =
-    if is_in_utf_16 e source then NotUtf16 else (if starts_with_bom source then WithMark else (if has_zero then NotUtf8 else WithEncoding))
+    if is_in_utf_16 e source then NotUtf16 else (if starts_with_bom source then WithByteOrderMark else (if has_zero then NotUtf8 else WithEncoding))
 
 -- and of those after it, which don't say it again
 abbrev pub words_after : Words → Words
@@ -47,11 +47,11 @@ words_after other = NotUtf8
 -- of the ill-formed lines, where these words are said of the first
 abbrev pub ill_formed_findings : Words → List ℕ → List Finding
 ill_formed_findings words [] = []
-ill_formed_findings words (number ∷ numbers) = record { line_number = number; fault = IllFormedLine words } ∷ ill_formed_findings (words_after words) numbers
+ill_formed_findings words (number ∷ numbers) = record { line_number = number; kind = IllFormedLine words } ∷ ill_formed_findings (words_after words) numbers
 
 -- of a malformed escape
 abbrev pub escape_finding : MalformedEscape → Finding
-escape_finding escape = record { line_number = escape.line_number; fault = Escape escape }
+escape_finding escape = record { line_number = escape.line_number; kind = Escape escape }
 
 -- whether a text has U+FFFD, as which ill-formed bytes are read
 abbrev pub has_replacement : List ℕ → Bool
@@ -62,7 +62,7 @@ abbrev pub repeat_findings : Bool → KeyEntry → List Finding
 repeat_findings is_well_formed k =
     if k.first == k.number then [] else
     if not is_well_formed && has_replacement k.key then [] else
-    record { line_number = k.number; fault = Repeats k.first } ∷ []
+    record { line_number = k.number; kind = Repeats k.first } ∷ []
 
 -- the findings of this line with U+0000, these ill-formed lines, escapes and keys, one kind after another
 abbrev pub all_findings : Words → Option ℕ → List ℕ → List MalformedEscape → List KeyEntry → List Finding
@@ -81,7 +81,7 @@ pub record ArrangesByLine (findings arranged : List Finding) : Type 0 where
 -- of an ill-formed line
 abbrev pub ill_formed_text : Words → List ℕ
 ill_formed_text WithEncoding = ill_formed_words
-ill_formed_text WithMark = ill_formed_by_mark_words
+ill_formed_text WithByteOrderMark = ill_formed_by_mark_words
 ill_formed_text NotUtf8 = codes "not UTF-8"
 ill_formed_text NotUtf16 = not_utf_16_words
 
@@ -91,15 +91,15 @@ comment_words true = codes " (in a comment, which Java and propedit pass over)"
 comment_words false = []
 
 -- what is wrong, in words
-abbrev pub fault_words : Fault → List ℕ
-fault_words HoldsZero = zero_words
-fault_words (IllFormedLine words) = ill_formed_text words
-fault_words (Escape escape) = description escape.kind ++ comment_words escape.in_comment
-fault_words (Repeats first) = codes "repeats the key of line " ++ decimal first
+abbrev pub kind_words : FindingKind → List ℕ
+kind_words HoldsZero = zero_words
+kind_words (IllFormedLine words) = ill_formed_text words
+kind_words (Escape escape) = description escape.kind ++ comment_words escape.in_comment
+kind_words (Repeats first) = codes "repeats the key of line " ++ decimal first
 
 -- the line `NAME:LINE: TEXT`
 abbrev pub finding_line : List ℕ → Finding → List ℕ
-finding_line name f = escaped name ++ (codes ":" ++ (decimal f.line_number ++ (codes ": " ++ (fault_words f.fault ++ (line_feed ∷ [])))))
+finding_line name f = escaped name ++ (codes ":" ++ (decimal f.line_number ++ (codes ": " ++ (kind_words f.kind ++ (line_feed ∷ [])))))
 
 -- ---- the report
 

@@ -6,7 +6,7 @@ use Rattle.properties_format.specs.Encoding.{Encoding}
 use Rattle.properties_tools.specs.Propedit.Sources.{IsSound, IsUnsound}
 use Rattle.properties_tools.specs.Propedit.Texts.{ended}
 use Rattle.properties_tools.specs.declared.propedit.answer.Answer.{Answer}
-use Rattle.properties_tools.specs.declared.propedit.request.TextEnd.{TextEnd}
+use Rattle.properties_tools.specs.declared.propedit.request.Terminator.{Terminator}
 use Rattle.properties_tools.specs.declared.propedit.error.Failure.{Failure}
 
 -- the value where there is one, and else the default
@@ -15,7 +15,7 @@ value_or default (Some value) = Some value
 value_or default None = default
 
 -- a text with the byte that ends it, where there is one
-abbrev pub ended_if : TextEnd → Option (List ℕ) → List ℕ
+abbrev pub ended_if : Terminator → Option (List ℕ) → List ℕ
 ended_if end (Some text) = ended end text
 ended_if end None = []
 
@@ -26,7 +26,7 @@ found_status (Some text ∷ texts) = found_status texts
 found_status (None ∷ texts) = 1
 
 -- These texts are printed in order, each with the byte that ends it, and nothing for one that is missing.
-pub record Prints (end : TextEnd) (texts : List (Option (List ℕ))) (answer : Answer) : Type 0 where
+pub record Prints (end : Terminator) (texts : List (Option (List ℕ))) (answer : Answer) : Type 0 where
   pub text : answer.text.items ≡ flat_map (ended_if end) texts
   pub status : answer.status ≡ found_status texts
 
@@ -37,13 +37,13 @@ HaveValues e source (key ∷ keys) (value ∷ values) = HasPairValue e source ke
 HaveValues e source keys values = ⊥
 
 -- The source is sound, and for each of these keys its value in the source is printed, or the default where no pair has it.
-pub record GetsValues (e : Encoding) (source : List ℕ) (keys : List (List ℕ)) (default : Option (List ℕ)) (end : TextEnd) (answer : Answer) : Type 0 where
+pub record GetsValues (e : Encoding) (source : List ℕ) (keys : List (List ℕ)) (default : Option (List ℕ)) (end : Terminator) (answer : Answer) : Type 0 where
   pub sound : IsSound e source
   pub values : List (Option (List ℕ))
   pub have_values : HaveValues e source keys values
   pub prints : Prints end (map (value_or default) values) answer
 
 -- What getting keys returns.
-abbrev pub Gets : Encoding → List ℕ → List (List ℕ) → Option (List ℕ) → TextEnd → Result Answer Failure → Type 0
+abbrev pub Gets : Encoding → List ℕ → List (List ℕ) → Option (List ℕ) → Terminator → Result Answer Failure → Type 0
 Gets e source keys default end (Ok answer) = GetsValues e source keys default end answer
 Gets e source keys default end (Err failure) = IsUnsound e source failure

@@ -13,8 +13,8 @@ use Rattle.properties_format.specs.Utf8.{IsWellFormedText}
 use Rattle.java_properties.specs.Errors.{IsBareError}
 use Rattle.properties_items.specs.declared.error.ErrorKind.TheVariants as kind
 use Rattle.properties_items.specs.declared.error.PropertiesError.{PropertiesError}
-use Rattle.properties_tools.specs.declared.propedit.utf_8.Flaw.{Flaw}
-use Rattle.properties_tools.specs.declared.propedit.utf_8.Flaw.TheVariants.{IllFormed, Zero}
+use Rattle.properties_tools.specs.declared.propedit.ill_formed.Flaw.{Flaw}
+use Rattle.properties_tools.specs.declared.propedit.ill_formed.Flaw.TheVariants.{IllFormed, Zero}
 
 -- The bytes are a unit that isn't a surrogate.
 abbrev pub IsPlainUnit : (ℕ → ℕ → ℕ) → List ℕ → Type 0

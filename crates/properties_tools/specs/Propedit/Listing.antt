@@ -9,11 +9,11 @@ use Rattle.properties_format.specs.Maps.{AreKeys, IsLastValue}
 use Rattle.properties_tools.specs.Propedit.Sources.{IsSound, IsUnsound}
 use Rattle.properties_tools.specs.Propedit.Texts.{ended, followed}
 use Rattle.properties_tools.specs.declared.propedit.answer.Answer.{Answer}
-use Rattle.properties_tools.specs.declared.propedit.request.TextEnd.{TextEnd}
+use Rattle.properties_tools.specs.declared.propedit.request.Terminator.{Terminator}
 use Rattle.properties_tools.specs.declared.propedit.error.Failure.{Failure}
 use Rattle.properties_format.specs.Writing.{Pair}
 use Rattle.properties_format.specs.Text.{equals_sign}
-use Rattle.properties_tools.specs.declared.propedit.request.TextEnd.TheVariants.{LineFeed, Zero}
+use Rattle.properties_tools.specs.declared.propedit.request.Terminator.TheVariants.{LineFeed, Nul}
 
 -- These are the keys of a source, each once, in the order of their first pairs. Comments are passed over.
 pub record AreKeysOf (e : Encoding) (source : List ℕ) (keys : List (List ℕ)) : Type 0 where
@@ -40,7 +40,7 @@ pub record PrintsAll {X : Type 0} (bytes_of : X → List ℕ) (things : List X) 
   pub status : answer.status ≡ list_status things
 
 -- The source is sound, and these of its keys are printed, each with the byte that ends it.
-pub record ListsKeys (e : Encoding) (source prefix : List ℕ) (end : TextEnd) (answer : Answer) : Type 0 where
+pub record ListsKeys (e : Encoding) (source prefix : List ℕ) (end : Terminator) (answer : Answer) : Type 0 where
   pub sound : IsSound e source
   pub keys : List (List ℕ)
   pub are : AreKeysOf e source keys
@@ -48,7 +48,7 @@ pub record ListsKeys (e : Encoding) (source prefix : List ℕ) (end : TextEnd) (
   pub prints : PrintsAll (ended end) (listed_keys prefix keys) answer
 
 -- What listing keys returns.
-abbrev pub Lists : Encoding → List ℕ → List ℕ → TextEnd → Result Answer Failure → Type 0
+abbrev pub Lists : Encoding → List ℕ → List ℕ → Terminator → Result Answer Failure → Type 0
 Lists e source prefix end (Ok answer) = ListsKeys e source prefix end answer
 Lists e source prefix end (Err failure) = IsUnsound e source failure
 
@@ -66,12 +66,12 @@ pub record AreLastPairs (e : Encoding) (source : List ℕ) (pairs : List Pair) :
   pub values : All (λ p. IsLastValue entries p.0 p.1) pairs
 
 -- the byte between a key and its value
-abbrev pub separator_byte : TextEnd → ℕ
+abbrev pub separator_byte : Terminator → ℕ
 separator_byte LineFeed = equals_sign
-separator_byte Zero = 0
+separator_byte Nul = 0
 
 -- a key and its value in UTF-8, each with the byte after it
-abbrev pub ended_pair : TextEnd → Pair → List ℕ
+abbrev pub ended_pair : Terminator → Pair → List ℕ
 ended_pair end p = followed (separator_byte end) p.0 ++ ended end p.1
 
 -- The key begins with the prefix.
@@ -82,13 +82,13 @@ abbrev pub listed_pairs : List ℕ → List Pair → List Pair
 listed_pairs prefix pairs = filter (is_pair_listed prefix) pairs
 
 -- The source is sound, and these of its pairs are printed.
-pub record ListsPairs (e : Encoding) (source prefix : List ℕ) (end : TextEnd) (answer : Answer) : Type 0 where
+pub record ListsPairs (e : Encoding) (source prefix : List ℕ) (end : Terminator) (answer : Answer) : Type 0 where
   pub sound : IsSound e source
   pub pairs : List Pair
   pub are : AreLastPairs e source pairs
   pub prints : PrintsAll (ended_pair end) (listed_pairs prefix pairs) answer
 
 -- What listing keys with their values returns.
-abbrev pub ListsValues : Encoding → List ℕ → List ℕ → TextEnd → Result Answer Failure → Type 0
+abbrev pub ListsValues : Encoding → List ℕ → List ℕ → Terminator → Result Answer Failure → Type 0
 ListsValues e source prefix end (Ok answer) = ListsPairs e source prefix end answer
 ListsValues e source prefix end (Err failure) = IsUnsound e source failure

@@ -11,7 +11,7 @@ use Rattle.properties_items.specs.declared.findings.MalformedEscape.{MalformedEs
 use Rattle.properties_tools.specs.Propedit.Lines.{is_utf_16, starts_with_bom, AreFlawedLines, IsFirstFlawed}
 use Rattle.properties_tools.specs.declared.propedit.error.Failure.{Failure}
 use Rattle.properties_tools.specs.declared.propedit.error.Failure.TheVariants.{HoldsZero, NotUtf8, NotUtf8ByMark, NotUtf16, Malformed, Input}
-use Rattle.properties_tools.specs.declared.propedit.utf_8.Flaw.TheVariants.{IllFormed, Zero}
+use Rattle.properties_tools.specs.declared.propedit.ill_formed.Flaw.TheVariants.{IllFormed, Zero}
 
 -- ---- refusals for bytes
 

@@ -4,23 +4,23 @@ use Rattle.std.specs.Borrow.{Bor}
 use Rattle.std.specs.List.{flat_map}
 use Rattle.std.specs.Str.{chars}
 use Rattle.properties_format.specs.Text.{line_feed}
-use Rattle.properties_tools.specs.declared.propedit.request.TextEnd.{TextEnd}
-use Rattle.properties_tools.specs.declared.propedit.request.TextEnd.TheVariants.{LineFeed, Zero}
+use Rattle.properties_tools.specs.declared.propedit.request.Terminator.{Terminator}
+use Rattle.properties_tools.specs.declared.propedit.request.Terminator.TheVariants.{LineFeed, Nul}
 
-abbrev pub end_byte : TextEnd → ℕ
+abbrev pub end_byte : Terminator → ℕ
 end_byte LineFeed = line_feed
-end_byte Zero = 0
+end_byte Nul = 0
 
 -- a text in UTF-8, and a byte after it
 abbrev pub followed : ℕ → List ℕ → List ℕ
 followed byte text = encode_utf8_all text ++ (byte ∷ [])
 
 -- a text in UTF-8, and the byte that ends it
-abbrev pub ended : TextEnd → List ℕ → List ℕ
+abbrev pub ended : Terminator → List ℕ → List ℕ
 ended end text = followed (end_byte end) text
 
 -- texts, one after another
-abbrev pub ended_all : TextEnd → List (List ℕ) → List ℕ
+abbrev pub ended_all : Terminator → List (List ℕ) → List ℕ
 ended_all end texts = flat_map (ended end) texts
 
 -- the characters of a text that is borrowed

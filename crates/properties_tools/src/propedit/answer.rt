@@ -4,7 +4,7 @@ ghost use Rattle.std.specs.Prelude.{◌≡◌, ◌++◌, OnOk};
 ghost use Rattle.std.specs.Str.{chars};
 ghost use Rattle.properties_tools.specs.Propedit.Texts.{end_byte, ended, followed};
 
-use crate::propedit::request::TextEnd;
+use crate::propedit::request::Terminator;
 use std::alloc::AllocError;
 
 /// What a command prints, and its exit status.
@@ -17,7 +17,7 @@ pub struct Answer {
 }
 
 /// Appends a text and the byte that ends it.
-pub(crate) fn push_ended(text: &mut Vec<u8>, word: &str, end: TextEnd) -> Result<(), AllocError>
+pub(crate) fn push_ended(text: &mut Vec<u8>, word: &str, end: Terminator) -> Result<(), AllocError>
     ensures { OnOk result (text.new.items ≡ text.old.items ++ ended end (chars word.now)) }
 {
     push_followed(text, word, byte_of(end))
@@ -32,11 +32,11 @@ pub(crate) fn push_followed(text: &mut Vec<u8>, word: &str, byte: u8) -> Result<
     Ok(())
 }
 
-fn byte_of(end: TextEnd) -> u8
+fn byte_of(end: Terminator) -> u8
     ensures { result ≡ end_byte end }
 {
     match end {
-        TextEnd::LineFeed => b'\n',
-        TextEnd::Zero => 0,
+        Terminator::LineFeed => b'\n',
+        Terminator::Nul => 0,
     }
 }

@@ -11,7 +11,7 @@ use crate::propedit::error::Failure;
 use crate::propedit::get::get;
 use crate::propedit::list::list;
 use crate::propedit::pairs::list_values;
-use crate::propedit::request::{Change, Command, Source, Work};
+use crate::propedit::request::{Change, Command, Job, Source};
 use java_properties::Encoding;
 use std::alloc::Global;
 
@@ -33,27 +33,27 @@ pub fn name(source: &Source) -> &str
 /// is listed, or if the check finds something.
 ///
 /// ```text
-/// // If the work is to get the key `port`:
-/// let answer = answer_to(alloc, &work, b"port = 80\n")?;
+/// // If the job is to get the key `port`:
+/// let answer = answer_to(alloc, &job, b"port = 80\n")?;
 /// // The text is `80` and a line feed, and the status is 0.
 /// ```
-pub fn answer_to(alloc: Global, work: &Work, source: &[u8]) -> Result<Answer, Failure>
-    ensures { Answers work.now source.now result }
+pub fn answer_to(alloc: Global, job: &Job, source: &[u8]) -> Result<Answer, Failure>
+    ensures { Answers job.now source.now result }
 {
-    match &work.command {
+    match &job.command {
         Command::Get(keys, default, end) => {
             let default = match default {
                 Some(text) => Some(text.as_str()),
                 None => None,
             };
-            get(alloc, source, work.encoding, keys, default, *end)
+            get(alloc, source, job.encoding, keys, default, *end)
         }
-        Command::List(prefix, end) => list(alloc, source, work.encoding, prefix.as_str(), *end),
+        Command::List(prefix, end) => list(alloc, source, job.encoding, prefix.as_str(), *end),
         Command::ListValues(prefix, end) => {
-            list_values(alloc, source, work.encoding, prefix.as_str(), *end)
+            list_values(alloc, source, job.encoding, prefix.as_str(), *end)
         }
-        Command::Check => check(alloc, name(&work.source), source, work.encoding),
-        Command::Change(change) => changed(alloc, source, work.encoding, change),
+        Command::Check => check(alloc, name(&job.source), source, job.encoding),
+        Command::Change(change) => changed(alloc, source, job.encoding, change),
     }
 }
 

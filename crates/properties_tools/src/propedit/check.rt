@@ -8,9 +8,9 @@ ghost use Rattle.properties_tools.specs.Propedit.Check.{comment_words, finding_l
 
 use crate::messages::Escaped;
 use crate::propedit::error::{HOLDS_ZERO, NOT_UTF_8, NOT_UTF_8_BY_MARK, NOT_UTF_16};
+use crate::propedit::ill_formed::{Flaw, first_flawed_line, has_byte_order_mark, ill_formed_lines};
 use crate::propedit::line_findings::line_findings;
 use crate::propedit::sound::in_utf_16;
-use crate::propedit::utf_8::{Flaw, first_flawed_line, has_mark, ill_formed_lines};
 use java_properties::{Encoding, MalformedEscape, PropertiesError};
 use std::alloc::{AllocError, Global};
 use std::fmt;
@@ -19,11 +19,11 @@ use std::fmt;
 #[derive(Clone, Copy)]
 pub(crate) struct Finding {
     pub line_number: usize,
-    pub fault: Fault,
+    pub kind: FindingKind,
 }
 
 #[derive(Clone, Copy)]
-pub(crate) enum Fault {
+pub(crate) enum FindingKind {
     // U+0000, in the first line that has it.
     HoldsZero,
     IllFormedLine(Words),
@@ -38,7 +38,7 @@ pub(crate) enum Words {
     // It is not UTF-8, and another encoding reads it.
     WithEncoding,
     // It is not UTF-8, though a byte order mark says so, and no option helps.
-    WithMark,
+    WithByteOrderMark,
     // It is not UTF-8. Another finding has said what helps.
     NotUtf8,
     NotUtf16,
@@ -87,7 +87,7 @@ fn push_zero(findings: &mut Vec<Finding>, number: Option<usize>) -> Result<(), A
     };
     Ok(findings.push(Finding {
         line_number: number,
-        fault: Fault::HoldsZero,
+        kind: FindingKind::HoldsZero,
     })?)
 }
 
@@ -97,8 +97,8 @@ fn words_for(source: &[u8], encoding: Encoding, has_zero: bool) -> Words
 {
     if in_utf_16(source, encoding) {
         Words::NotUtf16
-    } else if has_mark(source) {
-        Words::WithMark
+    } else if has_byte_order_mark(source) {
+        Words::WithByteOrderMark
     } else if has_zero {
         Words::NotUtf8
     } else {
@@ -127,7 +127,7 @@ fn push_ill_formed(
     for number in numbers {
         findings.push(Finding {
             line_number: *number,
-            fault: Fault::IllFormedLine(words),
+            kind: FindingKind::IllFormedLine(words),
         })?;
         words = words_after(words);
     }
@@ -155,24 +155,24 @@ fn push_line(text: &mut String, name: &str, finding: &Finding) -> Result<(), All
     ensures { OnOk result (string_bytes text.new ≡ string_bytes text.old ++ finding_line name.now finding.now) }
 {
     let name = Escaped(name);
-    write!(text, "{name}:{}: {}\n", finding.line_number, finding.fault)
+    write!(text, "{name}:{}: {}\n", finding.line_number, finding.kind)
 }
 
-impl fmt::Display for Fault {
+impl fmt::Display for FindingKind {
     ghost use Rattle.std.specs.Prelude.{Some};
-    ghost use Rattle.properties_tools.specs.Propedit.Check.{fault_words};
+    ghost use Rattle.properties_tools.specs.Propedit.Check.{kind_words};
 
-    ghost output = { λ fault. Some (fault_words fault) };
+    ghost output = { λ kind. Some (kind_words kind) };
 
     fn fmt<W: fmt::Write>(&self, f: &mut fmt::Formatter<W>) -> fmt::Result {
         match self {
-            Fault::HoldsZero => f.write_str(HOLDS_ZERO),
-            Fault::IllFormedLine(words) => f.write_str(ill_formed_words(*words)),
-            Fault::Escape(escape) => {
+            FindingKind::HoldsZero => f.write_str(HOLDS_ZERO),
+            FindingKind::IllFormedLine(words) => f.write_str(ill_formed_words(*words)),
+            FindingKind::Escape(escape) => {
                 let place = place_words(escape.in_comment);
                 write!(f, "{}{place}", escape.kind)
             }
-            Fault::Repeats(first) => write!(f, "repeats the key of line {first}"),
+            FindingKind::Repeats(first) => write!(f, "repeats the key of line {first}"),
         }
     }
 }
@@ -182,7 +182,7 @@ fn ill_formed_words(words: Words) -> &'static str
 {
     match words {
         Words::WithEncoding => NOT_UTF_8,
-        Words::WithMark => NOT_UTF_8_BY_MARK,
+        Words::WithByteOrderMark => NOT_UTF_8_BY_MARK,
         Words::NotUtf8 => "not UTF-8",
         Words::NotUtf16 => NOT_UTF_16,
     }

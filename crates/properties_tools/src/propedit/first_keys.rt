@@ -7,7 +7,7 @@ ghost use Rattle.std.specs.String.{string_cmp};
 ghost use Rattle.properties_tools.specs.Private.FirstKeys.{bytes_at, hash_after, none_held, slot_for, AddsKey, IndexesSome, IsIndexed, KeepsKey, TellsFirst};
 
 use crate::propedit::answer::push_ended;
-use crate::propedit::request::TextEnd;
+use crate::propedit::request::Terminator;
 use std::alloc::{AllocError, Global};
 use std::collections::BTreeMap;
 
@@ -56,7 +56,7 @@ impl FirstKeys {
         alloc: Global,
         key: &str,
         line_number: usize,
-        end: TextEnd,
+        end: Terminator,
     ) -> Result<usize, AllocError>
         requires { IndexesSome self.old }
         ensures { IfOk result (λ first. AddsKey end (chars key.now) line_number self.old first self.new) }

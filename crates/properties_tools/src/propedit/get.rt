@@ -10,7 +10,7 @@ ghost use Rattle.properties_tools.specs.Propedit.Texts.{borrowed_characters};
 
 use crate::propedit::answer::{Answer, push_ended};
 use crate::propedit::error::Failure;
-use crate::propedit::request::TextEnd;
+use crate::propedit::request::Terminator;
 use crate::propedit::sound::{refuse_bytes, refuse_unsound};
 use crate::propedit::values::values_of;
 use java_properties::Encoding;
@@ -24,7 +24,7 @@ use std::alloc::{AllocError, Global};
 ///
 /// ```text
 /// // If `keys` are `b` and `a`:
-/// let answer = get(alloc, b"b = 1\na = 2\nb = 3", Encoding::UTF_8, &keys, None, TextEnd::LineFeed)?;
+/// let answer = get(alloc, b"b = 1\na = 2\nb = 3", Encoding::UTF_8, &keys, None, Terminator::LineFeed)?;
 /// // The text is `3` and `2`, each ended by a line feed, and the status is 0.
 /// ```
 pub fn get(
@@ -33,7 +33,7 @@ pub fn get(
     encoding: Encoding,
     keys: &[String],
     default: Option<&str>,
-    end: TextEnd,
+    end: Terminator,
 ) -> Result<Answer, Failure>
     ensures { let e = encoding_of encoding in
         Gets e source.now (map characters keys.now) (option_map borrowed_characters default.entry) end result }
@@ -57,7 +57,7 @@ fn answer_of(
     alloc: Global,
     values: &[Option<String>],
     default: Option<&str>,
-    end: TextEnd,
+    end: Terminator,
 ) -> Result<Answer, AllocError>
     ensures { IfOk result (Prints end (map (value_or (option_map borrowed_characters default.entry)) (value_texts values.now))) }
 {

@@ -9,7 +9,7 @@ ghost use Rattle.properties_tools.specs.Propedit.InPlace.{problem_display, repla
 ghost use Rattle.properties_tools.specs.Private.InPlace.{folder_of, unsynced, IsEditError};
 
 use crate::messages::{Escaped, print_line};
-use crate::propedit::error::{Failure, NO_MEMORY};
+use crate::propedit::error::{FAILED, Failure, NO_MEMORY};
 use crate::propedit::request::{FileChange, Missing};
 use crate::propedit::{exit_status, replacement};
 use counted_io::CountedWrite;
@@ -95,7 +95,7 @@ fn print_replace_error<E: CountedWrite>(
         Ok(line) => print_line(errors, line.as_str()),
         Err(_) => print_line(errors, NO_MEMORY),
     }
-    2
+    FAILED
 }
 
 // Returns the line to print.
@@ -391,7 +391,7 @@ fn is_unchanged(rt: &HostRuntime, path: &str, before: &Snapshot) -> io::Result<b
     Ok(has_same_attributes && holds(&mut file, before.bytes.as_slice())?)
 }
 
-// Returns whether what is left of a file are these bytes. It compares a block at a time, so it takes no more memory for
+// Returns whether what is left of a file is these bytes. It compares a block at a time, so it takes no more memory for
 // a large file.
 fn holds(file: &mut File, bytes: &[u8]) -> io::Result<bool> {
     let mut block = [0u8; BLOCK];
@@ -420,7 +420,7 @@ fn is_same_file(one: &Metadata, other: &Metadata) -> bool {
     one.dev() == other.dev() && one.ino() == other.ino()
 }
 
-// Writes to the disk which names the folder of a file has. Some file systems can't, which is no failure.
+// Syncs the folder of a file, so that its new name is on the disk. Some file systems can't, which is no failure.
 fn sync_folder(rt: &HostRuntime, path: &str) -> io::Result<()> {
     match File::open(rt, folder_of(path))?.sync_all() {
         Ok(()) => Ok(()),
@@ -431,7 +431,7 @@ fn sync_folder(rt: &HostRuntime, path: &str) -> io::Result<()> {
     }
 }
 
-// Returns the folder that has this name of a file.
+// Returns the folder that a file is in.
 fn folder_of(path: &str) -> Path<'_>
     ensures { path_bytes result ≡ folder_of path.now }
 {
@@ -518,20 +518,32 @@ impl fmt::Display for Failed<'_> {
                     "{temporary} exists: another run is at work, or was killed; if none is, remove it"
                 )
             }
-            Problem::NotCreated(error) => write!(f, "cannot create {temporary}: {}", Fault(error)),
-            Problem::NotWritten(error) => write!(f, "cannot write {temporary}: {}", Fault(error)),
-            Problem::Owner(error) => write!(f, "cannot keep the owner: {}", Fault(error)),
-            Problem::Group(error) => write!(f, "cannot keep the group: {}", Fault(error)),
-            Problem::Mode(error) => write!(f, "cannot keep the mode: {}", Fault(error)),
-            Problem::NotRead(error) => write!(f, "cannot be read again: {}", Fault(error)),
+            Problem::NotCreated(error) => write!(
+                f,
+                "cannot create {temporary}: {}",
+                SystemError(error)
+            ),
+            Problem::NotWritten(error) => write!(
+                f,
+                "cannot write {temporary}: {}",
+                SystemError(error)
+            ),
+            Problem::Owner(error) => write!(f, "cannot keep the owner: {}", SystemError(error)),
+            Problem::Group(error) => write!(f, "cannot keep the group: {}", SystemError(error)),
+            Problem::Mode(error) => write!(f, "cannot keep the mode: {}", SystemError(error)),
+            Problem::NotRead(error) => write!(f, "cannot be read again: {}", SystemError(error)),
             Problem::Changed => f.write_str("changed while it was edited"),
             Problem::Taken => write!(f, "{temporary} was removed or replaced"),
-            Problem::NotRenamed(error) => write!(f, "cannot rename {temporary}: {}", Fault(error)),
+            Problem::NotRenamed(error) => write!(
+                f,
+                "cannot rename {temporary}: {}",
+                SystemError(error)
+            ),
             Problem::NotLinked(error) => {
                 write!(
                     f,
                     "cannot make a hard link to {temporary}: {}",
-                    Fault(error)
+                    SystemError(error)
                 )
             }
             Problem::Appeared => f.write_str("was made by another program meanwhile"),
@@ -540,14 +552,14 @@ impl fmt::Display for Failed<'_> {
                 write!(
                     f,
                     "is replaced, but its folder can't be synced: {}",
-                    Fault(error)
+                    SystemError(error)
                 )
             }
             Problem::MadeUnsynced(error) => {
                 write!(
                     f,
                     "is made, but its folder can't be synced: {}",
-                    Fault(error)
+                    SystemError(error)
                 )
             }
         }
@@ -556,9 +568,9 @@ impl fmt::Display for Failed<'_> {
 
 // An error of the system, in whose words a lack of memory is as everywhere.
 #[derive(Clone, Copy)]
-struct Fault<'a>(&'a io::Error);
+struct SystemError<'a>(&'a io::Error);
 
-impl fmt::Display for Fault<'_> {
+impl fmt::Display for SystemError<'_> {
     fn fmt<W: fmt::Write>(&self, f: &mut fmt::Formatter<W>) -> fmt::Result {
         if self.0.kind() == ErrorKind::OutOfMemory {
             return f.write_str("Out of memory.");

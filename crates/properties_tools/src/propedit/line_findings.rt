@@ -10,9 +10,9 @@ ghost use Rattle.properties_tools.specs.Propedit.Check.{has_replacement};
 ghost use Rattle.properties_tools.specs.Private.FirstKeys.{IndexesSome};
 ghost use Rattle.properties_tools.specs.Private.Collected.{AddsKey, AddsLine, FindsInLines};
 
-use crate::propedit::check::{Fault, Finding};
+use crate::propedit::check::{Finding, FindingKind};
 use crate::propedit::first_keys::FirstKeys;
-use crate::propedit::request::TextEnd;
+use crate::propedit::request::Terminator;
 use java_properties::{ContentRef, Encoding, ErrorKind, LineRef, MalformedEscape, PropertiesError};
 use properties_items::found::{cut_item, find_item};
 use properties_lines::continuation::is_comment;
@@ -114,7 +114,7 @@ impl LineFindings {
     {
         let first = self
             .keys
-            .first_line(alloc, key, line_number, TextEnd::Zero)?;
+            .first_line(alloc, key, line_number, Terminator::Nul)?;
         if first == line_number {
             return Ok(());
         }
@@ -124,7 +124,7 @@ impl LineFindings {
         Ok(
             self.repeats.push(Finding {
                 line_number,
-                fault: Fault::Repeats(first),
+                kind: FindingKind::Repeats(first),
             })?,
         )
     }
@@ -150,7 +150,7 @@ impl LineFindings {
                 Ok(
                     self.escapes.push(Finding {
                         line_number,
-                        fault: Fault::Escape(escape),
+                        kind: FindingKind::Escape(escape),
                     })?,
                 )
             }

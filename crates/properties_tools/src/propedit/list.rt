@@ -14,7 +14,7 @@ ghost use Rattle.properties_tools.specs.Private.Collected.{FindsListed, ListsKey
 use crate::propedit::answer::Answer;
 use crate::propedit::error::Failure;
 use crate::propedit::first_keys::FirstKeys;
-use crate::propedit::request::TextEnd;
+use crate::propedit::request::Terminator;
 use crate::propedit::sound::{refuse_bytes, refuse_unsound};
 use java_properties::{ContentRef, Encoding, LineRef, PropertiesError};
 use properties_items::found::{cut_item, find_item};
@@ -30,7 +30,7 @@ use std::borrow::CowStr;
 /// without a byte order mark. It refuses a malformed escape in a pair too.
 ///
 /// ```text
-/// let answer = list(alloc, b"b = 1\na = 2\nb = 3", Encoding::UTF_8, "", TextEnd::LineFeed)?;
+/// let answer = list(alloc, b"b = 1\na = 2\nb = 3", Encoding::UTF_8, "", Terminator::LineFeed)?;
 /// // The text is `b` and `a`, each ended by a line feed, and the status is 0.
 /// ```
 pub fn list(
@@ -38,7 +38,7 @@ pub fn list(
     source: &[u8],
     encoding: Encoding,
     prefix: &str,
-    end: TextEnd,
+    end: Terminator,
 ) -> Result<Answer, Failure>
     ensures { Lists (encoding_of encoding) source.now (chars prefix.now) end result }
 {
@@ -61,7 +61,7 @@ fn listed(
     source: &[u8],
     encoding: Encoding,
     prefix: &str,
-    end: TextEnd,
+    end: Terminator,
 ) -> Result<Vec<u8>, PropertiesError>
     ensures { FindsListed (encoding_of encoding) source.now (chars prefix.now) end result }
 {
@@ -83,7 +83,7 @@ fn add_line(
     line_number: usize,
     line: &str,
     prefix: &str,
-    end: TextEnd,
+    end: Terminator,
 ) -> Result<(), PropertiesError>
     requires { IndexesSome keys.old }
     ensures { ListsLine line_number (chars line.now) (chars prefix.now) end keys.old result keys.new }
@@ -104,7 +104,7 @@ fn add_item(
     keys: &mut FirstKeys,
     line: LineRef<'_>,
     prefix: &str,
-    end: TextEnd,
+    end: Terminator,
 ) -> Result<(), AllocError>
     requires { IndexesSome keys.old }
     ensures { OnOk result (let item = outcome_key (given (borrowed_content line.entry.content)) in

@@ -10,7 +10,7 @@ ghost use Rattle.properties_tools.specs.Private.Collected.{pair_of, pairs_of, wi
 
 use crate::propedit::answer::{Answer, push_ended, push_followed};
 use crate::propedit::error::Failure;
-use crate::propedit::request::TextEnd;
+use crate::propedit::request::Terminator;
 use crate::propedit::sound::{refuse_bytes, refuse_unsound};
 use java_properties::{Encoding, PropertiesError};
 use properties_items::found::{find_item, item_pair};
@@ -26,7 +26,7 @@ use std::collections::BTreeMap;
 /// source as `list` does. The pairs are read once.
 ///
 /// ```text
-/// let answer = list_values(alloc, b"b = 1\na = 2\nb = 3", Encoding::UTF_8, "", TextEnd::LineFeed)?;
+/// let answer = list_values(alloc, b"b = 1\na = 2\nb = 3", Encoding::UTF_8, "", Terminator::LineFeed)?;
 /// // The text is `b=3` and `a=2`, each ended by a line feed, and the status is 0.
 /// ```
 pub fn list_values(
@@ -34,7 +34,7 @@ pub fn list_values(
     source: &[u8],
     encoding: Encoding,
     prefix: &str,
-    end: TextEnd,
+    end: Terminator,
 ) -> Result<Answer, Failure>
     ensures { ListsValues (encoding_of encoding) source.now (chars prefix.now) end result }
 {
@@ -131,7 +131,7 @@ fn listed(
     alloc: Global,
     pairs: &[(String, String)],
     prefix: &str,
-    end: TextEnd,
+    end: Terminator,
 ) -> Result<Answer, AllocError>
     ensures { IfOk result (PrintsAll (ended_pair end) (listed_pairs (chars prefix.now) (pairs_of pairs.now))) }
 {
@@ -153,7 +153,7 @@ fn is_listed(pair: &(String, String), prefix: &str) -> bool
 }
 
 // Appends a key and its value.
-fn push_pair(text: &mut Vec<u8>, pair: &(String, String), end: TextEnd) -> Result<(), AllocError>
+fn push_pair(text: &mut Vec<u8>, pair: &(String, String), end: Terminator) -> Result<(), AllocError>
     ensures { OnOk result (text.new.items ≡ text.old.items ++ ended_pair end (pair_of pair.now)) }
 {
     push_followed(text, pair.0.as_str(), separator_of(end))?;
@@ -161,11 +161,11 @@ fn push_pair(text: &mut Vec<u8>, pair: &(String, String), end: TextEnd) -> Resul
 }
 
 // Returns the byte between a key and its value.
-fn separator_of(end: TextEnd) -> u8
+fn separator_of(end: Terminator) -> u8
     ensures { result ≡ separator_byte end }
 {
     match end {
-        TextEnd::LineFeed => b'=',
-        TextEnd::Zero => 0,
+        Terminator::LineFeed => b'=',
+        Terminator::Nul => 0,
     }
 }

@@ -6,7 +6,7 @@ use java_properties::{Edit, Encoding, Repertoire, Spelling};
 #[derive(Drop)]
 pub enum Request {
     /// A command whose answer is printed.
-    Work(Work),
+    Job(Job),
     /// A check of each of these files.
     CheckFiles(CheckedFiles),
     /// A change of a file in place.
@@ -15,7 +15,7 @@ pub enum Request {
 
 /// A command, and what it is done to.
 #[derive(Drop)]
-pub struct Work {
+pub struct Job {
     /// The encoding of the source. A byte order mark overrules it.
     pub encoding: Encoding,
     pub source: Source,
@@ -92,11 +92,11 @@ pub enum Source {
 #[derive(Drop)]
 pub enum Command {
     /// Print the value of each of these keys, or this default if no pair has it. There is one key at least.
-    Get(Vec<String>, Option<String>, TextEnd),
+    Get(Vec<String>, Option<String>, Terminator),
     /// Print the keys that begin with this prefix, each once, in the order of the file.
-    List(String, TextEnd),
+    List(String, Terminator),
     /// Print these keys, each with its last value.
-    ListValues(String, TextEnd),
+    ListValues(String, Terminator),
     /// Print what is wrong.
     Check,
     /// Print the source after this change.
@@ -105,7 +105,7 @@ pub enum Command {
 
 /// What ends a text that is printed.
 #[derive(Clone, Copy, Debug, PartialEq, Eq)]
-pub enum TextEnd {
+pub enum Terminator {
     LineFeed,
-    Zero,
+    Nul,
 }

@@ -5,7 +5,7 @@ ghost use Rattle.properties_text.specs.Encoding.{encoding_of};
 ghost use Rattle.properties_tools.specs.Propedit.Sources.{is_in_utf_16, first_in_pair, RefusesBytes, RefusesUnsound};
 
 use crate::propedit::error::Failure;
-use crate::propedit::utf_8::{Flaw, first_flawed_line, has_mark};
+use crate::propedit::ill_formed::{Flaw, first_flawed_line, has_byte_order_mark};
 use java_properties::{Encoding, MalformedEscape, malformed_escapes_of};
 use properties_text::encoding::byte_order_mark::encoding_in_force;
 use std::alloc::Global;
@@ -49,7 +49,7 @@ pub fn refuse_bytes(source: &[u8], encoding: Encoding) -> Result<(), Failure>
     if in_utf_16(source, encoding) {
         return Err(Failure::NotUtf16(number));
     }
-    if has_mark(source) {
+    if has_byte_order_mark(source) {
         return Err(Failure::NotUtf8ByMark(number));
     }
     Err(Failure::NotUtf8(number))

@@ -69,7 +69,7 @@ fn check_map(
     if !is_read_back(calls, map, whole.bytes(), way) {
         outcome.fail(format!(in alloc; "{name}: another map is read back")?);
     }
-    let ends = line_ends(alloc, whole.bytes())?;
+    let ends = line_endings(alloc, whole.bytes())?;
     for failing in &failing_writes(alloc, ends.as_slice())? {
         let (came, sink) = written(calls, map, failing.sink, way)?;
         let answer = Some(failing.text(alloc)?);
@@ -129,7 +129,7 @@ fn write_and_flush(
 }
 
 // Where each line ends.
-fn line_ends(alloc: Global, bytes: &[u8]) -> Result<Vec<usize>, AllocError> {
+fn line_endings(alloc: Global, bytes: &[u8]) -> Result<Vec<usize>, AllocError> {
     let mut ends = Vec::new(alloc);
     for (place, byte) in (1usize..).zip(bytes) {
         if *byte == b'\n' {

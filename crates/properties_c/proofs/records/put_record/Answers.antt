@@ -6,5 +6,5 @@ use Rattle.properties_c.proofs.records.put_record.Goals as goal
 pub returns-clause-puts : goal.returns-clause-puts
 returns-clause-puts c =
     rw (packed-header (record_in c.args.given))
-    (Puts-append (grind (arith, sizes)) (grind (arith, sizes)) c.put_header-keys.ensures.puts
-    (Puts-append (grind (arith, sizes)) (grind (arith, sizes)) c.put-values.ensures.puts c.put.ensures.puts))
+    (Puts-append (grind (arith, sizes)) (grind (arith, sizes)) c.put_header-key_at.ensures.puts
+    (Puts-append (grind (arith, sizes)) (grind (arith, sizes)) c.put-value_at.ensures.puts c.put.ensures.puts))

@@ -11,7 +11,7 @@ use Rattle.properties_editing.proofs.find.has_key.Goals as goal
 pub returns-in-Some : goal.returns-in-Some
 returns-in-Some c =
     let found = rw c.in-Some.is at c.in_ok-found.ensures in
-    let item = found-item c.args.line.now c.in-Some.found found in
+    let item = found-item c.args.line.now c.in-Some.found found.1 in
     (inl (subst IsSound (sym item) tt), c.item_has_key.ensures ∙ ap (key_told (chars c.args.key.now)) (sym item))
 
 pub returns-in-None : goal.returns-in-None

@@ -8,7 +8,7 @@ use Rattle.properties_editing.proofs.index.pair_of.Goals as goal
 pub returns-in_ok-item_pair-in-Some : goal.returns-in_ok-item_pair-in-Some
 returns-in_ok-item_pair-in-Some c =
     let found = rw c.in-Some.is at c.in_ok-found.ensures in
-    let item = found-item c.args.line.now c.in-Some.found found in
+    let item = found-item c.args.line.now c.in-Some.found found.1 in
     (inl (subst IsSound (sym item) tt), c.in_ok-item_pair-in-Some.ensures ∙ ap outcome_pair (sym item))
 
 pub returns-in-None : goal.returns-in-None

@@ -1,6 +1,6 @@
 use Rattle.std.proofs.Common.{◌∙◌, ap, sym, subst}
 use Rattle.std.specs.Str.{chars, IsUtf8}
-use Rattle.properties_text.specs.declared.encoding.line.LineEncoding.TheVariants.{Utf8}
+use Rattle.properties_text.specs.declared.encoding.line_encoding.LineEncoding.TheVariants.{Utf8}
 use Rattle.properties_lines.proofs.LineTexts.{joins-alike}
 use Rattle.properties_editing.proofs.layout.added_by.Goals as goal
 

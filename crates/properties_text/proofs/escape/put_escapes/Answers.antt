@@ -6,7 +6,7 @@ use Rattle.std.proofs.lemmas.List.{length-drop}
 use Rattle.properties_format.specs.Computed.Escapes.{in_front, meaning_of, text_in_front}
 use Rattle.properties_format.proofs.Escapes.Unique.{text_in_front-breaks}
 use Rattle.properties_text.specs.Escaping.{malformed_in}
-use Rattle.properties_text.specs.declared.encoding.line.LineEncoding.TheVariants.{Utf8}
+use Rattle.properties_text.specs.declared.encoding.line_encoding.LineEncoding.TheVariants.{Utf8}
 use Rattle.properties_text.proofs.Texts.Units.{units-more}
 use Rattle.properties_text.proofs.Spelt.Escapes.{spells-meaning}
 use Rattle.properties_text.proofs.escape.put_escapes.Goals as goal

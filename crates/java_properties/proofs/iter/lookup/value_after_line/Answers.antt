@@ -34,5 +34,5 @@ returns-in_ok-later_value-in-Some c =
     let found = rw c.in-Some.is at c.in_ok-found.ensures in
     let content : borrowed_content c.cut_item.result.content ≡ found_content c.args.line.now c.in-Some.found.content = let i = c.cut_item.ensures.item in cc in
     line-found (chars c.args.key.now) c.args.line_number (chars c.args.line.now) c.args.earlier c.in_ok-later_value-in-Some.field-0
-    (found_content c.args.line.now c.in-Some.found.content) (found-item c.args.line.now c.in-Some.found found)
+    (found_content c.args.line.now c.in-Some.found.content) (found-item c.args.line.now c.in-Some.found found.1)
     (rw content at c.in_ok-later_value-in-Some.ensures)

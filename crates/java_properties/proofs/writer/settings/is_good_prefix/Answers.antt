@@ -19,15 +19,15 @@ past c signed last is left =
 past-utf8 : (c : In-Some) → IsUtf8 (chars_rest c.next.new.self)
 past-utf8 c = IsUtf8-past_char _ _ c.in-Some.character c.loop-character.invariant.utf8 c.in-Some.ensures.steps.0
 
-pub returns-then-is_line_end : goal.returns-then-is_line_end
-returns-then-is_line_end c =
-    let ends = sym c.is_line_end.ensures ∙ c.if-is_line_end.true in
-    sym (past (goal.at.returns-then-is_line_end c).In-Some true false c.if-signed.true (rw ends))
+pub returns-then-is_line_ending : goal.returns-then-is_line_ending
+returns-then-is_line_ending c =
+    let ends = sym c.is_line_ending.ensures ∙ c.if-is_line_ending.true in
+    sym (past (goal.at.returns-then-is_line_ending c).In-Some true false c.if-signed.true (rw ends))
 
-pub loop-character-preserved-else-is_line_end : goal.loop-character-preserved-else-is_line_end
-loop-character-preserved-else-is_line_end c =
-    let at = (goal.at.loop-character-preserved-else-is_line_end c).In-Some in
-    let stays = sym c.is_line_end.ensures ∙ c.if-is_line_end.false in
+pub loop-character-preserved-else-is_line_ending : goal.loop-character-preserved-else-is_line_ending
+loop-character-preserved-else-is_line_ending c =
+    let at = (goal.at.loop-character-preserved-else-is_line_ending c).In-Some in
+    let stays = sym c.is_line_ending.ensures ∙ c.if-is_line_ending.false in
     record { utf8 = past-utf8 at; same = rw c.if-signed.true (past at true _ c.if-signed.true (rw stays)) }
 
 pub loop-character-preserved-then-is_comment_sign : goal.loop-character-preserved-then-is_comment_sign

@@ -7,7 +7,7 @@ use Rattle.java_properties.specs.Maps.{characters}
 use Rattle.properties_tools.specs.Propedit.Get.{ended_if, found_status, value_or}
 use Rattle.properties_tools.specs.Propedit.Texts.{borrowed_characters}
 use Rattle.properties_tools.specs.Private.Collected.{value_texts}
-use Rattle.properties_tools.specs.declared.propedit.request.TextEnd.{TextEnd}
+use Rattle.properties_tools.specs.declared.propedit.request.Terminator.{Terminator}
 use Rattle.properties_tools.proofs.propedit.get.answer_of.Goals.{in-Some+in_ok-push_ended-in-Some, in-None}
 use Rattle.properties_tools.proofs.propedit.get.answer_of.Goals as goal
 
@@ -23,7 +23,7 @@ status-none (Some t ∷ texts) = status-none texts
 status-none (None ∷ texts) = refl
 
 -- what is printed with it
-printed : (end : TextEnd) (texts : List (Option (List ℕ))) (text : Option (List ℕ)) (old new : List ℕ) → old ≡ flat_map (ended_if end) texts
+printed : (end : Terminator) (texts : List (Option (List ℕ))) (text : Option (List ℕ)) (old new : List ℕ) → old ≡ flat_map (ended_if end) texts
     → new ≡ old ++ ended_if end text
     → new ≡ flat_map (ended_if end) (texts ++ text ∷ [])
 printed end texts text old new h k = k ∙ ap (λ v. v ++ ended_if end text) h ∙ flat_map_more (ended_if end) [] texts text

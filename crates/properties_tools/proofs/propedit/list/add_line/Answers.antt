@@ -40,7 +40,7 @@ returns-in_err-add_item-in-Some c =
 pub returns-in_ok-add_item-in-Some : goal.returns-in_ok-add_item-in-Some
 returns-in_ok-add_item-in-Some c =
     let found = rw c.in-Some.is at c.in_ok-found.ensures in
-    let item = found-item c.args.line.now c.in-Some.found found in
+    let item = found-item c.args.line.now c.in-Some.found found.1 in
     let content : borrowed_content c.cut_item.result.content ≡ found_content c.args.line.now c.in-Some.found.content = let i = c.cut_item.ensures.item in cc in (
       subst (λ o. AreInComments (escapes_from c.args.line_number (chars c.args.line.now) o [])) (sym item) tt,
       subst (λ o. ListsKey (chars c.args.prefix.now) c.args.end (outcome_key o) c.args.keys.now c.add_item.new.keys) (sym item)

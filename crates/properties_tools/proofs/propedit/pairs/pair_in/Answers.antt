@@ -35,7 +35,7 @@ returns-in_err-item_pair-in-Some c =
 pub returns-in_ok-item_pair-in-Some : goal.returns-in_ok-item_pair-in-Some
 returns-in_ok-item_pair-in-Some c =
     let found = rw c.in-Some.is at c.in_ok-found.ensures in
-    let item = found-item c.args.line.now c.in-Some.found found in (
+    let item = found-item c.args.line.now c.in-Some.found found.1 in (
       subst (λ o. AreInComments (escapes_from c.args.line_number (chars c.args.line.now) o [])) (sym item) tt,
       c.in_ok-item_pair-in-Some.ensures
           ∙ ap outcome_pair (sym item),

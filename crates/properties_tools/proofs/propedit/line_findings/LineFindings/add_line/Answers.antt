@@ -7,7 +7,7 @@ use Rattle.properties_tools.proofs.propedit.line_findings.LineFindings.add_line.
 
 pub returns-in_ok-add_item-in-Ok-Some : goal.returns-in_ok-add_item-in-Ok-Some
 returns-in_ok-add_item-in-Ok-Some c =
-    let item = found-item c.args.line.now c.in-Ok-Some.found (rw c.in-Ok-Some.field-0-is at c.in-Ok-Some.ensures) in
+    let item = found-item c.args.line.now c.in-Ok-Some.found (rw c.in-Ok-Some.field-0-is at c.in-Ok-Some.ensures).1 in
     let content : borrowed_content c.cut_item-item.result.content ≡ found_content c.args.line.now c.in-Ok-Some.found.content =
     let i = c.cut_item-item.ensures.item in cc in
     adds-item c.args.is_well_formed c.args.line_number (chars c.args.line.now) _ c.args.self.now c.add_item.new.self item

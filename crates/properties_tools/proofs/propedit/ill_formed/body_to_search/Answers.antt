@@ -1,0 +1,7 @@
+use Rattle.properties_tools.proofs.propedit.ill_formed.body_to_search.Goals as goal
+
+pub returns-in-IllFormed : goal.returns-in-IllFormed
+returns-in-IllFormed c = rw c.in-IllFormed.is c.body_to_decode.ensures
+
+pub returns-in-Zero : goal.returns-in-Zero
+returns-in-Zero c = rw c.in-Zero.is c.body_with_zeros.ensures
