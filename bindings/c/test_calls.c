@@ -374,7 +374,7 @@ static void try_get(void) {
     request = request_of(GET, T("\0k\0=\0v\x20\xac"), TODRENVAL_UTF_16BE);
     check("get, UTF-16BE", request, TODRENVAL_OK, 0, T("v\xe2\x82\xac"));
     request = request_of(GET, T("\xef\xbb\xbfk=\xc3\xa9"), TODRENVAL_WINDOWS_1252);
-    check("get after a mark", request, TODRENVAL_OK, 0, T("\xc3\xa9"));
+    check("get after a byte order mark", request, TODRENVAL_OK, 0, T("\xc3\xa9"));
     request = request_of(GET, T("\xff=1"), TODRENVAL_UTF_8);
     request.key = T("\xef\xbf\xbd");
     check("get of a replacement", request, TODRENVAL_OK, 0, T("1"));
@@ -501,7 +501,7 @@ static void try_edits(void) {
     check("set_key, UTF-8", request, TODRENVAL_OK, 0, T("# \xc3\xa9\n\xc3\xa9=\xc3\xa8\xe2\x82\xac\xe3\x81\x82\n"));
     request.encoding = TODRENVAL_UTF_16LE;
     request.source = T("\xef\xbb\xbf");
-    check("set_key after a mark", request, TODRENVAL_OK, 0,
+    check("set_key after a byte order mark", request, TODRENVAL_OK, 0,
           T("\xef\xbb\xbf\xc3\xa9=\xc3\xa8\xe2\x82\xac\xe3\x81\x82\n"));
 
     /* Escapes of ASCII, and of what would begin like a byte order mark; and a new pair takes no indent. */
@@ -510,7 +510,7 @@ static void try_edits(void) {
     request.value = T("\n\xef\xbb\xbf");
     check("set_key like a byte order mark", request, TODRENVAL_OK, 0, T("\\ufeff\\u0001=\\n\xef\xbb\xbf\n"));
     request = request_of(REMOVE_KEY, T("k=v\n\xef\xbb\xbf" "a=1\n"), TODRENVAL_UTF_8);
-    check("remove_key before a mark", request, TODRENVAL_OK, 0, T("\n\xef\xbb\xbf" "a=1\n"));
+    check("remove_key before a byte order mark", request, TODRENVAL_OK, 0, T("\n\xef\xbb\xbf" "a=1\n"));
     request = request_of(SET_VALUE, T("  a  :  1\r\n"), TODRENVAL_UTF_8);
     check("set_value without indent", request, TODRENVAL_OK, 0, T("  a  :  1\r\nk : v\r\n"));
 
@@ -678,10 +678,10 @@ static void try_convert(void) {
     text = T("\\\\u00e9=\\u00\\\ne9");
     converts("convert of no escapes", text, TODRENVAL_UTF_8, text, text, text, text, text);
 
-    /* A mark is dropped, and nothing at the front is like one. */
+    /* A byte order mark is dropped, and nothing at the front is like one. */
     text = T("k=1");
-    converts("convert after a mark", T("\xef\xbb\xbfk=1"), TODRENVAL_UTF_16LE, text, text, text, text, text);
-    converts("convert after a mark", T("\xfe\xff\0k\0=\0001"), TODRENVAL_UTF_8, text, text, text, text, text);
+    converts("convert after a byte order mark", T("\xef\xbb\xbfk=1"), TODRENVAL_UTF_16LE, text, text, text, text, text);
+    converts("convert after a byte order mark", T("\xfe\xff\0k\0=\0001"), TODRENVAL_UTF_8, text, text, text, text, text);
     text = T("\\ufeffk=1");
     converts("convert after two marks", T("\xef\xbb\xbf\xef\xbb\xbfk=1"), TODRENVAL_UTF_8, text, text, text, text,
              text);

@@ -699,7 +699,7 @@ def try_documents(count):
 
 
 def try_zeros(count):
-    """U+0000 in UTF-8 without a mark is refused, unless what isn't text is replaced."""
+    """U+0000 in UTF-8 without a byte order mark is refused, unless what isn't text is replaced."""
     wide = "a=1\nb=2\n".encode("utf-16-le")
     for data, line in ((wide, 1), (b"a=1\r\nb=\0", 2), (b"\xff=1\na\0", 2)):
         for call, more in ((todrenval.loads, []), (todrenval.findings, []), (todrenval.set_value, ["a", "3"]), (todrenval.Document, [])):
