@@ -207,7 +207,7 @@ impl IndexedSource {
     }
 }
 
-// Puts an LF before a source that begins like a byte order mark, unless a byte order mark comes before its body. A pair was cut out
+// Puts an LF before a source that begins like a byte order mark, unless one comes before its body. A pair was cut out
 // before, so there is room, and nothing can fail.
 fn guard_front(source: &mut Vec<u8>, start: usize, index: &mut Index)
     requires { vec_len source.old < vec_capacity source.old }
