@@ -29,7 +29,7 @@ ESCAPES = r"""
 \ude00\ud83d \ud83d\ud83d\ude00 \ud83d\u0041 \ud83d\n \ud83d\ \ud83d\u12 \u \u1 \u12 \u123 \u123g \uzzzz \u+123 \u-001 \U0041
 \u00\u0041 \uu0041 \t \n \f \r \\ \\\ \\\\ \\\\\ \: \= \# \! \a \é \日 \😀 \u00e9\u00e8 \u0041\t\u0042 é\u00e9 \u00e9é 日\u65e5
 """.split()
-LINE_ENDS = [
+LINE_ENDINGS = [
     "\r\n", "\r", "\n", "\r\r\n", "\n\r", "\r\n\r\n", "\n\n", "\r\r", "\\\r\n", "\\\r", "\\\n", "\\\n  ", "\\\r\n\t\f x", "\\\\\n",
     "\\\\\r\n", "\\\\\\\n", "\\\r\n\r\n", "\\\n\r", "\\\n#no", "\\\n\\\n", "\\\r\\\n\\\r\n", "\\\n = v", "\\\n\n", "\n#c\\\n", "\n#c \\u12\n",
     "\n! \r\n k2=v2", "\r\n#\r\n!\r\n", "\n \t\f\n", "\n\\u00e9=2", "\\u00\\\ne9", "\\ud83d\\\n\\ude00", "\\ud83d\\\r\n  \\ude00", "\\ud8\\\n3d",
@@ -73,7 +73,7 @@ def filling(draw, length, encoding):
 
 def rare_parts():
     """Each encoding with what may stand at an end in it."""
-    for text in ESCAPES + LINE_ENDS + CHARACTERS:
+    for text in ESCAPES + LINE_ENDINGS + CHARACTERS:
         for encoding in ENCODINGS:
             yield encoding, coded(text, encoding)
     for sequence in SEQUENCES:
@@ -124,7 +124,7 @@ def many_lines(draw, encoding):
 
 def soup(draw, encoding):
     """Anything, in any order."""
-    parts = draw.choices(ESCAPES + LINE_ENDS + CHARACTERS + ["a", "k=", "word"] * 20, k=draw.randint(1, 40))
+    parts = draw.choices(ESCAPES + LINE_ENDINGS + CHARACTERS + ["a", "k=", "word"] * 20, k=draw.randint(1, 40))
     mixed = b"".join(coded(part, encoding) if draw.random() < 0.9 else draw.choice(SEQUENCES) for part in parts)
     return mixed[draw.randrange(4):] if draw.random() < 0.1 else mixed
 

@@ -394,10 +394,10 @@ def _refuse_other_text(source: bytes, number: int) -> None:
             place = error.start
     if place >= 0:
         before = source[:place].decode(decoded, "replace")
-        raise PropertiesError(Status.NOT_UTF_8, len(_LINE_END.findall(before)) + 1, reason)
+        raise PropertiesError(Status.NOT_UTF_8, len(_LINE_ENDING.findall(before)) + 1, reason)
 
 
-_LINE_END = re.compile(r"\r\n|\r|\n")
+_LINE_ENDING = re.compile(r"\r\n|\r|\n")
 
 
 @contextlib.contextmanager
