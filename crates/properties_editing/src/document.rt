@@ -18,7 +18,7 @@ use std::marker::Model;
 ///
 /// Use it in a program that changes keys one at a time and looks at values in between, such as an editor with a window:
 /// only `parse` reads the whole source. `set_value` reads again the pair that it changes or, if no pair has the key,
-/// the last pair. Each call that sets a value copies the source, so it needs memory for a second one. Each added pair
+/// the last pair. A call that changes a value copies the source, so it needs memory for a second one. Each added pair
 /// makes the index grow, even if it is removed again: parse anew from time to time if you add and remove many.
 ///
 /// ```text
