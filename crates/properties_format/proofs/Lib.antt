@@ -19,6 +19,7 @@ pub mod Keys
 pub mod Body
 pub mod Edited
 pub mod InTurn
+pub mod Plan
 pub mod Valued
 pub mod Edits
 pub mod Changed

@@ -18,6 +18,7 @@ pub mod AsciiOnly
 pub mod Maps
 pub mod Body
 pub mod Edited
+pub mod Plan
 pub mod Changed
 pub mod Valued
 pub mod Edits

@@ -43,7 +43,7 @@ ended-lines e l (m ∷ ls) h =
     (n.0, (h.0, refl, (l.by, refl, (λ q. ap begins_with_lf (ended-bytes e (m ∷ ls)) ∙ no_lf_first (m ∷ ls) [] h.2 (h.1 q))), n.1))
 
 -- The lines of a text are lines, the last of which has no line ending.
-last-lines : (e : Encoding) (ls : List Ended) (last : List ℕ) → AreLines ls last → AreLinesBy e None (held_of e ls last)
+pub last-lines : (e : Encoding) (ls : List Ended) (last : List ℕ) → AreLines ls last → AreLinesBy e None (held_of e ls last)
 last-lines e [] last h = (h, refl, refl)
 last-lines e (l ∷ []) last h =
     (h.0, refl, (l.by, refl, (λ q. ap begins_with_lf (held-bytes e [] last) ∙ no_lf_first [] last h.2 (h.1 q))), last-lines e [] last h.2)
