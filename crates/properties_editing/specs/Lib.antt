@@ -1,3 +1,4 @@
 pub mod Editing
 pub mod Documents
+pub mod Plans
 pub mod Private

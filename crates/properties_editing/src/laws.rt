@@ -8,6 +8,7 @@ ghost use Rattle.properties_format.specs.Settings.{Settings};
 ghost use Rattle.properties_format.specs.Writing.{Call};
 ghost use Rattle.properties_format.specs.Edits.{Edit};
 ghost use Rattle.properties_format.specs.EditLaws.{RemovingNoPairChangesNothing, SettingTwiceIsSettingOnce, SettingGivesTheValue, RemovingTakesTheValue, SettingItsOwnValueChangesNothing, SettingAValueTwiceIsSettingItOnce, SettingAValueAgainChangesNothing, SettingAValueGivesIt, SettingAValueIsWritingAnew, NoEditsChangeNothing, OneEditIsItsCall, ListsOfEditsFollow, PassingOverIsReading, ValueIsAmongPairs};
+ghost use Rattle.properties_editing.specs.Plans.{SettingFollowsItsPlan, RemovingFollowsItsPlan, SettingAValueFollowsItsPlan};
 
 /// The effects of edits, for every source, in ASCII only or not. Removing a key that no pair has changes no byte.
 /// Setting a key twice is the same as setting it once, to the later value. After a key is set, the map has its value;
@@ -21,6 +22,9 @@ ghost use Rattle.properties_format.specs.EditLaws.{RemovingNoPairChangesNothing,
 ///
 /// An empty list of edits returns the source. A list of one edit is the same as the call for that edit. Two lists of
 /// edits, concatenated, give what the second list makes of the first list's result.
+///
+/// An edit has one result at most, and it is what the edit's plan makes: of each group of lines, a plan says that it
+/// stays, goes, or becomes other bytes.
 ///
 /// If no comment has a malformed escape, edits that pass over comments have the same results as edits that read them,
 /// refusals too. If no pair has one either, a key has the same value whether comments are read or passed over.
@@ -42,6 +46,9 @@ pub fn editing()
     ensures none { (r : Repertoire) (source : List ℕ) → NoEditsChangeNothing r source }
     ensures one { (r : Repertoire) (source : List ℕ) (edit : Edit) → OneEditIsItsCall r source edit }
     ensures lists { (r : Repertoire) (source : List ℕ) (xs ys : List Edit) → ListsOfEditsFollow r source xs ys }
+    ensures set_plan { (r : Repertoire) (source key value : List ℕ) → SettingFollowsItsPlan r source key value }
+    ensures removed_plan { (e : Encoding) (source key : List ℕ) → RemovingFollowsItsPlan e source key }
+    ensures value_plan { (r : Repertoire) (source key value : List ℕ) → SettingAValueFollowsItsPlan r source key value }
     ensures passed_over { (r : Repertoire) (source : List ℕ) (edits : List Edit) → PassingOverIsReading r source edits }
     ensures among_pairs { (e : Encoding) (source key : List ℕ) (value : Option (List ℕ)) → ValueIsAmongPairs e source key value }
 {}

@@ -1,6 +1,7 @@
 use Rattle.properties_format.proofs.Valued.Laws.{setting-own_value, setting-value_twice, setting-value_again, setting-value_gives}
 use Rattle.properties_format.proofs.Valued.Anew.{setting-value_anew}
 use Rattle.properties_format.proofs.EditLaws.{removing-no_pair, setting-twice, setting-gives, removing-takes, lists-follow}
+use Rattle.properties_format.proofs.Plan.Made.{key_set-is_planned, key_removed-is_planned, value_set-is_planned}
 use Rattle.properties_format.proofs.Edits.PairResults.{passing_over-is_reading}
 use Rattle.properties_format.proofs.Edits.PairValues.{value-among_pairs}
 use Rattle.properties_editing.proofs.laws.editing.Goals as goal
@@ -34,6 +35,15 @@ returns-clause-value_anew c = setting-value_anew
 
 pub returns-clause-lists : goal.returns-clause-lists
 returns-clause-lists c = lists-follow
+
+pub returns-clause-set_plan : goal.returns-clause-set_plan
+returns-clause-set_plan c r source key value editable result = key_set-is_planned r source key value result editable
+
+pub returns-clause-removed_plan : goal.returns-clause-removed_plan
+returns-clause-removed_plan c = key_removed-is_planned
+
+pub returns-clause-value_plan : goal.returns-clause-value_plan
+returns-clause-value_plan c r source key value editable result = value_set-is_planned r source key value result editable
 
 pub returns-clause-passed_over : goal.returns-clause-passed_over
 returns-clause-passed_over c = passing_over-is_reading
