@@ -374,3 +374,32 @@ module _ {ps : List PairAt} {places : List ℕ → List ℕ} {values : List ℕ 
           ];
         },
       )
+
+-- ---- empty places at the end that are gone
+
+-- the slots before the last place, which is empty
+slots-before : (slots : List (Option PairAt)) (spans : List (Option BodySpan)) → spans ++ None ∷ [] ≡ map part_of slots
+    → (before : List (Option PairAt)) × (slots ≡ before ++ None ∷ []) × (spans ≡ map part_of before)
+slots-before [] [] is = absurd (cc)
+slots-before [] (s ∷ spans) is = absurd (cc)
+slots-before (None ∷ []) [] is = ([], refl, refl)
+slots-before (None ∷ t ∷ slots) [] is = absurd (cc)
+slots-before (Some p ∷ slots) [] is = absurd (cc)
+slots-before (t ∷ slots) (s ∷ spans) is =
+    let first : s ≡ part_of t = cc in
+    let others : spans ++ None ∷ [] ≡ map part_of slots = cc in
+    let k = slots-before slots spans others in
+    (t ∷ k.0, ap (λ v. t ∷ v) k.1, ap₂ (λ a b. a ∷ b) first k.2)
+
+-- What is listed is listed without that place.
+pub listed-shorter : {ps : List PairAt} {places : List ℕ → List ℕ} {values : List ℕ → Option (List ℕ)} {spans : List (Option BodySpan)}
+    → IsListed ps places values (spans ++ None ∷ []) → IsListed ps places values spans
+listed-shorter {spans = spans} h =
+    let k = slots-before h.slots spans h.are_spans in
+    record {
+      slots = k.0;
+      are_pairs = sym (ap live k.1 ∙ live-append k.0 (None ∷ []) ∙ append-nil (live k.0)) ∙ h.are_pairs;
+      are_spans = k.2;
+      are_places = λ key. h.are_places key ∙ ap (places_with key 0) k.1 ∙ places-append key 0 k.0 (None ∷ []) ∙ append-nil (places_with key 0 k.0);
+      are_values = h.are_values;
+    }

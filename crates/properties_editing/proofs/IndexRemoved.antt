@@ -1,14 +1,15 @@
 -- The groups of a body from which the pairs with a key are cut out, one after the other, and what is listed of them.
-use Rattle.std.proofs.Common.{◌≡◌, ◌<◌, ◌==◌, ℕ, ◌+◌, ◌^◌, Bool, true, false, List, [], ◌∷◌, ◌++◌, Option, Some, None, take, drop, length, refl, ap, ap₂, sym, ◌∙◌, subst, inl, inr, append-nil, append_assoc, length-append, arith}
+use Rattle.std.proofs.Common.{◌≡◌, ◌<◌, ◌==◌, ℕ, zero, suc, ◌+◌, ◌^◌, Bool, true, false, List, [], ◌∷◌, ◌++◌, Option, Some, None, take, drop, length, replicate, refl, ap, ap₂, sym, ◌∙◌, subst, inl, inr, append-nil, append_assoc, length-append, arith}
 use Rattle.std.specs.Prelude.{◌⊎◌, ◌&&◌, not, bytes_eq, if◌then◌else◌}
 use Rattle.std.specs.BTreeMap.{IsOrdered}
+use Rattle.std.specs.Global.{Vec}
 use Rattle.std.specs.Map.{update}
 use Rattle.std.specs.Option.{option_map}
 use Rattle.std.specs.String.{string_cmp}
 use Rattle.std.proofs.Math.Seq.{drop-append_seam, take-append_seam}
 use Rattle.std.proofs.lemmas.Bool.{cases_Bool, cond-true, cond-false, and_parts, not-true}
 use Rattle.std.proofs.lemmas.Bool.Decides.{nat_tests}
-use Rattle.std.proofs.lemmas.List.{drop-drop, length-take-le, take-append-drop}
+use Rattle.std.proofs.lemmas.List.{drop-drop, length-take-le, map-append, take-append-drop}
 use Rattle.properties_format.specs.Encoding.{Repertoire, Encoding, begins_like_bom}
 use Rattle.properties_format.specs.Text.{LineEnding, lf, cr, crlf, line_feed}
 use Rattle.properties_format.specs.Items as content
@@ -27,11 +28,12 @@ use Rattle.properties_format.proofs.InTurn.Merged.{AreInTurn, IsEndedGroup, afte
 use Rattle.properties_format.proofs.Edited.Parts.{empty_group, empty-lines, empty-whole}
 use Rattle.properties_format.proofs.InTurn.Unmerged.{AreUnmerged, merged-unmerged}
 use Rattle.properties_text.specs.Encoding.{encoding_of}
-use Rattle.properties_editing.specs.Private.BodyIndex.{GuardsFront, IsIndex, IsListed, KeepsNothing, ListsPairs, PutsFirst, ending_size, last_value, outcome, pairs_from, places_of, part_in, span_of, spans_in, spans_of, stored_at, stored_places, stored_value}
+use Rattle.properties_editing.specs.Private.BodyIndex.{DropsPlaces, GuardsFront, IsIndex, IsListed, KeepsNothing, ListsPairs, PairAt, PutsFirst, ending_size, last_value, outcome, pairs_from, places_of, part_in, span_of, spans_in, spans_of, stored_at, stored_places, stored_value}
 use Rattle.properties_items.specs.BorrowedItems.{outcome_pair}
 use Rattle.properties_editing.specs.Private.BodyKeys.{closing_of}
 use Rattle.properties_items.specs.Texts.{characters}
 use Rattle.properties_editing.specs.Private.Sources.{IsInForce}
+use Rattle.properties_editing.specs.declared.index.BodyPart.{BodyPart}
 use Rattle.properties_editing.specs.declared.index.Index.{Index}
 use Rattle.properties_editing.specs.declared.index.IndexedPair.{IndexedPair}
 use Rattle.properties_editing.specs.declared.find.BodySpan.{BodySpan}
@@ -45,7 +47,7 @@ use Rattle.properties_editing.proofs.Editing.{removed-bytes, unmarked}
 use Rattle.properties_editing.proofs.IndexChanged.{IsLastTold, final-behind, last-told, some-ending, turn-behind, IsKept}
 use Rattle.properties_editing.proofs.IndexCut.{HasCut, HaveBytes, all_cut, cut-first, cut_from}
 use Rattle.properties_editing.proofs.IndexFound.{said-of}
-use Rattle.properties_editing.proofs.IndexListed.{changed_at, listed-as, listed-shifted, none-value}
+use Rattle.properties_editing.proofs.IndexListed.{changed_at, listed-as, listed-shifted, listed-shorter, none-value}
 use Rattle.properties_editing.proofs.IndexMerged.{empty-said, front-shift, held-merged, merged-pairs, merged-sound, pair-bytes}
 use Rattle.properties_editing.proofs.IndexParsed.{kept-index}
 use Rattle.properties_editing.proofs.IndexSpans.{carried, group-size, listed-none, none-listed, none-with, pairs-around, pairs-join, parts-moved, size-around}
@@ -518,6 +520,24 @@ front-turn e (g ∷ gs) mid new old is h k fits =
       closing = k.closing ∙ h.closing;
       ordered = subst (IsOrdered string_cmp) (sym k.pairs) h.ordered;
     }
+
+-- ---- empty places at the end, which are dropped
+
+listed-dropped : {ps : List PairAt} {places : List ℕ → List ℕ} {values : List ℕ → Option (List ℕ)} (count : ℕ) (parts : List (Option BodyPart))
+    → IsListed ps places values (spans_in (parts ++ replicate count None)) → IsListed ps places values (spans_in parts)
+listed-dropped zero parts h = rw append-nil at h
+listed-dropped {ps} {places} {values} (suc count) parts h =
+    let longer = subst (λ v. IsListed ps places values (spans_in v)) (sym (append_assoc parts (None ∷ []) (replicate count None))) h in
+    listed-shorter (rw map-append at (listed-dropped count (parts ++ None ∷ []) longer))
+
+-- The index is that of the groups without them too.
+pub dropped-index : {groups : List (List HeldLine)} {index : Index} (spans : Vec (Option BodyPart)) → IsIndex groups index
+    → DropsPlaces index.spans.items spans.items → IsIndex groups (record index { spans = spans })
+dropped-index spans h k = record {
+  listed = listed-dropped k.count spans.items (listed-as h.listed refl (ap spans_in (sym k.division)) (λ j. refl) (λ j. refl));
+  closing = h.closing;
+  ordered = h.ordered;
+}
 
 -- ---- what a removal comes to
 

@@ -8,7 +8,7 @@ ghost use Rattle.properties_lines.specs.LineSearch.{unit_size};
 ghost use Rattle.properties_items.specs.Texts.{characters};
 ghost use Rattle.std.specs.Str.{chars};
 ghost use Rattle.properties_text.specs.Encoding.{encoding_of};
-ghost use Rattle.properties_editing.specs.Private.BodyIndex.{AddsGroup, AreChanged, FindsPairOfLine, FollowsPair, GrowsIndex, IsEndMoved, KeepsNothing, KeepsPair, ParsesIndex, all_longer, found_span, last_live, lengthened_span, longer, moved_part, resized_part, part_in, span_in, spans_in, spans_of, stored_at};
+ghost use Rattle.properties_editing.specs.Private.BodyIndex.{AddsGroup, AreChanged, DropsPlaces, FindsPairOfLine, FollowsPair, GrowsIndex, IsEndMoved, KeepsNothing, KeepsPair, ParsesIndex, all_longer, found_span, last_live, lengthened_span, longer, moved_part, resized_part, part_in, span_in, spans_in, spans_of, stored_at};
 ghost use Rattle.properties_items.specs.BorrowedItems.{pair_characters};
 
 use crate::find::{BodySpan, Closing, closing_after};
@@ -42,7 +42,7 @@ pub struct Index {
     /// The pairs with each key.
     pub pairs: BTreeMap<String, IndexedPair>,
     /// The parts of the body that are pairs, in order and without their last line endings. A pair that was removed
-    /// leaves its place empty.
+    /// leaves its place empty, or none if no pair comes after it.
     pub spans: Vec<Option<BodyPart>>,
     /// What separates a new pair from the last group.
     pub closing: Closing,
@@ -293,6 +293,15 @@ fn move_part(part: &mut Option<BodyPart>, old: usize, new: usize)
 {
     if let Some(part) = part {
         part.start = part.start.wrapping_add(new.wrapping_sub(old));
+    }
+}
+
+// Drops the empty places at the end, so that `last_pair` never goes back over them.
+fn drop_empty_places(spans: &mut Vec<Option<BodyPart>>)
+    ensures { DropsPlaces spans.old.items spans.new.items }
+{
+    while let Some(None) = spans.last() {
+        spans.pop();
     }
 }
 

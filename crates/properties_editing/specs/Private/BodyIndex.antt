@@ -1,5 +1,5 @@
 -- Which pair a logical line is, and what an index of a body's pairs says.
-use Rattle.std.specs.Prelude.{◌≡◌, ◌⊎◌, bytes_eq, ◌==◌, ℕ, ◌+◌, ◌-◌, ◌%◌, ◌^◌, ◌≤◌, ◌<◌, min, Bool, true, false, if◌then◌else◌, List, [], ◌∷◌, ◌++◌, map, length, drop, get_or, filter_map, suc, Option, Some, None, option_and_then, Result, Ok, Err}
+use Rattle.std.specs.Prelude.{◌≡◌, ◌⊎◌, bytes_eq, ◌==◌, ℕ, ◌+◌, ◌-◌, ◌%◌, ◌^◌, ◌≤◌, ◌<◌, min, Bool, true, false, if◌then◌else◌, List, [], ◌∷◌, ◌++◌, map, length, drop, get_or, replicate, filter_map, suc, Option, Some, None, option_and_then, Result, Ok, Err}
 use Rattle.std.specs.List.{cons_option}
 use Rattle.std.specs.Option.{is_some, option_map, option_or}
 use Rattle.std.specs.Map.{lookup, update}
@@ -212,6 +212,11 @@ pub record IsEndMoved (place old_end new_end : ℕ) (old new : List (Option Body
   pub before : (i : ℕ) → i < place → part_in new i ≡ part_in old i
   pub own : part_in new place ≡ option_map (resized_part old_end new_end) (part_in old place)
   pub behind : (i : ℕ) → place < i → i < length old → part_in new i ≡ option_map (moved_part old_end new_end) (part_in old i)
+
+-- Of the places at the end, so many that were empty are gone.
+pub record DropsPlaces (old new : List (Option BodyPart)) : Type 0 where
+  pub count : ℕ
+  pub division : old ≡ new ++ replicate count None
 
 -- a part, after each part that ends in this place has grown by so many bytes
 abbrev pub lengthened_span : ℕ → ℕ → BodySpan → BodySpan

@@ -18,7 +18,7 @@ use crate::append::{layout_at, print_new_pair};
 use crate::endings::{opened_size, push_closing, push_ending, safe_ending_after};
 use crate::find::BodySpan;
 use crate::index::sweep::{Sweep, close_up, cut_out_pair};
-use crate::index::{Index, move_parts};
+use crate::index::{Index, drop_empty_places, move_parts};
 use crate::new_value::with_other_value;
 use crate::replace::{is_first, print_new, with_pair_replaced};
 use crate::source::{Asked, BodyStart};
@@ -203,6 +203,7 @@ impl IndexedSource {
         let swept = cut_out_pair(source, opened.start, index, sweep, last);
         close_up(source, index, swept);
         guard_front(source, opened.start, index);
+        drop_empty_places(&mut index.spans);
         true
     }
 }

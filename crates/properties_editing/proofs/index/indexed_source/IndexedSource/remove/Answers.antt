@@ -12,12 +12,12 @@ use Rattle.std.proofs.lemmas.List.{drop_more, length-take-le}
 use Rattle.properties_editing.specs.Private.BodyIndex.{KeepsNothing, stored_at}
 use Rattle.properties_editing.specs.declared.index.Index.{Index}
 use Rattle.properties_editing.proofs.IndexCut.{all-from}
-use Rattle.properties_editing.proofs.IndexRemoved.{cut-begin, cut-whole, removal-ends, removed-none}
+use Rattle.properties_editing.proofs.IndexRemoved.{cut-begin, cut-whole, dropped-index, removal-ends, removed-none}
 use Rattle.properties_editing.proofs.IndexSwept.{IsSweptTo, swept-ahead, swept-begin, swept-ends, swept-size, swept-step}
 use Rattle.properties_editing.proofs.IndexStored.{none-removed}
 use Rattle.properties_items.proofs.TextMaps.Values.{at_chars-sorted, at_chars-updated}
 use Rattle.properties_editing.proofs.index.indexed_source.IndexedSource.remove.Goals as goal
-use Rattle.properties_editing.proofs.index.indexed_source.IndexedSource.remove.Goals.{After-cut_out_pair-swept, After-guard_front, In_default}
+use Rattle.properties_editing.proofs.index.indexed_source.IndexedSource.remove.Goals.{After-cut_out_pair-swept, After-drop_empty_places, In_default}
 
 -- Where no pair has the key, nothing changes.
 nothing : (c : In_default) → let s = c.self.inside in
@@ -137,9 +137,13 @@ guard_front-requires c =
     let wider = done.1 in
     omega arith
 
+-- the index that is left
+abbrev left : After-drop_empty_places → Index
+left c = record c.guard_front.new.index { spans = c.drop_empty_places.new.spans }
+
 -- All pairs with the key were cut out.
-made : (c : After-guard_front) →
-    ComesTo {E = AllocError} c.self.inside (remove (chars c.args.key.now)) (Ok tt) c.guard_front.new.source c.guard_front.new.index
+made : (c : After-drop_empty_places) →
+    ComesTo {E = AllocError} c.self.inside (remove (chars c.args.key.now)) (Ok tt) c.guard_front.new.source (left c)
 made c =
     let s = c.self.inside in
     let r = c.self.invariant in
@@ -150,12 +154,13 @@ made c =
     let done = swept-step s.opened.start (sym (length-take-le s.opened.start s.bytes.items r.in_force.within)) last
     (omega arith) _ _ _ c.cut_out_pair-swept.ensures.cuts in
     let cut = swept-ends done.0 c.close_up.new.source.items c.close_up.new.index up.bytes up.spans up.pairs up.closing in
-    edited-to s r (remove key) c.guard_front.new.source c.guard_front.new.index
-    (removal-ends (open_source s).repertoire s.opened s.bytes.items key r.in_force r.sound _ _ _ _ (cut-whole cut)
-    (omega arith) c.guard_front.ensures)
+    let kept = removal-ends (open_source s).repertoire s.opened s.bytes.items key r.in_force r.sound _ _ _ _ (cut-whole cut)
+    (omega arith) c.guard_front.ensures in
+    edited-to s r (remove key) c.guard_front.new.source (left c)
+    (kept.0, (kept.1.0, dropped-index c.drop_empty_places.new.spans kept.1.1 c.drop_empty_places.ensures))
 
 pub invariant_of-self-2 : goal.invariant_of-self-2
-invariant_of-self-2 c = (made (goal.at.invariant_of-self-2 c).After-guard_front).0
+invariant_of-self-2 c = (made (goal.at.invariant_of-self-2 c).After-drop_empty_places).0
 
 pub returns-clause-told : goal.returns-clause-told
 returns-clause-told c =
@@ -163,4 +168,4 @@ returns-clause-told c =
     rw (sym c.self.view_is) (sym (ap is_some some) ∙ value-told c.self.inside c.self.invariant (chars c.args.key.now))
 
 pub returns-clause-removes : goal.returns-clause-removes
-returns-clause-removes c = rw (sym c.self.view_is) (made (goal.at.returns-clause-removes c).After-guard_front).1
+returns-clause-removes c = rw (sym c.self.view_is) (made (goal.at.returns-clause-removes c).After-drop_empty_places).1
