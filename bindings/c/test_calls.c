@@ -584,7 +584,7 @@ static void try_settings(void) {
     }
     for (place = 0; place < sizeof both / sizeof *both; place++) {
         request.flags = both[place];
-        refuses("no endings", request, TODRENVAL_UNKNOWN_ENCODING, 0);
+        refuses("no endings", request, TODRENVAL_UNKNOWN_FLAGS, 0);
     }
     request.flags = TODRENVAL_READABLE | TODRENVAL_CRLF;
     request.prefix = T("  ! \xc3\xa9");
@@ -805,7 +805,7 @@ static void try_flags(void) {
             request.list = T("x");
             request.prefix = T("\xff");
             refuses(names[calls[number]], request,
-                    (flags[place] & ~taken[number]) != 0 ? TODRENVAL_UNKNOWN_ENCODING
+                    (flags[place] & ~taken[number]) != 0 ? TODRENVAL_UNKNOWN_FLAGS
                     : calls[number] == WRITE             ? TODRENVAL_NOT_UTF_8
                                                          : status,
                     0);
@@ -1165,7 +1165,7 @@ static void try_words(void) {
         "The room is too small.",
         "No pair has the key.",
         "Out of memory.",
-        "Unknown encoding or flags.",
+        "Unknown encoding.",
         "A text isn't UTF-8.",
         "A packed list isn't well formed.",
         "Malformed \\uxxxx encoding: not enough digits.",
@@ -1176,12 +1176,13 @@ static void try_words(void) {
         "Bad comment prefix.",
         "Bad key/value separator.",
         "Empty key with a blank key/value separator.",
+        "Unknown flags.",
     };
-    static int const unknown[] = {-2147483647 - 1, -1, TODRENVAL_EMPTY_KEY + 1, 2147483647};
+    static int const unknown[] = {-2147483647 - 1, -1, TODRENVAL_UNKNOWN_FLAGS + 1, 2147483647};
     int const known = (int)(sizeof texts / sizeof *texts);
     char reason[TODRENVAL_REASON_ROOM];
     int each;
-    count(known == TODRENVAL_EMPTY_KEY + 1, "each status", "status_text", known);
+    count(known == TODRENVAL_UNKNOWN_FLAGS + 1, "each status", "status_text", known);
     for (each = 0; each < known + 4; each++) {
         int status = each < known ? each : unknown[each - known];
         char const *text = each < known ? texts[each] : "Unknown status.";

@@ -64,7 +64,7 @@ enum todrenval_status {
     TODRENVAL_NO_ROOM = 1,           /* *length bytes are needed in `out` */
     TODRENVAL_NO_KEY = 2,            /* todrenval_get: no pair has the key */
     TODRENVAL_NO_MEMORY = 3,         /* malloc or realloc returned null */
-    TODRENVAL_UNKNOWN_ENCODING = 4,  /* no number of enum todrenval_encoding or todrenval_target, or no such flags */
+    TODRENVAL_UNKNOWN_ENCODING = 4,  /* no number of enum todrenval_encoding or todrenval_target */
     TODRENVAL_NOT_UTF_8 = 5,         /* a key, a value, a prefix, a separator or a text of a list isn't UTF-8 */
     TODRENVAL_BAD_LIST = 6,          /* a packed list ends too early, or has a record that it may not have */
     TODRENVAL_NOT_ENOUGH_DIGITS = 7, /* fewer than four characters follow a \u in the line */
@@ -74,7 +74,8 @@ enum todrenval_status {
     TODRENVAL_UNSUPPORTED = 11,      /* a source in UTF-16 can't be edited */
     TODRENVAL_BAD_PREFIX = 12,       /* todrenval_write: a comment can't begin so */
     TODRENVAL_BAD_SEPARATOR = 13,    /* todrenval_write: a key and a value can't be separated so */
-    TODRENVAL_EMPTY_KEY = 14         /* todrenval_write: an empty key, and blanks alone as the separator */
+    TODRENVAL_EMPTY_KEY = 14,        /* todrenval_write: an empty key, and blanks alone as the separator */
+    TODRENVAL_UNKNOWN_FLAGS = 15     /* flags that the call doesn't take, or not together */
 };
 
 /* How the bytes of a source are read, and an edit or a list is written. A byte order mark at the front of a source
@@ -184,8 +185,8 @@ struct todrenval_list {
  * key, it is the value of the last one. A malformed escape of any pair is an error, even after that pair, and with
  * TODRENVAL_READ_COMMENTS one in a comment is too.
  *
- * Returns TODRENVAL_OK, _NO_ROOM, _NO_KEY, _NO_MEMORY, _UNKNOWN_ENCODING, _NOT_UTF_8 (of the key), _NOT_ENOUGH_DIGITS,
- * _NOT_HEX or _INVALID_CHARACTER. */
+ * Returns TODRENVAL_OK, _NO_ROOM, _NO_KEY, _NO_MEMORY, _UNKNOWN_ENCODING, _UNKNOWN_FLAGS, _NOT_UTF_8 (of the key),
+ * _NOT_ENOUGH_DIGITS, _NOT_HEX or _INVALID_CHARACTER. */
 int todrenval_get(uint8_t const *source, size_t source_length, uint32_t encoding, uint32_t flags, uint8_t const *key,
                   size_t key_length, uint8_t *out, size_t room, size_t *length, size_t *line);
 
@@ -222,13 +223,14 @@ int todrenval_findings(uint8_t const *source, size_t source_length, uint32_t enc
  *
  * A malformed escape of any pair is an error, and with TODRENVAL_READ_COMMENTS one in a comment is too.
  *
- * Returns TODRENVAL_OK, _NO_ROOM, _NO_MEMORY, _UNKNOWN_ENCODING, _NOT_UTF_8 (of key or value), _NOT_ENOUGH_DIGITS,
- * _NOT_HEX, _INVALID_CHARACTER (of these the first in the source that counts) or _UNSUPPORTED. */
+ * Returns TODRENVAL_OK, _NO_ROOM, _NO_MEMORY, _UNKNOWN_ENCODING, _UNKNOWN_FLAGS, _NOT_UTF_8 (of key or value),
+ * _NOT_ENOUGH_DIGITS, _NOT_HEX, _INVALID_CHARACTER (of these the first in the source that counts) or _UNSUPPORTED. */
 int todrenval_set_value(uint8_t const *source, size_t source_length, uint32_t encoding, uint32_t flags,
                         uint8_t const *key, size_t key_length, uint8_t const *value, size_t value_length, uint8_t *out,
                         size_t room, size_t *length, size_t *line);
 
-/* Sets a key as todrenval_set_value does, but prints the pair anew as `key=value`, in the place of the last pair with the key or at the end.
+/* Sets a key as todrenval_set_value does, but prints the pair anew as `key=value`, in the place of the last pair with
+ * the key or at the end.
  *
  * Returns what todrenval_set_value returns. */
 int todrenval_set_key(uint8_t const *source, size_t source_length, uint32_t encoding, uint32_t flags,
@@ -283,15 +285,16 @@ int todrenval_convert(uint8_t const *source, size_t source_length, uint32_t enco
  * value, one at the front gets a backslash, and all others of these are as they are. Keys are written alike in both. A
  * prefix is written as it is, but for characters that the encoding lacks.
  *
- * Returns TODRENVAL_OK, _NO_ROOM, _NO_MEMORY, _UNKNOWN_ENCODING, _NOT_UTF_8, _BAD_LIST, _BAD_PREFIX, _BAD_SEPARATOR or
- * _EMPTY_KEY. A list is bad if a record is cut short, has a kind that no item has, such as that of an edit, or is a
- * comment and has a key. An empty key is refused if the separator is blanks alone: its value would read as the key. */
+ * Returns TODRENVAL_OK, _NO_ROOM, _NO_MEMORY, _UNKNOWN_ENCODING, _UNKNOWN_FLAGS, _NOT_UTF_8, _BAD_LIST, _BAD_PREFIX,
+ * _BAD_SEPARATOR or _EMPTY_KEY. A list is bad if a record is cut short, has a kind that no item has, such as that of an
+ * edit, or is a comment and has a key. An empty key is refused if the separator is blanks alone: its value would read
+ * as the key. */
 int todrenval_write(uint8_t const *list, size_t list_length, uint32_t encoding, uint32_t flags, uint8_t const *prefix,
                     size_t prefix_length, uint8_t const *separator, size_t separator_length, uint8_t *out, size_t room,
                     size_t *length, size_t *line);
 
-/* Writes the text of a status, in ASCII and without a line: "No pair has the key." or the like, and "Unknown status." for
- * a number that no status has. No text is longer than 63 bytes. *line is always 0.
+/* Writes the text of a status, in ASCII and without a line: "No pair has the key." or the like, and "Unknown status."
+ * for a number that no status has. No text is longer than 63 bytes. *line is always 0.
  *
  * Returns TODRENVAL_OK or _NO_ROOM. */
 int todrenval_status_text(int status, uint8_t *out, size_t room, size_t *length, size_t *line);

@@ -6,7 +6,7 @@ use Rattle.properties_text.specs.declared.print.Repertoire.{Repertoire}
 use Rattle.properties_text.specs.declared.print.Repertoire.TheVariants.{Windows1252, Utf8, Ascii}
 use Rattle.properties_c.specs.Crossing.{Crossing, Refuses}
 use Rattle.properties_c.specs.declared.encoding.Flags.{Flags}
-use Rattle.properties_c.specs.declared.status.Status.TheVariants.{UnknownEncoding, NotUtf8}
+use Rattle.properties_c.specs.declared.status.Status.TheVariants.{UnknownEncoding, UnknownFlags, NotUtf8}
 
 -- the encoding with this number, if there is one
 abbrev pub encoding_at : ℕ → Option Encoding
@@ -57,7 +57,7 @@ flags_at taken n = if nat_lt n 24 && are_among (flags_in n) taken then Some (fla
 -- The call takes each of the flags, and this holds of what they ask for; or it doesn't, and was refused.
 abbrev pub WithFlags : Flags → ℕ → (Flags → Type 0) → Crossing → Type 0
 WithFlags taken n Holds x =
-    ((f : Flags) × (flags_at taken n ≡ Some f) × Holds f) ⊎ (flags_at taken n ≡ None) × Refuses UnknownEncoding 0 x
+    ((f : Flags) × (flags_at taken n ≡ Some f) × Holds f) ⊎ (flags_at taken n ≡ None) × Refuses UnknownFlags 0 x
 
 -- The bytes are UTF-8, and this holds of their characters; or they aren't, and the call was refused.
 abbrev pub WithText : List ℕ → (List ℕ → Type 0) → Crossing → Type 0

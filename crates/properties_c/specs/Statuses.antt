@@ -6,7 +6,7 @@ use Rattle.properties_items.specs.declared.error.ErrorKind.{ErrorKind}
 use Rattle.properties_items.specs.declared.error.ErrorKind.TheVariants as kind
 use Rattle.properties_items.specs.declared.error.PropertiesError.{PropertiesError}
 use Rattle.properties_c.specs.declared.status.Status.{Status}
-use Rattle.properties_c.specs.declared.status.Status.TheVariants.{Done, NoRoom, NoKey, NoMemory, UnknownEncoding, NotUtf8, BadList, NotEnoughDigits, NotHex, InvalidCharacter, TooManyLines, Unsupported, BadPrefix, BadSeparator, EmptyKey}
+use Rattle.properties_c.specs.declared.status.Status.TheVariants.{Done, NoRoom, NoKey, NoMemory, UnknownEncoding, NotUtf8, BadList, NotEnoughDigits, NotHex, InvalidCharacter, TooManyLines, Unsupported, BadPrefix, BadSeparator, EmptyKey, UnknownFlags}
 
 abbrev pub status_number : Status → ℤ
 status_number Done = pos 0
@@ -24,6 +24,7 @@ status_number Unsupported = pos 11
 status_number BadPrefix = pos 12
 status_number BadSeparator = pos 13
 status_number EmptyKey = pos 14
+status_number UnknownFlags = pos 15
 
 -- the status of an error of this kind; a stream in memory fails only if memory runs out
 abbrev pub status_of_kind : ErrorKind → Status
@@ -61,7 +62,7 @@ status_text Done = codes "No error."
 status_text NoRoom = codes "The room is too small."
 status_text NoKey = codes "No pair has the key."
 status_text NoMemory = codes "Out of memory."
-status_text UnknownEncoding = codes "Unknown encoding or flags."
+status_text UnknownEncoding = codes "Unknown encoding."
 status_text NotUtf8 = codes "A text isn't UTF-8."
 status_text BadList = codes "A packed list isn't well formed."
 status_text NotEnoughDigits = codes "Malformed \\uxxxx encoding: not enough digits."
@@ -72,6 +73,7 @@ status_text Unsupported = codes "Encoding can't be edited."
 status_text BadPrefix = codes "Bad comment prefix."
 status_text BadSeparator = codes "Bad key/value separator."
 status_text EmptyKey = codes "Empty key with a blank key/value separator."
+status_text UnknownFlags = codes "Unknown flags."
 
 -- the text of a status, or that of a number which no status has
 abbrev pub text_of : Option Status → List ℕ

@@ -34,7 +34,7 @@ pub extern "C" fn todrenval_set_value(
         return refuse(Status::UnknownEncoding, length, line);
     };
     let Some(flags) = flags_numbered(flags, FOR_EDITS) else {
-        return refuse(Status::UnknownEncoding, length, line);
+        return refuse(Status::UnknownFlags, length, line);
     };
     let Some(key) = text_of(key) else {
         return refuse(Status::NotUtf8, length, line);
@@ -66,7 +66,7 @@ pub extern "C" fn todrenval_set_key(
         return refuse(Status::UnknownEncoding, length, line);
     };
     let Some(flags) = flags_numbered(flags, FOR_EDITS) else {
-        return refuse(Status::UnknownEncoding, length, line);
+        return refuse(Status::UnknownFlags, length, line);
     };
     let Some(key) = text_of(key) else {
         return refuse(Status::NotUtf8, length, line);
@@ -97,7 +97,7 @@ pub extern "C" fn todrenval_remove_key(
         return refuse(Status::UnknownEncoding, length, line);
     };
     let Some(flags) = flags_numbered(flags, FOR_KEYS) else {
-        return refuse(Status::UnknownEncoding, length, line);
+        return refuse(Status::UnknownFlags, length, line);
     };
     let Some(key) = text_of(key) else {
         return refuse(Status::NotUtf8, length, line);
@@ -125,7 +125,7 @@ pub extern "C" fn todrenval_edit(
         return refuse(Status::UnknownEncoding, length, line);
     };
     let Some(flags) = flags_numbered(flags, FOR_EDITS) else {
-        return refuse(Status::UnknownEncoding, length, line);
+        return refuse(Status::UnknownFlags, length, line);
     };
     let edits = match edits_of(alloc, edits) {
         Ok(edits) => edits,

@@ -32,7 +32,7 @@ pub extern "C" fn todrenval_get(
         return refuse(Status::UnknownEncoding, length, line);
     };
     let Some(flags) = flags_numbered(flags, FOR_KEYS) else {
-        return refuse(Status::UnknownEncoding, length, line);
+        return refuse(Status::UnknownFlags, length, line);
     };
     let Some(key) = text_of(key) else {
         return refuse(Status::NotUtf8, length, line);

@@ -16,7 +16,7 @@ pub enum Status {
     NoKey,
     /// Memory ran out.
     NoMemory,
-    /// No encoding or target has the number, or the call doesn't take the flags.
+    /// No encoding or target has the number.
     UnknownEncoding,
     /// A key, a value, a prefix, a separator or a text of a list isn't UTF-8.
     NotUtf8,
@@ -38,6 +38,8 @@ pub enum Status {
     BadSeparator,
     /// A pair has an empty key, and its value would be read as the key.
     EmptyKey,
+    /// The call doesn't take one of the flags, or not all of them at once.
+    UnknownFlags,
 }
 
 /// Returns the number of a status.
@@ -60,6 +62,7 @@ pub fn number_of(status: Status) -> i32
         Status::BadPrefix => 12,
         Status::BadSeparator => 13,
         Status::EmptyKey => 14,
+        Status::UnknownFlags => 15,
     }
 }
 

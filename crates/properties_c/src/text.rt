@@ -44,6 +44,7 @@ fn status_numbered(number: i32) -> Option<Status>
         12 => Some(Status::BadPrefix),
         13 => Some(Status::BadSeparator),
         14 => Some(Status::EmptyKey),
+        15 => Some(Status::UnknownFlags),
         _ => None,
     }
 }
@@ -56,7 +57,7 @@ fn text_of(status: Status) -> &'static str
         Status::NoRoom => "The room is too small.",
         Status::NoKey => "No pair has the key.",
         Status::NoMemory => "Out of memory.",
-        Status::UnknownEncoding => "Unknown encoding or flags.",
+        Status::UnknownEncoding => "Unknown encoding.",
         Status::NotUtf8 => "A text isn't UTF-8.",
         Status::BadList => "A packed list isn't well formed.",
         Status::NotEnoughDigits => "Malformed \\uxxxx encoding: not enough digits.",
@@ -67,5 +68,6 @@ fn text_of(status: Status) -> &'static str
         Status::BadPrefix => "Bad comment prefix.",
         Status::BadSeparator => "Bad key/value separator.",
         Status::EmptyKey => "Empty key with a blank key/value separator.",
+        Status::UnknownFlags => "Unknown flags.",
     }
 }

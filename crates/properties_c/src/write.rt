@@ -40,7 +40,7 @@ pub extern "C" fn todrenval_write(
         return refuse(Status::UnknownEncoding, length, line);
     };
     let Some(flags) = flags_numbered(flags, FOR_LINES) else {
-        return refuse(Status::UnknownEncoding, length, line);
+        return refuse(Status::UnknownFlags, length, line);
     };
     let Some(prefix) = text_of(prefix) else {
         return refuse(Status::NotUtf8, length, line);
