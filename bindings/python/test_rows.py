@@ -1,15 +1,17 @@
 #!/usr/bin/env python3
 """Runs the rows of the tables of crates/properties_vectors through the module todrenval, and tries what no row says.
 
-    TODRENVAL_LIBRARY=FOLDER/libtodrenval.so.1 bindings/python/test_rows.py
+    TODRENVAL_LIBRARY=FOLDER/libtodrenval.so.1 bindings/python/test_rows.py [LENGTH]
 
-It prints what doesn't hold, how many rows are left out and why, and last how many checks passed and failed. CONTRIBUTING,
-"Rows of tables", has the notation.
+It prints what doesn't hold, how many rows are left out and why, and last how many checks passed and failed. LENGTH is how
+long the files are that are made of each choice of a few characters: 6 if it isn't given; 7 takes half a minute more.
+CONTRIBUTING, "Rows of tables", has the notation.
 """
 import array
 import contextlib
 import ctypes
 import doctest
+import errno
 import inspect
 import io
 import itertools
@@ -25,7 +27,7 @@ import sys
 import tempfile
 import threading
 import typing
-from copy import copy as copy_of
+from copy import copy as copy_of, deepcopy
 
 sys.path.insert(0, str(pathlib.Path(__file__).resolve().parent))
 import todrenval  # noqa: E402
@@ -329,7 +331,10 @@ def get_pairs(encoding, left, right):
     parts = split(right)
     error = error_of(parts[0])
     wanted = [error] * len(steps) if error else values_of(parts)
-    yield [got(source, key.decode(), encoding) for _, (key,) in steps], wanted
+    keys = [key.decode() for _, (key,) in steps]
+    yield [got(source, key, encoding) for key in keys], wanted
+    for load in (todrenval.loads, todrenval.Document):
+        yield [loaded(load, source, key, encoding) for key in keys], wanted
 
 
 def convert(encoding, left, right):
@@ -386,6 +391,14 @@ def got(source, key, encoding):
     """The value of a key, past comments, or the error."""
     try:
         return todrenval.get(source, key, encoding=encoding, errors="replace", comments="skip")
+    except PropertiesError as error:
+        return came_error(error)
+
+
+def loaded(load, source, key, encoding):
+    """The value that a key has in a mapping of the source, or the error."""
+    try:
+        return load(source, encoding=encoding, errors="replace").get(key)
     except PropertiesError as error:
         return came_error(error)
 
@@ -529,6 +542,21 @@ def try_arguments(count):
         count.check(isinstance(raised(todrenval.edit, b"", [wrong]), TypeError), f"edit of {wrong!r}")
         count.check(isinstance(raised(todrenval.edit, b"", [(wrong, "a")]), TypeError), f"edit of a key {wrong!r}")
         count.check(isinstance(raised(todrenval.edit, b"", [SetValue("a", wrong)]), TypeError), f"edit to {wrong!r}")
+    for call, more, text in (
+        (todrenval.loads, ["a=1"], "a file is bytes, not str; encode it, or give a path to load or open"),
+        (todrenval.loads, [3], "a file is bytes, not int; load and open take a path"),
+        (todrenval.dumps, [{"port": 8080}], "the value of 'port' is to be a str, not int"),
+        (todrenval.dumps, [{8080: "port"}], "a key, a value or a comment is to be a str, not int"),
+        (todrenval.dumps, [[Comment(3)]], "a key, a value or a comment is to be a str, not int"),
+        (todrenval.edit, [b"", {"port": 8080}], "the value of 'port' is to be a str, not int"),
+        (todrenval.set_value, [b"", "port", 8080], "the value of 'port' is to be a str, not int"),
+        (todrenval.set_key, [b"", "port", 8080], "the value of 'port' is to be a str, not int"),
+        (todrenval.Document().__setitem__, ["port", 8080], "the value of 'port' is to be a str, not int"),
+        (todrenval.dump, [{}, 5], "a path or a binary file, not int; dumps returns bytes"),
+        (todrenval.dump, [{}, None], "a path or a binary file, not NoneType; dumps returns bytes"),
+    ):
+        error = raised(call, *more)
+        count.check(type(error) is TypeError and str(error) == text, f"{call.__name__} of {more!r}: {error!r}")
     for wrong in (("a",), ("a", "b", "c"), ["a", "b"], "ab", SetKey("a", "b"), SetValue("a", "b"), RemoveKey("a")):
         count.check(isinstance(raised(todrenval.dumps, [wrong]), TypeError), f"dumps of {wrong!r}")
     for wrong in (("a",), ("a", "b", "c"), ["a", "b"], Pair("a", "b"), Comment("a"), ("a", 3)):
@@ -658,6 +686,48 @@ def try_special_files(count):
         count.check(os.listdir(folder) == ["pipe"], "no other files are left")
 
 
+@contextlib.contextmanager
+def failing(name, *names):
+    """A call of `os` fails, and its error has these names of files."""
+    def fail(*_, **__):
+        raise OSError(errno.EPERM, "Operation not permitted", *names)
+
+    real = getattr(os, name)
+    setattr(os, name, fail)
+    try:
+        yield
+    finally:
+        setattr(os, name, real)
+
+
+def try_file_errors(count):
+    """A call of the system that fails names the file, whatever it was called with."""
+    with tempfile.TemporaryDirectory() as folder:
+        path = os.path.join(folder, "app.properties")
+        todrenval.dump({"a": "1"}, path)
+        settings = todrenval.open(path)
+        settings["a"] = "2"
+        for name, names in (
+            ("fchmod", []), ("fsync", []), ("open", [folder]), ("replace", [path + ".new", None, path]), ("stat", [path]),
+        ):
+            for call, more in ((todrenval.dump, [{"a": "2"}, path]), (settings.save, [])):
+                with failing(name, *names):
+                    error = raised(call, *more)
+                place = f"{call.__name__}, {name}: {error!r}"
+                count.check(type(error) is PermissionError and (error.filename, error.filename2) == (path, None), place)
+        count.check(todrenval.load(path) == {"a": "1"} and os.listdir(folder) == ["app.properties"], "the file stays")
+        for wrong in (os.path.join(folder, "none", "a"), os.path.join(path, "a")):
+            error = raised(todrenval.dump, {}, wrong)
+            count.check(isinstance(error, OSError) and error.filename == wrong, f"dump to {wrong}: {error!r}")
+        error = raised(todrenval.dump, {"a": "1"}, "/dev/full")
+        count.check(isinstance(error, OSError) and error.filename == "/dev/full", f"dump to /dev/full: {error!r}")
+        longest = os.path.join(folder, "\u20ac" * 85)
+        todrenval.dump({"a": "1"}, longest)
+        with todrenval.open(longest) as settings:
+            settings["a"] = "2"
+        count.check(todrenval.load(longest) == {"a": "2"}, "a name of 255 bytes")
+
+
 def try_documents(count):
     """Documents in a folder that is left, that are copied, and whose file changes meanwhile."""
     here = os.getcwd()
@@ -687,7 +757,9 @@ def try_documents(count):
         count.check(str(error) == f"{path}: The file has changed since it was read.", str(error))
         count.check(path.read_bytes() == b"port = 1\n" and len(os.listdir(folder)) == 2, "a file that changed stays")
         path.unlink()
-        count.check(isinstance(raised(opened.save), FileNotFoundError) and len(os.listdir(folder)) == 1, "a file that is gone")
+        error = raised(opened.save)
+        count.check(type(error) is FileNotFoundError and error.filename == str(path), f"a file that is gone: {error!r}")
+        count.check(len(os.listdir(folder)) == 1, "a file that is gone stays so")
         opened.path = path.with_name("other.properties")
         opened.save()
         count.check(path.with_name("other.properties").read_bytes() == b"port = 82\n", "a document at another path")
@@ -695,7 +767,80 @@ def try_documents(count):
             path.write_bytes(b"a=1\nb=\\u1\n")
             error = raised(call, path)
             count.check(str(error) == f"{path}:2: {error.reason}" and error.path == str(path), f"{call.__name__}: {error}")
+            count.check(repr(error) == f"MalformedEscape({str(error)!r})", repr(error))
             count.check(str(pickle.loads(pickle.dumps(error))) == str(error), "an error with a path that is pickled")
+
+
+def in_threads(*calls):
+    """Makes each call in a thread of its own, and returns what they raised."""
+    errors = []
+    threads = [threading.Thread(target=lambda call=call: errors.append(raised(call))) for call in calls]
+    for thread in threads:
+        thread.start()
+    for thread in threads:
+        thread.join()
+    return [error for error in errors if error is not None]
+
+
+def try_shared_documents(count):
+    """Threads share a document: its bytes have each edit that the mapping has, and so has the file."""
+    document, late, real = todrenval.Document(b"a=1\n"), [], todrenval.edit
+
+    def slow_edit(*arguments, **named):
+        """Before the call is over, another thread sets a key, or waits."""
+        edited = real(*arguments, **named)
+        late.append(threading.Thread(target=document.__setitem__, args=("b", "2")))
+        late[0].start()
+        late[0].join(0.1)
+        return edited
+
+    document["a"] = "2"
+    try:
+        todrenval.edit = slow_edit
+        bytes(document)
+    finally:
+        todrenval.edit = real
+    late[0].join()
+    came = todrenval.loads(bytes(document))
+    count.check(came == dict(document) == {"a": "2", "b": "2"}, f"a key that is set while the bytes are made: {came}")
+
+    with tempfile.TemporaryDirectory() as folder:
+        path = os.path.join(folder, "app.properties")
+        todrenval.dump({f"key.{number}": "some value" for number in range(2000)}, path)
+        document = todrenval.open(path)
+        keys = [f"key.{number}" for number in range(1990, 2010)]
+
+        def change(seed):
+            numbers = random.Random(seed)
+            for _ in range(500):
+                key = numbers.choice(keys)
+                if numbers.random() < 0.7:
+                    document[key] = str(numbers.random())
+                else:
+                    with contextlib.suppress(KeyError):
+                        del document[key]
+                if numbers.random() < 0.02:
+                    document.save()
+
+        def look():
+            for _ in range(50):
+                copied = document.copy()
+                if todrenval.loads(bytes(copied)) != dict(copied):
+                    raise ValueError("a copy whose bytes have other values")
+
+        interval = sys.getswitchinterval()
+        try:
+            sys.setswitchinterval(1e-6)
+            errors = in_threads(*(lambda seed=seed: change(seed) for seed in range(4)), look, look)
+        finally:
+            sys.setswitchinterval(interval)
+        count.check(errors == [], f"threads raised {errors!r}")
+        document.save()
+        count.check(todrenval.loads(bytes(document)) == dict(document), "the bytes after edits of several threads")
+        count.check(todrenval.load(path) == dict(document) and os.listdir(folder) == ["app.properties"], "and the file")
+    for other in (deepcopy(document), pickle.loads(pickle.dumps(document))):
+        other["a"] = "1"
+        count.check(bytes(other) == bytes(document) + b"a=1\n" and "a" not in document, "a document that is copied or pickled")
 
 
 def try_zeros(count):
@@ -736,6 +881,7 @@ def try_errors(count):
     other = pickle.loads(pickle.dumps(error))
     count.check((type(other), other.line, str(other)) == (type(error), error.line, str(error)), "an error that is pickled")
     count.check((other.status, other.items) == (error.status, error.items), "the items of an error that is pickled")
+    count.check(repr(error) == rf"MalformedEscape({str(error)!r})", repr(error))
     error = raised(todrenval.items, b"a=1\n#C:\\users\nb=\\u12")
     count.check((error.line, error.in_comment) == (2, True) and pickle.loads(pickle.dumps(error)).in_comment, repr(error))
     for name, settings, status in (
@@ -857,7 +1003,10 @@ def try_comments(count):
         count.check(error and came_error(error) == ("error", "NotEnoughDigits", 4), f"{call.__name__} of a pair: {error!r}")
     error = raised(todrenval.items, source)
     count.check(error and came_error(error) == ("error", "NotHex", 1), f"items: {error!r}")
-    for text in ("# C:\\users\nport = 80\n", "\r\nport = \\\r\n  80\r\r#\\u\n\r\n!\\uxxxx", "#\\u12\\\nport:80"):
+    for text in (
+        "# C:\\users\nport = 80\n", "\r\nport = \\\r\n  80\r\r#\\u\n\r\n!\\uxxxx", "#\\u12\\\nport:80",
+        "\\\n#\\u\nport=80", "\\\r\n \\\r!\\ud83d\\\\\\\nport=1\r\nport=80\n\\\n#\\u",
+    ):
         for encoding in ("utf-8", "utf-8-sig", "cp1252", "utf-16-le", "utf-16-be", "utf-16"):
             data = text.encode(encoding)
             count.check(todrenval.loads(data, encoding=encoding) == {"port": "80"}, f"loads of {data!r}")
@@ -869,6 +1018,19 @@ def try_comments(count):
         count.check(todrenval.loads(name.encode("cp1252"), encoding="cp1252") == {"C\xe9": "1"}, f"loads of {name!r}")
         count.check(dict(todrenval.Document(name.encode())) == {"C\xe9": "1"}, f"a document of {name!r}")
     count.check(todrenval.get("#\\u12\nk=v".encode("utf-16-le"), "k", encoding="utf-16-le") == "v", "get in UTF-16")
+
+
+LONGEST = int(sys.argv[1]) if len(sys.argv) > 1 else 6
+
+
+def try_short_files(count):
+    """Every short file with a comment sign and the front of an escape: what `loads` gives or raises is what `get` does."""
+    keys = ("", "a", "u", "#", "=")
+    for size in range(LONGEST + 1):
+        for source in map(bytes, itertools.product(b"\\\n#ua= ", repeat=size)):
+            if b"\\u" in source and b"#" in source:
+                gotten = [got(source, key, "utf-8") for key in keys]
+                count.check([loaded(todrenval.loads, source, key, "utf-8") for key in keys] == gotten, f"loads of {source!r}")
 
 
 def try_round_trips(count):
@@ -1061,9 +1223,9 @@ def main():
     count = Count()
     run_tables(count)
     for test in (
-        try_arguments, try_files, try_special_files, try_documents, try_zeros, try_types, try_errors, try_lists, try_newer,
-        try_room, try_findings, try_comments, try_round_trips, try_random, try_conversions, try_threads, try_header,
-        try_examples, try_page,
+        try_arguments, try_files, try_special_files, try_file_errors, try_documents, try_shared_documents, try_zeros, try_types,
+        try_errors, try_lists, try_newer, try_room, try_findings, try_comments, try_short_files, try_round_trips, try_random,
+        try_conversions, try_threads, try_header, try_examples, try_page,
     ):
         try:
             test(count)

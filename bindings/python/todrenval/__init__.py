@@ -47,6 +47,7 @@ import re
 import secrets
 import stat
 import struct
+import threading
 from types import TracebackType
 from typing import Any, BinaryIO, Dict, Iterable, Iterator, List, Mapping, MutableMapping, NamedTuple, Optional, Tuple, Type
 from typing import Union, overload
@@ -108,6 +109,7 @@ class Status(enum.IntEnum):
     BAD_PREFIX = 12
     BAD_SEPARATOR = 13
     EMPTY_KEY = 14
+    UNKNOWN_FLAGS = 15
 
 
 class Comment(NamedTuple):
@@ -211,6 +213,9 @@ class PropertiesError(ValueError):
         if self.path is None:
             return self.reason if self.line is None else f"line {self.line}: {self.reason}"
         return f"{self.path}: {self.reason}" if self.line is None else f"{self.path}:{self.line}: {self.reason}"
+
+    def __repr__(self) -> str:
+        return f"{type(self).__name__}({str(self)!r})"
 
     def __reduce__(self) -> Tuple[Any, ...]:
         return type(self), (self.status, self.line, self.reason), self.__dict__
@@ -343,12 +348,15 @@ def _bytes(data: Bytes) -> bytes:
     try:
         return memoryview(data).tobytes()
     except TypeError:
-        raise TypeError(f"a file is bytes, not {type(data).__name__}; load and open take a path") from None
+        cure = "encode it, or give a path to load or open" if isinstance(data, str) else "load and open take a path"
+        raise TypeError(f"a file is bytes, not {type(data).__name__}; {cure}") from None
 
 
-def _utf_8(text: str) -> bytes:
+def _utf_8(text: str, key: Optional[str] = None) -> bytes:
+    """Returns a text in UTF-8. An error names the key whose value it is, if that is known."""
     if not isinstance(text, str):
-        raise TypeError(f"a key, a value or a comment is a str, not {type(text).__name__}")
+        what = f"the value of {key!r}" if key else "a key, a value or a comment"
+        raise TypeError(f"{what} is to be a str, not {type(text).__name__}")
     try:
         return text.encode("utf-8")
     except UnicodeEncodeError:
@@ -402,12 +410,16 @@ _LINE_ENDING = re.compile(r"\r\n|\r|\n")
 
 @contextlib.contextmanager
 def _naming(path: Path) -> Iterator[None]:
-    """An error that is raised has the path."""
+    """An error that is raised has the path, also that of a call on a descriptor, a temporary file or the folder."""
     try:
         yield
     except PropertiesError as error:
         error.path = os.fspath(path)
         raise
+    except OSError as error:
+        if error.filename == os.fspath(path):
+            raise
+        raise OSError(error.errno, error.strerror, os.fspath(path)) from error
 
 
 def _flags(comments: str, ascii_only: bool = False) -> int:
@@ -432,7 +444,7 @@ def _in_comment(error: Exception, source: bytes, number: int, reads: int = 1) ->
 
 
 def _record(kind: int, key: str, value: str) -> bytes:
-    key_bytes, value_bytes = _utf_8(key), _utf_8(value)
+    key_bytes, value_bytes = _utf_8(key), _utf_8(value, key)
     return struct.pack("<4Q", kind, 0, len(key_bytes), len(value_bytes)) + key_bytes + value_bytes
 
 
@@ -492,13 +504,25 @@ def loads(data: Bytes, *, encoding: str = "utf-8", errors: str = "strict", comme
 
 
 def _emptied(source: bytes, number: int) -> bytes:
-    """Returns a file in UTF-8 with the same pairs, and with no text in comments that have a malformed escape."""
+    """Returns a file in UTF-8 with the same pairs in the same lines, and with no text in comments that have a malformed
+    escape."""
     converted = _result("todrenval_convert", 2 * len(source), source, number, _TARGETS["utf-8"], 0)
     parts = re.split(rb"(\r\n|\r|\n)", converted)
     for finding in _findings(converted, 1):
         if finding.in_comment:
-            parts[2 * finding.line - 2] = b"#"
+            place = 2 * finding.line - 2
+            # A comment that begins on a continuation line has all the lines that are joined.
+            goes_on = not parts[place].lstrip(b" \t\f").startswith((b"#", b"!"))
+            while goes_on and place + 2 < len(parts) and _is_open(parts[place]):
+                parts[place] = b"#"
+                place += 2
+            parts[place] = b"#"
     return b"".join(parts)
+
+
+def _is_open(line: bytes) -> bool:
+    """Returns whether the next line continues this one: it ends in an odd number of backslashes."""
+    return (len(line) - len(line.rstrip(b"\\"))) % 2 == 1
 
 
 def load(
@@ -579,7 +603,7 @@ def set_value(
     >>> set_value(b"drink : tea\n", "food", "crêpe")
     b'drink : tea\nfood : cr\\u00eape\n'
     """
-    texts = _utf_8(key), _utf_8(value)
+    texts = _utf_8(key), _utf_8(value, key)
     source, number = _source(data, encoding, errors)
     return _edited("todrenval_set_value", 100 + 2 * len(value), source, number, _flags(comments, ascii_only), *texts)
 
@@ -599,7 +623,7 @@ def set_key(
     >>> set_key(b"port    = 80\n", "port", "8080")
     b'port=8080\n'
     """
-    texts = _utf_8(key), _utf_8(value)
+    texts = _utf_8(key), _utf_8(value, key)
     source, number = _source(data, encoding, errors)
     return _edited("todrenval_set_key", 100 + 2 * len(value), source, number, _flags(comments, ascii_only), *texts)
 
@@ -753,13 +777,17 @@ def dump(
     """
     named = {"prefix": prefix, "separator": separator, "ending": ending}
     data = dumps(content, encoding=encoding, ascii_only=ascii_only, readable=readable, **named)
-    if not isinstance(file, (str, os.PathLike)):
+    if isinstance(file, (str, os.PathLike)):
+        with _naming(file):
+            if _is_regular(file):
+                _replace(file, data)
+            else:
+                with io.open(file, "wb") as special:
+                    special.write(data)
+    elif hasattr(file, "write"):
         file.write(data)
-    elif _is_regular(file):
-        _replace(file, data)
     else:
-        with io.open(file, "wb") as special:
-            special.write(data)
+        raise TypeError(f"a path or a binary file, not {type(file).__name__}; dumps returns bytes")
 
 
 def findings(data: Bytes, *, encoding: str = "utf-8", errors: str = "strict") -> List[Finding]:
@@ -806,6 +834,10 @@ class Document(MutableMapping[str, str]):
     >>> del document["host"]
     >>> bytes(document)
     b'# the web server\nport    = 8080\n'
+
+    Threads may share a document. To get, set or delete a key, `bytes`, `copy` and `save` are each one step that no other
+    thread sees half done. `pop`, `setdefault`, `update` and the like take several steps, so hold a lock of your own. As
+    with a dict, a loop over a document raises RuntimeError if another thread adds or deletes a key: loop over a copy.
     """
 
     def __init__(
@@ -829,6 +861,8 @@ class Document(MutableMapping[str, str]):
         self._saved = self._data
         # Where the bytes of _saved are, if it is known.
         self._place: Optional[str] = None
+        # Held while bytes, edits and values don't belong together.
+        self._lock = threading.RLock()
 
     def __getitem__(self, key: str) -> str:
         return self._values[key]
@@ -836,14 +870,16 @@ class Document(MutableMapping[str, str]):
     def __setitem__(self, key: str, value: str) -> None:
         _record(4, key, value)
         self._refuse_utf_16()
-        self._edits.append(SetValue(key, value))
-        self._values[key] = value
+        with self._lock:
+            self._edits.append(SetValue(key, value))
+            self._values[key] = value
 
     def __delitem__(self, key: str) -> None:
-        if key in self._values:
-            self._refuse_utf_16()
-        del self._values[key]
-        self._edits.append(RemoveKey(key))
+        with self._lock:
+            if key in self._values:
+                self._refuse_utf_16()
+            del self._values[key]
+            self._edits.append(RemoveKey(key))
 
     def _refuse_utf_16(self) -> None:
         if self._is_utf_16:
@@ -860,32 +896,44 @@ class Document(MutableMapping[str, str]):
 
     def __bytes__(self) -> bytes:
         """The file with all edits."""
-        if self._edits:
-            self._data = edit(self._data, self._edits, ascii_only=self._ascii_only, **self._read)
-            self._edits = []
-        return self._data
+        with self._lock:
+            if self._edits:
+                data = edit(self._data, self._edits, ascii_only=self._ascii_only, **self._read)
+                self._data, self._edits = data, []
+            return self._data
 
     def copy(self) -> Document:
         """Returns a document with the same bytes and the same path, which changes on its own."""
         other = type(self).__new__(type(self))
-        other.__dict__.update(self.__dict__, _values=dict(self._values), _edits=list(self._edits))
+        other.__setstate__(self.__getstate__())
         return other
 
     __copy__ = copy
 
+    def __getstate__(self) -> Dict[str, Any]:
+        with self._lock:
+            state = {**self.__dict__, "_values": dict(self._values), "_edits": list(self._edits)}
+        del state["_lock"]
+        return state
+
+    def __setstate__(self, state: Dict[str, Any]) -> None:
+        self.__dict__.update(state, _lock=threading.RLock())
+
     def save(self) -> None:
         """Writes the file to `path` if the document has changed: whole or not at all, by a new file that is synced and takes
         the place of the old one, with its mode and its owner. Raises PropertiesError if the file has other bytes than `open`
-        read or `save` wrote there last."""
+        read or `save` wrote there last, and FileNotFoundError if it is gone."""
         if self.path is None:
             raise ValueError("a document without a path; bytes(document) has its bytes")
-        data = bytes(self)
-        if data != self._saved:
-            if not _is_regular(self.path):
-                raise _not_regular(self.path)
-            place = os.fspath(self.path)
-            _replace(place, data, self._saved if place == self._place else None)
-            self._saved, self._place = data, place
+        with self._lock:
+            data = bytes(self)
+            if data != self._saved:
+                place = os.fspath(self.path)
+                if not _is_regular(place):
+                    raise _not_regular(place)
+                with _naming(place):
+                    _replace(place, data, self._saved if place == self._place else None)
+                self._saved, self._place = data, place
 
     def __enter__(self) -> Document:
         return self
@@ -945,7 +993,8 @@ def _replace(path: Path, data: bytes, expected: Optional[bytes] = None) -> None:
     instead if the file has neither these bytes nor those that are expected."""
     real = os.path.realpath(path)
     folder, name = os.path.split(real)
-    new = os.path.join(folder, f".{name}.{secrets.token_hex(8)}")
+    # The name may be as long as a name can be.
+    new = os.path.join(folder, f".{name[:50]}.{secrets.token_hex(8)}")
     try:
         old: Optional[os.stat_result] = os.stat(real)
     except FileNotFoundError:
@@ -965,8 +1014,7 @@ def _replace(path: Path, data: bytes, expected: Optional[bytes] = None) -> None:
                 file.flush()
                 os.fsync(descriptor)
             if expected is not None and pathlib.Path(real).read_bytes() not in (expected, data):
-                with _naming(path):
-                    raise PropertiesError(None, None, "The file has changed since it was read.")
+                raise PropertiesError(None, None, "The file has changed since it was read.")
             os.replace(new, real)
         except BaseException:
             os.unlink(new)
