@@ -32,7 +32,8 @@ ABOUT = {
     "single_lines": "Characters and lines one at a time; only tests call it.",
 }
 ITEM = re.compile(r"^(    )?pub (const fn|fn|struct|enum|trait|const|mod|use)\b")
-IMPL = re.compile(r"impl(?:<.*?>)? (?:(?P<of>[\w:]+(?:<.*>)?) for )?(?P<type>&?\w+)")
+IMPL = re.compile(r"impl(?:<.*?>)? (?:(?P<of>[\w:]+(?:<.*>)?) for )?(?P<type>&.*?\w+|\w+)")
+DEFINED = re.compile(r"^(?:pub(?:\(\w+\))? )?(?:struct|enum|trait) (\w+)", re.M)
 SENTENCE = re.compile(r"(?:`[^`]*`|[^`.]|\.(?!\s|$))*\.?")
 
 
@@ -174,19 +175,26 @@ def fields(lines, docs, at):
 
 def entries(crate):
     """The lines of each public item by its name, its module and its file, which they begin with where it isn't the root; by the
-    file's crate and the type's name, the blocks of its functions by their heads, and what it implements."""
+    crate that defines the type and its name, the blocks of its functions by their heads, and what it implements; by the same of a
+    trait, the heads by which types of other libraries implement it."""
     names, pages = exported(crate)
     crates = dict.fromkeys([crate, *(source_of(path).parent.name for _, path in names)])
-    items, blocks, implements = {}, {}, {}
-    for path in (path for name in crates for path in files(name)):
+    defined = {name: {word for path in files(name) for word in DEFINED.findall(path.read_text())} for name in crates}
+    items, blocks, implements, of_others = {}, {}, {}, {}
+    for path in (path for name in reversed(crates) for path in files(name)):
         lines, docs = code_and_docs(path)
         of = source_of(path).parent.name
         head = None
         for at, line in enumerate(lines):
             start = IMPL.match(line)
             if line.startswith("impl") and start:
-                owner, head = (of, start["type"]), line.removesuffix(" {")
-                if start["of"]:
+                head = line.removesuffix(" {").removesuffix(" {}")
+                # A crate also implements its own traits, and `From` its own types, for types of others.
+                owner = next(((name, start["type"]) for name in [of, *crates] if start["type"] in defined[name]), None)
+                if start["of"] and not owner:
+                    of_others.setdefault((of, start["of"]), []).append(head)
+                    head = None
+                elif start["of"]:
                     kind, head = re.sub(r"^\w+::", "", start["of"]), None
                     if kind == "Iterator":
                         kind += "<" + next(re.sub(r"^type (Item = .*);", r"\1", text.strip()) for text in lines[at:] if "type Item" in text) + ">"
@@ -211,12 +219,12 @@ def entries(crate):
                 text = [signature(lines, at)] if public[2].endswith("fn") else fields(lines, docs, at)
                 module = names.get((name, path), pages.get(path))
                 items[name, module, path] = ([f"// in module {module}"] if module else []) + said(docs.get(at, "")) + text
-    return items, blocks, implements
+    return items, blocks, implements, of_others
 
 
 def section(crate, level, shown):
     """The section of a crate, without what another one's has shown."""
-    items, blocks, implements = entries(crate)
+    items, blocks, implements, of_others = entries(crate)
     out = ["", f"{level} `{crate}`", "", ABOUT[crate], "", "```rust"]
     for name, module, path in sorted(items, key=lambda item: (item[0].lower(), item[1])):
         if (name, path) in shown:
@@ -226,6 +234,7 @@ def section(crate, level, shown):
         owner = (source_of(path).parent.name, name)
         for head, functions in blocks.get(owner, {}).items():
             out += [head + " {"] + functions + ["}"]
+        out += of_others.get(owner, [])
         kinds = [kind for kind in dict.fromkeys(implements.get(owner, [])) if kind]
         if kinds:
             out.append("// " + name + ": " + ", ".join(kinds))
