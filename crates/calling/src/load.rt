@@ -1,8 +1,5 @@
 // Typed settings with defaults, where a bad value names its file and its line.
 
-ghost use Rattle.std.specs.Prelude.{◌≡◌};
-ghost use Rattle.calling.specs.declared.load.LoadError.TheVariants.{Unreadable};
-
 use counted_io::{Counted, CountedRead};
 use java_properties::{Encoding, LineContent, PropertiesError, PropertiesIter};
 use std::alloc::{AllocError, Global};
@@ -25,8 +22,6 @@ pub enum LoadError {
 }
 
 impl From<PropertiesError> for LoadError {
-    ghost from_gives = { λ error e. e ≡ Unreadable error };
-
     fn from(error: PropertiesError) -> LoadError {
         LoadError::Unreadable(error)
     }

@@ -224,7 +224,7 @@ const ABOUT: &str = "Reads, checks, edits and converts Java properties files";
 
 const NOTES: &str = "Options come before the command, and each may be given once.\n\
     Words after get, list, set and remove are never options, not even --help.\n\
-    A byte order mark overrules -e, which also takes other labels, such as latin1.\n\
+    A byte order mark overrides -e, which also takes other labels, such as latin1.\n\
     Reads standard input and prints on standard output, unless -f or -i is given.\n\
     Status: 0 done or found, 1 not found or check found something, 2 an error.\n";
 
