@@ -152,8 +152,8 @@ pub record HasFlushedSink {W : Type 0} (sink : Sink W) (old new : Writing W) : T
   pub flushed : HasFlushed sink old.sink new.sink
   pub after : new ≡ record old { sink = new.sink }
 
--- A write failed before, so the sink is unchanged.
-pub record RefusesFlush {W : Type 0} (old : Writing W) (error : PropertiesError) (new : Writing W) : Type 0 where
+-- A write failed before, so the call is refused, and nothing changed.
+pub record RefusesAsFailed {W : Type 0} (old : Writing W) (error : PropertiesError) (new : Writing W) : Type 0 where
   pub failed : old.failed ≡ true
   pub refuses : Refuses kind.Failed old error new
 
@@ -168,7 +168,7 @@ pub record FailsInFlush {W : Type 0} (sink : Sink W) (old : Writing W) (error : 
 -- the effect of a flush
 abbrev pub Flushes : {W : Type 0} → Sink W → Writing W → Result Unit PropertiesError → Writing W → Type 0
 Flushes sink old (Ok done) new = HasFlushedSink sink old new
-Flushes sink old (Err error) new = RefusesFlush old error new ⊎ FailsInFlush sink old error new
+Flushes sink old (Err error) new = RefusesAsFailed old error new ⊎ FailsInFlush sink old error new
 
 -- ---- settings
 

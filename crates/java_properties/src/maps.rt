@@ -15,7 +15,7 @@ use crate::laws;
 use crate::writer::PropertiesWriter;
 use crate::writer::engine::{Content, Engine};
 use counted_io::{CountedRead, CountedWrite};
-use properties_items::error::PropertiesError;
+use properties_items::error::{ErrorKind, PropertiesError, make};
 use properties_items::line::LineContent;
 use properties_text::encoding::{Encoding, LineEncoding};
 use std::alloc::{AllocError, Global};
@@ -214,7 +214,7 @@ impl<W: CountedWrite> PropertiesWriter<W> {
     ///
     /// The keys are in ascending order of their UTF-8 bytes. The call ends at the first entry that isn't written and
     /// returns its error. The lines before it have been written. An empty key is the first one, so if it is refused,
-    /// nothing has been written.
+    /// nothing has been written. If an earlier write failed, it fails with `Failed`, even if the map is empty.
     ///
     /// If no line was written before, what is written reads back as the same map. Otherwise it reads back with the lines
     /// before it, unless one of these is a comment whose prefix holds a backslash.
@@ -232,6 +232,9 @@ impl<W: CountedWrite> PropertiesWriter<W> {
         ensures all_read_back { LinesReadBackAfter W.CountedWrite self.old map.now.entries result self.new }
         ensures same_sink { IsSameSink W.CountedWrite self.old.sink self.new.sink }
     {
+        if self.engine.has_failed() {
+            return Err(make::bare(ErrorKind::Failed));
+        }
         laws::settings_are_good(self);
         for (key, value) in map {
             self.write(key.as_str(), value.as_str())?;

@@ -1,5 +1,5 @@
 -- Pairs that a writer with any settings writes, one after another.
-use Rattle.std.proofs.Common.{◌≡◌, ◌+◌, List, [], ◌∷◌, ◌++◌, length, ap, ◌∙◌, arith}
+use Rattle.std.proofs.Common.{◌≡◌, ◌+◌, false, List, [], ◌∷◌, ◌++◌, length, ap, ◌∙◌, arith}
 use Rattle.std.specs.Prelude.{map}
 use Rattle.std.specs.Str.{chars}
 use Rattle.std.proofs.lemmas.List.{map-append, length-append}
@@ -18,10 +18,10 @@ accepted-append s (x ∷ xs) ys h k = (h.0, accepted-append s xs ys h.1 k)
 
 module _ {W : Type 0} {sink : Sink W} where
   -- no line yet
-  pub lines-none : (w : Writing W) → HasWrittenLines sink w [] w
-  lines-none w =
+  pub lines-none : (w : Writing W) → w.failed ≡ false → HasWrittenLines sink w [] w
+  lines-none w live =
       let same : w.lines ≡ w.lines + 0 = omega arith in
-      record { accepted = tt; made = made-none w; after = ap (λ n. record w { lines = n }) same }
+      record { live = live; accepted = tt; made = made-none w; after = ap (λ n. record w { lines = n }) same }
 
   -- one line more
   pub lines-more : {old middle new : Writing W} {pairs : List Texts} (texts : Texts) → HasWrittenLines sink old pairs middle
@@ -30,6 +30,7 @@ module _ {W : Type 0} {sink : Sink W} where
       let all = length-append pairs (texts ∷ []) in
       let count : old.lines + length pairs + 1 ≡ old.lines + length (pairs ++ (texts ∷ [])) = omega (arith, all) in
       record {
+        live = h.live;
         accepted = accepted-append old.settings pairs (texts ∷ []) h.accepted (rw h.after at line.takes.accepted, tt);
         made = rw map-append (made-more h.made (pair-made (chars texts.0) (chars texts.1) line));
         after =

@@ -232,11 +232,14 @@ lines-read_back_after sink entries old new (Ok done) h = λ first calls clean. r
   in_order = h.in_order;
   read_back = pairs-after first old new calls h.pairs clean (map-texts entries h.pairs h.in_order) h.writes.made;
 }
-lines-read_back_after sink entries old new (Err error) h = λ first calls clean.
+lines-read_back_after sink entries old new (Err error) (inl refused) = λ first calls clean.
+    let written = rw (← refused.refuses.same) at clean.made.written in
+    inl (record { refuses = refused; read_back = written-read_back clean.good clean.scalars written clean.clean })
+lines-read_back_after sink entries old new (Err error) (inr h) = λ first calls clean.
     let k = h.writes in
     let others = k.texts ∷ k.others in
     let texts = map-texts entries h.pairs h.in_order in
-    record {
+    inr (record {
       before = k.before;
       texts = k.texts;
       others = k.others;
@@ -244,7 +247,7 @@ lines-read_back_after sink entries old new (Err error) h = λ first calls clean.
       middle = k.middle;
       read_back = pairs-after first old k.middle calls k.before clean (texts-before k.before others (rw k.division at texts)) k.written.made;
       fails = k.fails;
-    }
+    })
 
 -- The pairs of a map that were written in order are the map that was written.
 pub writes-map : {W Y Z : Type 0} (sink : Sink W) (a : Encoding) (entries : Entries Y Z) (pairs : List Texts) (old new : W)

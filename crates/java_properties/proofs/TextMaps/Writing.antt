@@ -83,7 +83,7 @@ HasWrittenFirst sink a old entries i w = HasWrittenLines sink (new_writer a old)
 module _ {W Y Z : Type 0} (sink : Sink W) (a : Encoding) (old : W) (entries : List (Bor (String Y) × Bor (String Z))) where
   -- before the first pair
   pub first-none : HasWrittenFirst sink a old entries 0 (new_writer a old)
-  first-none = lines-none (new_writer a old)
+  first-none = lines-none (new_writer a old) refl
 
   -- after the last one
   pub first-all : (i : ℕ) (w : Writing W) → length entries ≤ i → HasWrittenFirst sink a old entries i w
