@@ -226,7 +226,7 @@ run check
 gives 1 'standard input:2: Malformed \\uxxxx encoding: not hex. (in a comment, which Java and propedit pass over)
 standard input:3: Malformed \\uxxxx encoding: not enough digits.
 standard input:4: repeats the key of line 1
-standard input:5: not UTF-8; -e windows-1252 reads it
+standard input:5: not UTF-8; if it is in windows-1252 or Latin-1, -e windows-1252 reads it
 standard input:6: not UTF-8
 standard input:7: repeats the key of line 1
 ' ''
@@ -238,11 +238,11 @@ app.properties:7: repeats the key of line 1
 ' ''
 given '\xe9=1\n\xe8=1\n'
 run -f app.properties check
-gives 1 'app.properties:1: not UTF-8; -e windows-1252 reads it\napp.properties:2: not UTF-8\n' ''
+gives 1 'app.properties:1: not UTF-8; if it is in windows-1252 or Latin-1, -e windows-1252 reads it\napp.properties:2: not UTF-8\n' ''
 printf 'a=1\na=2\n' >one.properties
 printf 'b=1\n' >two.properties
 run check one.properties two.properties app.properties
-gives 1 'one.properties:2: repeats the key of line 1\napp.properties:1: not UTF-8; -e windows-1252 reads it\napp.properties:2: not UTF-8\n' ''
+gives 1 'one.properties:2: repeats the key of line 1\napp.properties:1: not UTF-8; if it is in windows-1252 or Latin-1, -e windows-1252 reads it\napp.properties:2: not UTF-8\n' ''
 run check two.properties two.properties two.properties
 gives 0 '' ''
 run -e latin1 check app.properties one.properties
@@ -506,7 +506,7 @@ gives 0 '' ''
 holds app.properties '# C:\\users \\u00e9\n'
 given 'a=1\nb=\xe9\n'
 run -i app.properties convert ascii
-gives 2 '' 'propedit: app.properties:2: not UTF-8; -e windows-1252 reads it\n'
+gives 2 '' 'propedit: app.properties:2: not UTF-8; if it is in windows-1252 or Latin-1, -e windows-1252 reads it\n'
 holds app.properties 'a=1\nb=\xe9\n'
 given 'a\0\n\0\x3d\xd8\n\0b\0'
 for words in 'convert utf-8' 'get a' list; do
@@ -544,15 +544,15 @@ fi
 given 'a = 1\n# x\nb = caf\xe9\nc = \xff\n'
 for line in 'get a' 'get absent' '-d 1 get absent' list 'list q' 'set a 2' 'remove absent'; do
     run $line
-    gives 2 '' 'propedit: standard input:3: not UTF-8; -e windows-1252 reads it\n'
+    gives 2 '' 'propedit: standard input:3: not UTF-8; if it is in windows-1252 or Latin-1, -e windows-1252 reads it\n'
     run -f app.properties $line
-    gives 2 '' 'propedit: app.properties:3: not UTF-8; -e windows-1252 reads it\n'
+    gives 2 '' 'propedit: app.properties:3: not UTF-8; if it is in windows-1252 or Latin-1, -e windows-1252 reads it\n'
     run -e windows-1252 $line
     [ "$status" != 2 ] || fail "$(cat ../errors)"
     count=$((count + 1))
 done
 run check
-gives 1 'standard input:3: not UTF-8; -e windows-1252 reads it\nstandard input:4: not UTF-8\n' ''
+gives 1 'standard input:3: not UTF-8; if it is in windows-1252 or Latin-1, -e windows-1252 reads it\nstandard input:4: not UTF-8\n' ''
 run -e windows-1252 check
 gives 0 '' ''
 given '\xef\xbb\xbfa=\xe9'
@@ -629,7 +629,7 @@ run get a
 gives 2 '' 'propedit: standard input:1: Malformed \\uxxxx encoding: invalid character.\n'
 given 'a = \\uz\nb = \xff\n'
 run get a
-gives 2 '' 'propedit: standard input:2: not UTF-8; -e windows-1252 reads it\n'
+gives 2 '' 'propedit: standard input:2: not UTF-8; if it is in windows-1252 or Latin-1, -e windows-1252 reads it\n'
 
 # Wrong arguments: the message names the word, and the usage is that of the command that was meant.
 
@@ -858,7 +858,7 @@ done
 given 'a=1\nb = \xff\n'
 before=$(stat -c '%i %y' app.properties)
 run -i app.properties set a 2
-gives 2 '' 'propedit: app.properties:2: not UTF-8; -e windows-1252 reads it\n'
+gives 2 '' 'propedit: app.properties:2: not UTF-8; if it is in windows-1252 or Latin-1, -e windows-1252 reads it\n'
 is "$(stat -c '%i %y' app.properties)" "$before"
 given 'a=1\nb = \\user\n'
 run -i app.properties set a 2

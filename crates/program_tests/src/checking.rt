@@ -32,7 +32,7 @@ const CHECK: &[Row] = &[
         1,
         b"x:1: Malformed \\uxxxx encoding: not hex. \
           (in a comment, which Java and propedit pass over)\n\
-          x:3: not UTF-8; -e windows-1252 reads it\n\
+          x:3: not UTF-8; if it is in windows-1252 or Latin-1, -e windows-1252 reads it\n\
           x:3: repeats the key of line 2\n\
           x:4: Malformed \\uxxxx encoding: not enough digits.\n\
           x:6: repeats the key of line 2\n",

@@ -262,7 +262,8 @@ const REFUSED: &[(&str, &[u8], u8, &str)] = &[
         "-i edited.properties set a 3",
         b"b=1\na=\xff",
         2,
-        "propedit: edited.properties:2: not UTF-8; -e windows-1252 reads it\n",
+        "propedit: edited.properties:2: not UTF-8; if it is in windows-1252 or Latin-1, \
+         -e windows-1252 reads it\n",
     ),
     (
         "-i 'no such file' set a 3",

@@ -53,7 +53,7 @@ fn comments_are_passed_over(rt: HostRuntime) -> Result<(), Fail> {
 
 const TOO_FEW: &str = "Malformed \\uxxxx encoding: not enough digits.";
 
-const NOT_UTF_8: &str = "not UTF-8; -e windows-1252 reads it";
+const NOT_UTF_8: &str = "not UTF-8; if it is in windows-1252 or Latin-1, -e windows-1252 reads it";
 
 const NOT_UTF_16: &str = "not UTF-16";
 

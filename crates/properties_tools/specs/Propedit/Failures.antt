@@ -51,7 +51,7 @@ zero_words = codes "U+0000; if this is UTF-16, -e utf-16le or -e utf-16be reads 
 
 -- of a line that is not UTF-8, without a byte order mark or with one
 abbrev pub ill_formed_words : List ℕ
-ill_formed_words = codes "not UTF-8; -e windows-1252 reads it"
+ill_formed_words = codes "not UTF-8; if it is in windows-1252 or Latin-1, -e windows-1252 reads it"
 
 abbrev pub ill_formed_by_mark_words : List ℕ
 ill_formed_by_mark_words = codes "not UTF-8, though a byte order mark says so"

@@ -53,7 +53,7 @@ pub(crate) enum Words {
 /// ```text
 /// let text = report(alloc, "my.properties", b"# C:\\users\na=1\na=\xe9", Encoding::UTF_8)?;
 /// // my.properties:1: Malformed \uxxxx encoding: not hex. (in a comment, which Java and propedit pass over)
-/// // my.properties:3: not UTF-8; -e windows-1252 reads it
+/// // my.properties:3: not UTF-8; if it is in windows-1252 or Latin-1, -e windows-1252 reads it
 /// // my.properties:3: repeats the key of line 2
 /// ```
 pub fn report(

@@ -25,7 +25,8 @@ pub(crate) const HOLDS_ZERO: &str =
     "U+0000; if this is UTF-16, -e utf-16le or -e utf-16be reads it";
 
 /// What is said of a line that is not UTF-8, in a source without a byte order mark.
-pub(crate) const NOT_UTF_8: &str = "not UTF-8; -e windows-1252 reads it";
+pub(crate) const NOT_UTF_8: &str =
+    "not UTF-8; if it is in windows-1252 or Latin-1, -e windows-1252 reads it";
 
 /// What is said of it in a source with the byte order mark of UTF-8.
 pub(crate) const NOT_UTF_8_BY_MARK: &str = "not UTF-8, though a byte order mark says so";
@@ -145,7 +146,8 @@ impl Failure {
 /// ```text
 /// let mut errors = Counted::new(Vec::new(alloc));
 /// print_failure(alloc, &mut errors, "app.properties", &Failure::NotUtf8(7));
-/// // They hold `propedit: app.properties:7: not UTF-8; -e windows-1252 reads it`, and a line feed.
+/// // They hold this line:
+/// // propedit: app.properties:7: not UTF-8; if it is in windows-1252 or Latin-1, -e windows-1252 reads it
 /// ```
 pub fn print_failure<E: CountedWrite>(alloc: Global, errors: &mut E, name: &str, failure: &Failure)
     ensures prints { PrintsFailure E.CountedWrite errors.old name.now failure.now errors.new }
