@@ -84,6 +84,58 @@ const CHECK: &[Row] = &[
           standard input:3: repeats the key of line 1\n\
           standard input:4: not UTF-16\n",
     ),
+    // Lines that aren't ASCII, in pairs, comments and continuations, among the other findings. A line that is ill-formed
+    // is reported for that alone.
+    ("-a check", b"# a\na=\\u00e9\n", 0, b""),
+    ("check", b"# \xc3\xa9\na=\xc3\xa9\n", 0, b""),
+    (
+        "--ascii check",
+        b"a=\xc3\xa9\\\r\n  \xe2\x82\xac\r\n# C:\\users\xc3\xa9\r\nb=\xe9\ra=\xc3\xa9\n",
+        1,
+        b"standard input:1: has a non-ASCII character\n\
+          standard input:2: has a non-ASCII character\n\
+          standard input:3: has a non-ASCII character\n\
+          standard input:3: Malformed \\uxxxx encoding: not hex. \
+          (in a comment, which Java and propedit pass over)\n\
+          standard input:4: not UTF-8; if it is in windows-1252 or Latin-1, -e windows-1252 reads it\n\
+          standard input:5: has a non-ASCII character\n\
+          standard input:5: repeats the key of line 1\n",
+    ),
+    (
+        "-e windows-1252 -a check",
+        b"a=1\nb=\x80\n",
+        1,
+        b"standard input:2: has a non-ASCII character\n",
+    ),
+    // A source in UTF-8 that is read as windows-1252. It looks like UTF-8 only as a whole, and only if it isn't ASCII.
+    (
+        "-e windows-1252 check",
+        b"a=1\r\n# \xc3\xa9\r\na=\xe2\x82\xac\r\n",
+        1,
+        b"standard input:2: looks like UTF-8; without -e it is read as UTF-8\n\
+          standard input:3: repeats the key of line 1\n",
+    ),
+    ("-e windows-1252 check", b"# \xc3\xa9\n# \xc3\n", 0, b""),
+    (
+        "-e latin1 -a check",
+        b"a=1\nb=\xc3\xa9\nc=\xc3\xa9\n",
+        1,
+        b"standard input:2: looks like UTF-8; without -e it is read as UTF-8\n\
+          standard input:2: has a non-ASCII character\n\
+          standard input:3: has a non-ASCII character\n",
+    ),
+    // In UTF-16 it is the characters that count. A byte order mark is part of no line.
+    ("-a check", b"\xff\xfea\0\n\0\x7f\0", 0, b""),
+    ("-a check", b"\xef\xbb\xbfa\n", 0, b""),
+    (
+        "-a -e utf-16be check",
+        b"\0a\0\n\0\x80\0\n\x61\0\0\n\xd8\x3d\xdc\x1e\0\n\xd8\0",
+        1,
+        b"standard input:2: has a non-ASCII character\n\
+          standard input:3: has a non-ASCII character\n\
+          standard input:4: has a non-ASCII character\n\
+          standard input:5: not UTF-16\n",
+    ),
 ];
 
 #[test]

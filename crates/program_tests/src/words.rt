@@ -232,7 +232,6 @@ const USELESS_OPTIONS: &[Filled] = &[
     ("-z convert utf-8", "-z", "convert"),
     ("-a get a", "-a", "get"),
     ("-a list", "-a", "list"),
-    ("-a check", "-a", "check"),
     ("-a remove a", "-a", "remove"),
     ("-a convert utf-8", "-a", "convert"),
     ("-v get a", "-v", "get"),

@@ -89,7 +89,7 @@ fn check_files<W: CountedWrite, E: CountedWrite>(
         let job = Job {
             encoding,
             source: source_named(path),
-            command: Command::Check,
+            command: Command::Check(files.allowed),
         };
         highest = highest.max(check_file(rt, alloc, &job, output, errors));
     }

@@ -90,7 +90,7 @@ pub const COMMANDS: &[CommandRow] = &[
         name: "check",
         words: "[FILE ..]",
         help: "Reports ill-formed lines, bad escapes, repeated keys",
-        options: &[OptionName::File, OptionName::Encoding],
+        options: &[OptionName::File, OptionName::Encoding, OptionName::Ascii],
         other_names: &["lint", "validate", "verify"],
     },
     CommandRow {
@@ -188,7 +188,7 @@ const OPTIONS: &[OptionRow] = &[
         short: Some('a'),
         long: "ascii",
         value: "",
-        help: "Has set put in ASCII-only text, right in every encoding",
+        help: "Has set put in ASCII only, and check report all else",
     },
     OptionRow {
         option: OptionName::Existing,

@@ -12,7 +12,7 @@ use crate::options::{Options, is_option, options_in};
 use counted_io::CountedWrite;
 use java_properties::Edit;
 use properties_tools::propedit::request::{
-    Change, CheckedFiles, Command, Conversion, Edits, FileChange, Request,
+    Allowed, Change, CheckedFiles, Command, Conversion, Edits, FileChange, Request,
 };
 use properties_tools::propedit::{print_out_of_memory, print_text, print_usage_error};
 use std::alloc::{AllocError, Global};
@@ -213,12 +213,18 @@ fn check<'a>(
         return Err(Mistake::OptionAfter(word, row));
     }
     let paths = copies(alloc, before, after)?;
+    let allowed = if options.has(OptionName::Ascii) {
+        Allowed::Ascii
+    } else {
+        Allowed::All
+    };
     if paths.is_empty() {
-        return options.job(alloc, row, Command::Check);
+        return options.job(alloc, row, Command::Check(allowed));
     }
     options.refuse_file(row)?;
     Ok(Request::CheckFiles(CheckedFiles {
         encoding: options.encoding(row)?,
+        allowed,
         paths,
     }))
 }

@@ -1,10 +1,10 @@
 -- The lines of a body that have a flaw, found one after another.
-use Rattle.std.proofs.Common.{◌≡◌, ◌≢◌, ℕ, suc, ◌+◌, ◌<◌, ◌≤◌, ◌==◌, Bool, true, false, List, [], ◌∷◌, ◌++◌, length, get_or, drop, refl, sym, ap, subst, ◌∙◌, inl, inr, length-append, take_all, arith}
-use Rattle.std.specs.Prelude.{if◌then◌else◌, not, Option, Some, None}
+use Rattle.std.proofs.Common.{◌≡◌, ◌≢◌, ℕ, suc, ◌+◌, ◌<◌, ◌≤◌, ◌==◌, Bool, true, false, List, [], ◌∷◌, ◌++◌, length, get_or, drop, refl, sym, ap, subst, ◌∙◌, inl, inr, length-append, take_all, eqb-true, arith}
+use Rattle.std.specs.Prelude.{◌&&◌, if◌then◌else◌, not, Option, Some, None}
 use Rattle.std.specs.Option.{is_some}
 use Rattle.std.specs.Str.{is_utf8, IsUtf8}
 use Rattle.std.proofs.lemmas.Bool.Decides.{eqb_tells}
-use Rattle.std.proofs.lemmas.Bool.{cases_Bool, or_from, or_parts, false_from_ne_true}
+use Rattle.std.proofs.lemmas.Bool.{cases_Bool, and_parts, or_from, or_parts, false_from_ne_true}
 use Rattle.std.proofs.lemmas.List.Folds.{list_any-append, list_any_at}
 use Rattle.std.proofs.Math.Seq.{take-append_seam}
 use Rattle.std.proofs.lemmas.Str.{IsCharBoundary-after_ascii, IsCharBoundary-before_ascii, IsUtf8-drop, IsUtf8-from_is_utf8, is_utf8-from_IsUtf8, IsUtf8-from_ascii, IsUtf8-take}
@@ -15,8 +15,9 @@ use Rattle.properties_format.specs.Cut.{line_ending_bytes, bytes_together}
 use Rattle.properties_format.specs.Lines.{end, Ended, Line, Lines, numbered}
 use Rattle.properties_format.specs.Utf16.{low_first, high_first}
 use Rattle.properties_format.specs.ItemsToCome.{ReaderState, start}
-use Rattle.properties_format.specs.Computed.Cut.{cut_of}
+use Rattle.properties_format.specs.Computed.Cut.{cut_of, decoded_line}
 use Rattle.properties_format.specs.Computed.Body.{held_of, held_lines_of}
+use Rattle.properties_format.proofs.Cut.Byline.{decoded_line-meets, decoded_line-only}
 use Rattle.properties_format.proofs.Cut.Meets.{cut_of-meets}
 use Rattle.properties_format.proofs.Cut.Only.{cut_of-only}
 use Rattle.properties_format.proofs.Encodings.WellFormed.{IsUtf8-from_well_formed, well_formed-from_IsUtf8}
@@ -29,10 +30,11 @@ use Rattle.properties_lines.specs.declared.scanner.Front.TheVariants.{Mark, Feed
 use Rattle.properties_lines.specs.declared.scanner.RawLine.{RawLine}
 use Rattle.properties_lines.specs.declared.scanner.Scanner.{Scanner}
 use Rattle.properties_lines.proofs.HeldLines.{body-next, body-after, body-lines_left}
-use Rattle.properties_tools.specs.Propedit.Lines.{holds_zero, is_sought, starts_with_bom, AreFlawed, AreFlawedIn, HasFlaw, HasFlawed, IsFirstFlawed, IsWellFormedIn, LacksFlaw}
-use Rattle.properties_tools.specs.Private.Flawed.{are_paired, is_flawed, is_well_formed, unit_in, numbers_from, numbers_left, FindsNext, HasFlawedIn, HasLinesOf, IsFound, IsScanning}
+use Rattle.properties_tools.specs.Propedit.Lines.{holds_zero, is_sought, starts_with_bom, AreFlawed, AreFlawedIn, HasFlaw, HasFlawed, IsFirstFlawed, IsFirstUtf8, IsWellFormedIn, LacksFlaw, LooksUtf8}
+use Rattle.properties_tools.specs.Private.Flawed.{are_paired, is_ascii, is_flawed, is_well_formed, unit_in, numbers_from, numbers_left, FindsNext, HasFlawedIn, HasLinesOf, IsFound, IsScanning}
 use Rattle.properties_tools.specs.declared.propedit.ill_formed.Flaw.{Flaw}
-use Rattle.properties_tools.specs.declared.propedit.ill_formed.Flaw.TheVariants.{IllFormed, Zero}
+use Rattle.properties_tools.specs.declared.propedit.ill_formed.Flaw.TheVariants.{IllFormed, Zero, NonAscii}
+use Rattle.properties_tools.proofs.NonAscii.{tells-ascii, told-nothing}
 use Rattle.properties_tools.proofs.Paired.{paired-well_formed, well_formed-paired}
 
 -- whether a byte is 0
@@ -58,15 +60,32 @@ not-well utf_16be d k w = let t = well_formed-paired high_first d w.0 w.1 in cc
 has-flaw : (flaw : Flaw) (e : Encoding) (d : List ℕ) → is_flawed flaw e d ≡ true → HasFlaw flaw e d
 has-flaw IllFormed e d k = elim (cases_Bool (is_well_formed e d)) [ inl t ↦ absurd (cc) | inr t ↦ not-well e d t ]
 has-flaw Zero e d k = k
+has-flaw NonAscii e d k =
+    let parts = and_parts (not (is_ascii e d)) (is_well_formed e d) k in
+    (well e d parts.1, (decoded_line e d, decoded_line-meets e d, tells-ascii e d ∙ parts.0))
 
 -- or that they lack it.
+first-false : (x y : Bool) → y ≡ true → (x && y) ≡ false → x ≡ false
+first-false false y h k = refl
+first-false true true h k = k
+first-false true false h k = absurd (cc)
+
 lacks-flaw : (flaw : Flaw) (e : Encoding) (d : List ℕ) → is_flawed flaw e d ≡ false → LacksFlaw flaw e d
 lacks-flaw IllFormed e d k = elim (cases_Bool (is_well_formed e d)) [ inl t ↦ well e d t | inr t ↦ absurd (cc) ]
 lacks-flaw Zero e d k = k
+lacks-flaw NonAscii e d k = elim (cases_Bool (is_well_formed e d)) [
+  | inl t ↦ inr (decoded_line e d, decoded_line-meets e d, tells-ascii e d ∙ first-false (not (is_ascii e d)) (is_well_formed e d) t k)
+  | inr t ↦ inl (not-well e d t)
+]
 
 not-both : (flaw : Flaw) (e : Encoding) (d : List ℕ) → LacksFlaw flaw e d → HasFlaw flaw e d → ⊥
 not-both IllFormed e d x y = y x
 not-both Zero e d x y = absurd (cc)
+not-both NonAscii e d (inl x) y = x y.0
+not-both NonAscii e d (inr (text, is, none)) (sound, (other, same, has)) =
+    let x = decoded_line-only e d text is in
+    let y = decoded_line-only e d other same in
+    absurd (cc)
 
 -- No bytes have no flaw.
 empty-well : (e : Encoding) → is_well_formed e [] ≡ true
@@ -78,6 +97,7 @@ empty-well utf_16be = refl
 empty-flawless : (flaw : Flaw) (e : Encoding) → is_flawed flaw e [] ≡ false
 empty-flawless IllFormed e = ap not (empty-well e)
 empty-flawless Zero e = refl
+empty-flawless NonAscii e = let told = told-nothing e in rw told refl
 
 -- No place has a byte 0.
 none-at : (bytes : List ℕ) → ((k : ℕ) → k < length bytes → (get_or bytes k 0 == 0) ≡ true → ⊥) → holds_zero bytes ≡ false
@@ -373,5 +393,30 @@ longest-is_utf8 bytes n h = elim (eqb_tells n (length bytes)) [
       other.1 (omega (arith, h.within, most)) in
       other.0 ∙ sym (false_from_ne_true (is_utf8 bytes) shorter)
 ]
+
+-- ---- a source that looks like UTF-8 in windows-1252
+
+pub other-looks : (e : Encoding) (source body : List ℕ) (f : code.Encoding) → byte_order_mark e source ≡ record { encoding = encoding_of f; body = body }
+    → f ≢ WINDOWS_1252
+    → ¬ LooksUtf8 e source
+other-looks e source body WINDOWS_1252 is h looks = h refl
+other-looks e source body UTF_8 is h looks = let same = rw is at looks.in_force in absurd (cc)
+other-looks e source body UTF_16LE is h looks = let same = rw is at looks.in_force in absurd (cc)
+other-looks e source body UTF_16BE is h looks = let same = rw is at looks.in_force in absurd (cc)
+
+pub short-looks : (e : Encoding) (source : List ℕ) (n : ℕ) → IsLongestText source n → n < length source → ¬ LooksUtf8 e source
+short-looks e source n longest short looks =
+    let all = is_utf8-from_IsUtf8 source (IsUtf8-from_well_formed source looks.well_formed) in
+    let same = eqb-true n (length source) (longest-is_utf8 source n longest ∙ all) in
+    omega (arith, same)
+
+pub looks-first : (e : Encoding) (source body : List ℕ) (n : ℕ) (answer : Option ℕ)
+    → byte_order_mark e source ≡ record { encoding = windows_1252; body = body }
+    → IsLongestText source n → length source ≤ n
+    → IsFirstFlawed NonAscii e source answer → IsFirstUtf8 e source answer
+looks-first e source body n None is longest all first = inr first
+looks-first e source body n (Some number) is longest all first =
+    let text = subst IsUtf8 (take_all n source all) longest.text in
+    (record { in_force = rw is refl; well_formed = well_formed-from_IsUtf8 source text }, first)
 
 pub ruleset flawed = (scanning-start, flags-ascii)

@@ -10,6 +10,7 @@ pub mod LastPairs
 pub mod LineFindings
 pub mod ListedKeys
 pub mod LookedUp
+pub mod NonAscii
 pub mod Paired
 pub mod Pairs
 pub mod Prefixes

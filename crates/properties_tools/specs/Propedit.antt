@@ -20,6 +20,7 @@ use Rattle.properties_tools.specs.Propedit.Failures.{LacksMemory, failure_status
 use Rattle.properties_tools.specs.Propedit.Get.{Gets}
 use Rattle.properties_tools.specs.Propedit.Listing.{Lists, ListsValues}
 use Rattle.properties_tools.specs.declared.propedit.answer.Answer.{Answer}
+use Rattle.properties_tools.specs.declared.propedit.request.Allowed.{Allowed}
 use Rattle.properties_tools.specs.declared.propedit.request.Command.{Command}
 use Rattle.properties_tools.specs.declared.propedit.request.Change.{Change as AskedChange}
 use Rattle.properties_tools.specs.declared.propedit.request.Command.TheVariants as command
@@ -44,9 +45,10 @@ report_status [] = 0
 report_status (byte ∷ bytes) = 1
 
 -- What checking gives: the report and its status; or memory ran out.
-abbrev pub Checks : List ℕ → Encoding → List ℕ → Result Answer Failure → Type 0
-Checks name e source (Ok answer) = IsReport name e source answer.text.items × (answer.status ≡ report_status answer.text.items)
-Checks name e source (Err failure) = LacksMemory failure
+abbrev pub Checks : List ℕ → Encoding → Allowed → List ℕ → Result Answer Failure → Type 0
+Checks name e allowed source (Ok answer) =
+    IsReport name e allowed source answer.text.items × (answer.status ≡ report_status answer.text.items)
+Checks name e allowed source (Err failure) = LacksMemory failure
 
 -- What a change gives as an answer: the bytes after it, and the status 0.
 abbrev pub ChangesTo : Encoding → List ℕ → AskedChange → Result Answer Failure → Type 0
@@ -58,7 +60,7 @@ abbrev pub AnswersCommand : List ℕ → Encoding → Command → List ℕ → R
 AnswersCommand name e (command.Get keys default end) source result = Gets e source (map characters keys.items) (option_map characters default) end result
 AnswersCommand name e (command.List prefix end) source result = Lists e source (characters prefix) end result
 AnswersCommand name e (command.ListValues prefix end) source result = ListsValues e source (characters prefix) end result
-AnswersCommand name e command.Check source result = Checks name e source result
+AnswersCommand name e (command.Check allowed) source result = Checks name e allowed source result
 AnswersCommand name e (command.Change change) source result = ChangesTo e source change result
 
 -- What the command of some job gives for its source.

@@ -1,17 +1,23 @@
 -- The lines of a body that have a flaw, as they are found one after another.
-use Rattle.std.specs.Prelude.{◌≡◌, ℕ, ◌+◌, ◌≤◌, ◌&&◌, not, Bool, true, false, if◌then◌else◌, List, [], ◌∷◌, length, Option, Some, None}
+use Rattle.std.specs.Prelude.{◌≡◌, ℕ, ◌+◌, ◌≤◌, ◌&&◌, not, nat_lt, Bool, true, false, if◌then◌else◌, List, [], ◌∷◌, length, Option, Some, None, Result, Ok, Err}
+use Rattle.std.specs.Global.{Vec}
 use Rattle.std.specs.Str.{is_utf8}
+use Rattle.java_properties.specs.Errors.{IsBareError}
 use Rattle.properties_format.specs.Body.{HeldLine}
 use Rattle.properties_format.specs.Encoding.{Encoding, windows_1252, utf_8, utf_16le, utf_16be}
 use Rattle.properties_format.specs.Utf16.{is_high, is_low, low_first, high_first}
+use Rattle.properties_items.specs.declared.error.ErrorKind.TheVariants as kind
+use Rattle.properties_items.specs.declared.error.PropertiesError.{PropertiesError}
 use Rattle.properties_text.specs.Encoding.{encoding_of}
 use Rattle.properties_lines.specs.Private.HeldLines.{IsInBody, lines_left}
 use Rattle.properties_lines.specs.Scanner.{HasRightFlags, bytes_of}
 use Rattle.properties_lines.specs.declared.scanner.RawLine.{RawLine}
 use Rattle.properties_lines.specs.declared.scanner.Scanner.{Scanner}
-use Rattle.properties_tools.specs.Propedit.Lines.{holds_zero, AreFlawedIn, HasFlawed}
+use Rattle.properties_tools.specs.Propedit.Check.{AreRefused}
+use Rattle.properties_tools.specs.Propedit.Lines.{holds_non_ascii, holds_zero, AreFlawedIn, HasFlawed}
 use Rattle.properties_tools.specs.declared.propedit.ill_formed.Flaw.{Flaw}
-use Rattle.properties_tools.specs.declared.propedit.ill_formed.Flaw.TheVariants.{IllFormed, Zero}
+use Rattle.properties_tools.specs.declared.propedit.ill_formed.Flaw.TheVariants.{IllFormed, Zero, NonAscii}
+use Rattle.properties_tools.specs.declared.propedit.request.Allowed.{Allowed}
 
 -- ---- the bytes of a line
 
@@ -34,10 +40,23 @@ is_well_formed utf_8 bytes = is_utf8 bytes
 is_well_formed utf_16le bytes = are_paired low_first false bytes
 is_well_formed utf_16be bytes = are_paired high_first false bytes
 
+-- whether each unit is an ASCII character, and no byte is left over
+abbrev pub are_ascii : (ℕ → ℕ → ℕ) → List ℕ → Bool
+are_ascii unit [] = true
+are_ascii unit (a ∷ []) = false
+are_ascii unit (a ∷ b ∷ bytes) = nat_lt (unit a b) 0x80 && are_ascii unit bytes
+
+-- whether the bytes of a line are ASCII characters alone
+abbrev pub is_ascii : Encoding → List ℕ → Bool
+is_ascii utf_16le bytes = are_ascii low_first bytes
+is_ascii utf_16be bytes = are_ascii high_first bytes
+is_ascii e bytes = not (holds_non_ascii bytes)
+
 -- whether they have this flaw
 abbrev pub is_flawed : Flaw → Encoding → List ℕ → Bool
 is_flawed IllFormed e bytes = not (is_well_formed e bytes)
 is_flawed Zero e bytes = holds_zero bytes
+is_flawed NonAscii e bytes = not (is_ascii e bytes) && is_well_formed e bytes
 
 -- ---- the lines of a body
 
@@ -63,6 +82,11 @@ numbers_left flaw body s = numbers_from flaw (encoding_of s.encoding) s.passed (
 pub record IsScanning (body : List ℕ) (s : Scanner) : Type 0 where
   pub in_body : IsInBody s body
   pub few : s.passed + length (lines_left body s) ≤ length body + 1
+
+-- What finding the lines with a character that isn't allowed returns. It fails only if memory runs out.
+abbrev pub FindsRefused : Allowed → Encoding → List ℕ → Result (Vec ℕ) PropertiesError → Type 0
+FindsRefused allowed e source (Ok numbers) = AreRefused allowed e source numbers.items
+FindsRefused allowed e source (Err error) = IsBareError kind.Memory error
 
 -- The next number is found, if there is one.
 abbrev pub FindsNext : Flaw → List ℕ → Scanner → Option ℕ → Scanner → Type 0

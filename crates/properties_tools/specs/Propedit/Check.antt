@@ -18,21 +18,23 @@ use Rattle.properties_items.specs.declared.error.PropertiesError.{PropertiesErro
 use Rattle.properties_items.specs.declared.findings.MalformedEscape.{MalformedEscape}
 use Rattle.properties_tools.specs.Messages.{escaped}
 use Rattle.properties_tools.specs.Propedit.Failures.{ill_formed_words, ill_formed_by_mark_words, not_utf_16_words, zero_words}
-use Rattle.properties_tools.specs.Propedit.Lines.{starts_with_bom, AreFlawedLines, IsFirstFlawed}
+use Rattle.properties_tools.specs.Propedit.Lines.{starts_with_bom, AreFlawedLines, IsFirstFlawed, IsFirstUtf8}
 use Rattle.properties_tools.specs.Propedit.Sources.{is_in_utf_16}
 use Rattle.properties_tools.specs.declared.propedit.check.FindingKind.{FindingKind}
-use Rattle.properties_tools.specs.declared.propedit.check.FindingKind.TheVariants.{HoldsZero, IllFormedLine, Escape, Repeats}
+use Rattle.properties_tools.specs.declared.propedit.check.FindingKind.TheVariants.{HoldsZero, IllFormedLine, LooksUtf8, NonAscii, Escape, Repeats}
 use Rattle.properties_tools.specs.declared.propedit.check.Finding.{Finding}
 use Rattle.properties_tools.specs.declared.propedit.check.Words.{Words}
 use Rattle.properties_tools.specs.declared.propedit.check.Words.TheVariants.{WithEncoding, WithByteOrderMark, NotUtf8, NotUtf16}
-use Rattle.properties_tools.specs.declared.propedit.ill_formed.Flaw.TheVariants.{IllFormed, Zero}
+use Rattle.properties_tools.specs.declared.propedit.ill_formed.Flaw.TheVariants as flaw
+use Rattle.properties_tools.specs.declared.propedit.request.Allowed.{Allowed}
+use Rattle.properties_tools.specs.declared.propedit.request.Allowed.TheVariants.{All, Ascii}
 
 -- ---- findings
 
--- of the first line with U+0000, where there is one
-abbrev pub zero_findings : Option ℕ → List Finding
-zero_findings None = []
-zero_findings (Some number) = record { line_number = number; kind = HoldsZero } ∷ []
+-- of the first line of which something is said, where there is one
+abbrev pub first_findings : FindingKind → Option ℕ → List Finding
+first_findings kind None = []
+first_findings kind (Some number) = record { line_number = number; kind = kind } ∷ []
 
 -- what is said of the first ill-formed line of a source: what helps, if it is not UTF-8 and no line has U+0000
 abbrev pub first_words : Encoding → List ℕ → Bool → Words
@@ -49,6 +51,10 @@ abbrev pub ill_formed_findings : Words → List ℕ → List Finding
 ill_formed_findings words [] = []
 ill_formed_findings words (number ∷ numbers) = record { line_number = number; kind = IllFormedLine words } ∷ ill_formed_findings (words_after words) numbers
 
+-- of a line with a non-ASCII character
+abbrev pub non_ascii_finding : ℕ → Finding
+non_ascii_finding number = record { line_number = number; kind = NonAscii }
+
 -- of a malformed escape
 abbrev pub escape_finding : MalformedEscape → Finding
 escape_finding escape = record { line_number = escape.line_number; kind = Escape escape }
@@ -64,12 +70,15 @@ repeat_findings is_well_formed k =
     if not is_well_formed && has_replacement k.key then [] else
     record { line_number = k.number; kind = Repeats k.first } ∷ []
 
--- the findings of this line with U+0000, these ill-formed lines, escapes and keys, one kind after another
-abbrev pub all_findings : Words → Option ℕ → List ℕ → List MalformedEscape → List KeyEntry → List Finding
-all_findings words zero numbers escapes keys =
-    zero_findings zero
+-- the findings of this line with U+0000, these ill-formed lines, this line that looks like UTF-8, these lines that aren't
+-- ASCII, escapes and keys, one kind after another
+abbrev pub all_findings : Words → Option ℕ → List ℕ → Option ℕ → List ℕ → List MalformedEscape → List KeyEntry → List Finding
+all_findings words zero numbers utf_8 refused escapes keys =
+    first_findings HoldsZero zero
     ++ (ill_formed_findings words numbers
-    ++ (map escape_finding escapes ++ flat_map (repeat_findings (length numbers == 0)) keys))
+    ++ (first_findings LooksUtf8 utf_8
+    ++ (map non_ascii_finding refused
+    ++ (map escape_finding escapes ++ flat_map (repeat_findings (length numbers == 0)) keys))))
 
 -- The findings are in the order of their lines, and those of one line in the order that they have in the others.
 pub record ArrangesByLine (findings arranged : List Finding) : Type 0 where
@@ -94,6 +103,8 @@ comment_words false = []
 abbrev pub kind_words : FindingKind → List ℕ
 kind_words HoldsZero = zero_words
 kind_words (IllFormedLine words) = ill_formed_text words
+kind_words LooksUtf8 = codes "looks like UTF-8; without -e it is read as UTF-8"
+kind_words NonAscii = codes "has a non-ASCII character"
 kind_words (Escape escape) = description escape.kind ++ comment_words escape.in_comment
 kind_words (Repeats first) = codes "repeats the key of line " ++ decimal first
 
@@ -103,22 +114,32 @@ finding_line name f = escaped name ++ (codes ":" ++ (decimal f.line_number ++ (c
 
 -- ---- the report
 
--- The text has the first line of a source with U+0000, its ill-formed lines, its malformed escapes and its repeated keys, in
--- the order of the lines.
-pub record IsReport (name : List ℕ) (e : Encoding) (source text : List ℕ) : Type 0 where
+-- These are the numbers of the well-formed lines with a character that isn't allowed.
+abbrev pub AreRefused : Allowed → Encoding → List ℕ → List ℕ → Type 0
+AreRefused All e source numbers = numbers ≡ []
+AreRefused Ascii e source numbers = AreFlawedLines flaw.NonAscii e source numbers
+
+-- The text has the first line of a source with U+0000, its ill-formed lines, its first non-ASCII line if it is UTF-8 that
+-- is read as windows-1252, its well-formed lines with a character that isn't allowed, its malformed escapes and its
+-- repeated keys, in the order of the lines.
+pub record IsReport (name : List ℕ) (e : Encoding) (allowed : Allowed) (source text : List ℕ) : Type 0 where
   pub zero : Option ℕ
-  pub is_zero : IsFirstFlawed Zero e source zero
+  pub is_zero : IsFirstFlawed flaw.Zero e source zero
   pub numbers : List ℕ
-  pub ill_formed : AreFlawedLines IllFormed e source numbers
+  pub ill_formed : AreFlawedLines flaw.IllFormed e source numbers
+  pub utf_8 : Option ℕ
+  pub looks_utf_8 : IsFirstUtf8 e source utf_8
+  pub refused : List ℕ
+  pub are_refused : AreRefused allowed e source refused
   pub escapes : List format.MalformedEscape
   pub malformed : AreMalformedEscapes e source escapes
   pub keys : List KeyEntry
   pub are_keys : AreKeyLines e source keys
   pub findings : List Finding
-  pub arranged : ArrangesByLine (all_findings (first_words e source (is_some zero)) zero numbers (escape_records escapes) keys) findings
+  pub arranged : ArrangesByLine (all_findings (first_words e source (is_some zero)) zero numbers utf_8 refused (escape_records escapes) keys) findings
   pub is : text ≡ flat_map (finding_line name) findings
 
 -- What reporting returns. It fails only if memory runs out.
-abbrev pub Reports : {Z : Type 0} → Encoding → List ℕ → List ℕ → Result (String Z) PropertiesError → Type 0
-Reports e name source (Ok text) = IsReport name e source (string_bytes text)
-Reports e name source (Err error) = IsBareError kind.Memory error
+abbrev pub Reports : {Z : Type 0} → Encoding → Allowed → List ℕ → List ℕ → Result (String Z) PropertiesError → Type 0
+Reports e allowed name source (Ok text) = IsReport name e allowed source (string_bytes text)
+Reports e allowed name source (Err error) = IsBareError kind.Memory error

@@ -1,20 +1,20 @@
--- The lines of a source whose bytes are not those of a text: they are ill-formed in the encoding in force, or one of them
--- is 0 in UTF-8. In well-formed UTF-16 each high surrogate is before a low one, and no other surrogate and no odd byte is
--- there.
+-- The lines of a source whose bytes are not those of a text, or not those of a text in ASCII: they are ill-formed in the
+-- encoding in force, or one of them is 0 in UTF-8, or they are well-formed and have a non-ASCII character. In well-formed
+-- UTF-16 each high surrogate is before a low one, and no other surrogate and no odd byte is there.
 -- Source: The Unicode Standard, D91 (UTF-16) and D85 (well-formed).
-use Rattle.std.specs.Prelude.{◌≡◌, ◌⊎◌, ℕ, true, false, List, [], ◌∷◌, ◌++◌, nat_eq, ◌==◌, ◌&&◌, not, Bool, Option, Some, None, Result, Ok, Err}
+use Rattle.std.specs.Prelude.{◌≡◌, ◌⊎◌, ℕ, true, false, List, [], ◌∷◌, ◌++◌, nat_eq, nat_le, ◌==◌, ◌&&◌, not, Bool, Option, Some, None, Result, Ok, Err}
 use Rattle.properties_format.specs.Utf16.{is_high, is_low, low_first, high_first}
 use Rattle.std.specs.Global.{Vec}
 use Rattle.std.specs.List.{list_any, starts_with}
 use Rattle.properties_format.specs.Encoding.{Encoding, windows_1252, utf_8, utf_16le, utf_16be, byte_order_mark}
-use Rattle.properties_format.specs.Cut.{IsCut}
+use Rattle.properties_format.specs.Cut.{IsCut, IsDecodedLine}
 use Rattle.properties_format.specs.Lines.{end, Line, Lines, numbered_lines}
 use Rattle.properties_format.specs.Utf8.{IsWellFormedText}
 use Rattle.java_properties.specs.Errors.{IsBareError}
 use Rattle.properties_items.specs.declared.error.ErrorKind.TheVariants as kind
 use Rattle.properties_items.specs.declared.error.PropertiesError.{PropertiesError}
 use Rattle.properties_tools.specs.declared.propedit.ill_formed.Flaw.{Flaw}
-use Rattle.properties_tools.specs.declared.propedit.ill_formed.Flaw.TheVariants.{IllFormed, Zero}
+use Rattle.properties_tools.specs.declared.propedit.ill_formed.Flaw.TheVariants.{IllFormed, Zero, NonAscii}
 
 -- The bytes are a unit that isn't a surrogate.
 abbrev pub IsPlainUnit : (ℕ → ℕ → ℕ) → List ℕ → Type 0
@@ -47,15 +47,25 @@ IsWellFormedIn utf_8 bytes = IsWellFormedText bytes
 IsWellFormedIn utf_16le bytes = IsWellFormedUnits low_first bytes
 IsWellFormedIn utf_16be bytes = IsWellFormedUnits high_first bytes
 
--- The bytes have this flaw in this encoding.
+-- whether one of the characters isn't ASCII
+abbrev pub holds_non_ascii : List ℕ → Bool
+holds_non_ascii text = list_any (λ c. nat_le 0x80 c) text
+
+-- The bytes are decoded to a text that has a non-ASCII character, or has none.
+abbrev pub TellsNonAscii : Encoding → List ℕ → Bool → Type 0
+TellsNonAscii e bytes has = (text : List ℕ) × IsDecodedLine e bytes text × (holds_non_ascii text ≡ has)
+
+-- The bytes have this flaw in this encoding. Those that are ill-formed don't count as non-ASCII.
 abbrev pub HasFlaw : Flaw → Encoding → List ℕ → Type 0
 HasFlaw IllFormed e bytes = ¬ IsWellFormedIn e bytes
 HasFlaw Zero e bytes = holds_zero bytes ≡ true
+HasFlaw NonAscii e bytes = IsWellFormedIn e bytes × TellsNonAscii e bytes true
 
 -- The bytes don't have it.
 abbrev pub LacksFlaw : Flaw → Encoding → List ℕ → Type 0
 LacksFlaw IllFormed e bytes = IsWellFormedIn e bytes
 LacksFlaw Zero e bytes = holds_zero bytes ≡ false
+LacksFlaw NonAscii e bytes = (¬ IsWellFormedIn e bytes) ⊎ TellsNonAscii e bytes false
 
 -- ---- of a body
 
@@ -92,6 +102,7 @@ is_utf_16 other = false
 -- Whether a flaw is sought. A byte order mark says that the source isn't UTF-16, so a byte 0 is no flaw after one.
 abbrev pub is_sought : Flaw → Encoding → List ℕ → Bool
 is_sought IllFormed e source = true
+is_sought NonAscii e source = true
 is_sought Zero e source = is_utf_8 (byte_order_mark e source).encoding && not (starts_with_bom source)
 
 -- These are the numbers of the lines of a source that have this flaw, if it is sought.
@@ -105,6 +116,18 @@ abbrev pub IsFirstFlawed : Flaw → Encoding → List ℕ → Option ℕ → Typ
 IsFirstFlawed flaw e source None = AreFlawedLines flaw e source []
 IsFirstFlawed flaw e source (Some number) = (others : List ℕ) × AreFlawedLines flaw e source (number ∷ others)
 
+-- ---- a source that is read in another encoding than its own
+
+-- The source is well-formed UTF-8, though windows-1252 is in force.
+pub record LooksUtf8 (e : Encoding) (source : List ℕ) : Type 0 where
+  pub in_force : (byte_order_mark e source).encoding ≡ windows_1252
+  pub well_formed : IsWellFormedText source
+
+-- This is the number of the first line of such a source with a non-ASCII character, where there is one.
+abbrev pub IsFirstUtf8 : Encoding → List ℕ → Option ℕ → Type 0
+IsFirstUtf8 e source None = (¬ LooksUtf8 e source) ⊎ IsFirstFlawed NonAscii e source None
+IsFirstUtf8 e source (Some number) = LooksUtf8 e source × IsFirstFlawed NonAscii e source (Some number)
+
 -- ---- what finding them returns
 
 -- These numbers were found, and there are no others.
@@ -112,7 +135,7 @@ pub record HasFlawed (flaw : Flaw) (e : Encoding) (source : List ℕ) (numbers :
   pub are : AreFlawedLines flaw e source numbers
   pub only : (others : List ℕ) → AreFlawedLines flaw e source others → others ≡ numbers
 
--- What finding the ill-formed lines returns. It fails only if memory runs out.
-abbrev pub FindsIllFormed : Encoding → List ℕ → Result (Vec ℕ) PropertiesError → Type 0
-FindsIllFormed e source (Ok numbers) = HasFlawed IllFormed e source numbers.items
-FindsIllFormed e source (Err error) = IsBareError kind.Memory error
+-- What finding the lines with a flaw returns. It fails only if memory runs out.
+abbrev pub FindsFlawed : Flaw → Encoding → List ℕ → Result (Vec ℕ) PropertiesError → Type 0
+FindsFlawed flaw e source (Ok numbers) = HasFlawed flaw e source numbers.items
+FindsFlawed flaw e source (Err error) = IsBareError kind.Memory error

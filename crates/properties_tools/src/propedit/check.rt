@@ -1,19 +1,25 @@
 // What is wrong in a source, as lines.
 
-ghost use Rattle.std.specs.Prelude.{◌≡◌, ◌++◌, OnOk};
+ghost use Rattle.std.specs.Prelude.{◌≡◌, ◌++◌, map, OnOk};
 ghost use Rattle.std.specs.List.{flat_map};
 ghost use Rattle.std.specs.String.{string_bytes};
 ghost use Rattle.properties_text.specs.Encoding.{encoding_of};
-ghost use Rattle.properties_tools.specs.Propedit.Check.{comment_words, finding_line, first_words, ill_formed_findings, ill_formed_text, words_after, zero_findings, ArrangesByLine, Reports};
+ghost use Rattle.properties_tools.specs.Propedit.Check.{comment_words, finding_line, first_findings, first_words, ill_formed_findings, ill_formed_text, non_ascii_finding, words_after, ArrangesByLine, Reports};
+ghost use Rattle.properties_tools.specs.Private.Flawed.{FindsRefused};
 
 use crate::messages::Escaped;
 use crate::propedit::error::{HOLDS_ZERO, NOT_UTF_8, NOT_UTF_8_BY_MARK, NOT_UTF_16};
-use crate::propedit::ill_formed::{Flaw, first_flawed_line, has_byte_order_mark, ill_formed_lines};
+use crate::propedit::ill_formed::{
+    Flaw, first_flawed_line, first_utf_8_line, flawed_lines, has_byte_order_mark, ill_formed_lines,
+};
 use crate::propedit::line_findings::line_findings;
+use crate::propedit::request::Allowed;
 use crate::propedit::sound::in_utf_16;
 use java_properties::{Encoding, MalformedEscape, PropertiesError};
 use std::alloc::{AllocError, Global};
 use std::fmt;
+
+const LOOKS_UTF_8: &str = "looks like UTF-8; without -e it is read as UTF-8";
 
 // What is wrong in a line.
 #[derive(Clone, Copy)]
@@ -27,6 +33,9 @@ pub(crate) enum FindingKind {
     // U+0000, in the first line that has it.
     HoldsZero,
     IllFormedLine(Words),
+    // The source is UTF-8, and is read as windows-1252. This is its first line that isn't ASCII.
+    LooksUtf8,
+    NonAscii,
     Escape(MalformedEscape),
     // The key of this earlier line.
     Repeats(usize),
@@ -45,13 +54,16 @@ pub(crate) enum Words {
 }
 
 /// Returns what is wrong in a source, a line for each finding, in the order of the source's lines: the first line with
-/// U+0000, if UTF-8 is in force without a byte order mark; the lines that are ill-formed in the encoding in force;
-/// malformed escapes; and pairs that repeat a key. The text is empty if nothing is wrong. Fails only if memory runs out.
+/// U+0000, if UTF-8 is in force without a byte order mark; the lines that are ill-formed in the encoding in force; the
+/// first line with a non-ASCII character, if windows-1252 is in force though the source is well-formed UTF-8; the
+/// well-formed lines with a non-ASCII character, if only ASCII is allowed; malformed escapes; and pairs that repeat a
+/// key. The text is empty if nothing is wrong. Fails only if memory runs out.
 ///
 /// If a line is ill-formed, a key with U+FFFD repeats no other, since that character may stand for any bytes.
 ///
 /// ```text
-/// let text = report(alloc, "my.properties", b"# C:\\users\na=1\na=\xe9", Encoding::UTF_8)?;
+/// let source = b"# C:\\users\na=1\na=\xe9";
+/// let text = report(alloc, "my.properties", source, Encoding::UTF_8, Allowed::All)?;
 /// // my.properties:1: Malformed \uxxxx encoding: not hex. (in a comment, which Java and propedit pass over)
 /// // my.properties:3: not UTF-8; if it is in windows-1252 or Latin-1, -e windows-1252 reads it
 /// // my.properties:3: repeats the key of line 2
@@ -61,15 +73,20 @@ pub fn report(
     name: &str,
     source: &[u8],
     encoding: Encoding,
+    allowed: Allowed,
 ) -> Result<String, PropertiesError>
-    ensures { Reports (encoding_of encoding) name.now source.now result }
+    ensures { Reports (encoding_of encoding) allowed name.now source.now result }
 {
     let numbers = ill_formed_lines(alloc, source, encoding)?;
     let mut findings = Vec::new(alloc);
     let zero = first_flawed_line(source, encoding, Flaw::Zero);
-    push_zero(&mut findings, zero)?;
+    push_first(&mut findings, zero, FindingKind::HoldsZero)?;
     let words = words_for(source, encoding, zero.is_some());
     push_ill_formed(&mut findings, &numbers, words)?;
+    let utf_8 = first_utf_8_line(source, encoding);
+    push_first(&mut findings, utf_8, FindingKind::LooksUtf8)?;
+    let refused = refused_lines(alloc, source, encoding, allowed)?;
+    push_non_ascii(&mut findings, &refused)?;
     let in_lines = line_findings(alloc, source, encoding, numbers.is_empty())?;
     findings.extend_from_slice(&in_lines.escapes)?;
     findings.extend_from_slice(&in_lines.repeats)?;
@@ -79,15 +96,19 @@ pub fn report(
     Ok(text)
 }
 
-fn push_zero(findings: &mut Vec<Finding>, number: Option<usize>) -> Result<(), AllocError>
-    ensures { OnOk result (findings.new.items ≡ findings.old.items ++ zero_findings number) }
+fn push_first(
+    findings: &mut Vec<Finding>,
+    number: Option<usize>,
+    kind: FindingKind,
+) -> Result<(), AllocError>
+    ensures { OnOk result (findings.new.items ≡ findings.old.items ++ first_findings kind number) }
 {
     let Some(number) = number else {
         return Ok(());
     };
     Ok(findings.push(Finding {
         line_number: number,
-        kind: FindingKind::HoldsZero,
+        kind,
     })?)
 }
 
@@ -134,6 +155,33 @@ fn push_ill_formed(
     Ok(())
 }
 
+// Returns the numbers of the lines with characters that aren't allowed, unless they are ill-formed.
+fn refused_lines(
+    alloc: Global,
+    source: &[u8],
+    encoding: Encoding,
+    allowed: Allowed,
+) -> Result<Vec<usize>, PropertiesError>
+    ensures { FindsRefused allowed (encoding_of encoding) source.now result }
+{
+    match allowed {
+        Allowed::All => Ok(Vec::new(alloc)),
+        Allowed::Ascii => flawed_lines(alloc, source, encoding, Flaw::NonAscii),
+    }
+}
+
+fn push_non_ascii(findings: &mut Vec<Finding>, numbers: &[usize]) -> Result<(), AllocError>
+    ensures { OnOk result (findings.new.items ≡ findings.old.items ++ map non_ascii_finding numbers.now) }
+{
+    for number in numbers {
+        findings.push(Finding {
+            line_number: *number,
+            kind: FindingKind::NonAscii,
+        })?;
+    }
+    Ok(())
+}
+
 // Sorts the findings by line. Those of one line keep their order.
 fn sort(findings: &mut Vec<Finding>) -> Result<(), AllocError>
     ensures { OnOk result (ArrangesByLine findings.old.items findings.new.items) }
@@ -168,6 +216,8 @@ impl fmt::Display for FindingKind {
         match self {
             FindingKind::HoldsZero => f.write_str(HOLDS_ZERO),
             FindingKind::IllFormedLine(words) => f.write_str(ill_formed_words(*words)),
+            FindingKind::LooksUtf8 => f.write_str(LOOKS_UTF_8),
+            FindingKind::NonAscii => f.write_str("has a non-ASCII character"),
             FindingKind::Escape(escape) => {
                 let place = place_words(escape.in_comment);
                 write!(f, "{}{place}", escape.kind)

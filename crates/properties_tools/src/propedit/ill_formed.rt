@@ -1,13 +1,13 @@
-// The lines of a source whose bytes are not those of a text.
+// The lines of a source whose bytes are not those of a text, or not those of a text in ASCII.
 
 ghost use Rattle.std.specs.Prelude.{◌≡◌, false};
 ghost use Rattle.properties_format.specs.Utf16.{is_high, is_low};
 ghost use Rattle.properties_text.specs.Encoding.{encoding_of};
 ghost use Rattle.properties_lines.specs.Scanner.{bytes_of};
 ghost use Rattle.properties_tools.specs.Propedit.Lines as spec;
-ghost use Rattle.properties_tools.specs.Propedit.Lines.{FindsIllFormed, IsFirstFlawed, starts_with_bom};
-ghost use Rattle.properties_tools.specs.Private.Flawed.{are_paired, is_flawed, is_well_formed, unit_in, FindsNext, HasLinesOf, IsFound, IsScanning};
-ghost use Rattle.properties_tools.specs.declared.propedit.ill_formed.Flaw.TheVariants.{IllFormed, Zero};
+ghost use Rattle.properties_tools.specs.Propedit.Lines.{FindsFlawed, IsFirstFlawed, IsFirstUtf8, starts_with_bom};
+ghost use Rattle.properties_tools.specs.Private.Flawed.{are_ascii, are_paired, is_ascii, is_flawed, is_well_formed, unit_in, FindsNext, HasLinesOf, IsFound, IsScanning};
+ghost use Rattle.properties_tools.specs.declared.propedit.ill_formed.Flaw.TheVariants.{IllFormed, NonAscii, Zero};
 
 use java_properties::{Encoding, PropertiesError};
 use memchr::memchr;
@@ -16,7 +16,7 @@ use properties_text::encoding::byte_order_mark::encoding_in_force;
 use properties_text::encoding::well_formed_length;
 use std::alloc::Global;
 
-/// What the bytes of a line may have that a text doesn't.
+/// What may be wrong with the bytes of a line.
 #[derive(Clone, Copy)]
 pub enum Flaw {
     /// They are ill-formed in the encoding in force. In windows-1252 none are.
@@ -24,6 +24,8 @@ pub enum Flaw {
     /// One of them is 0, as every other one is in ASCII characters of UTF-16. It is sought only if UTF-8 is in force, and
     /// no byte order mark says so.
     Zero,
+    /// They are well-formed, and have a character that isn't ASCII.
+    NonAscii,
 }
 
 /// Returns the numbers of the natural lines that are ill-formed in the encoding in force, in order. Fails only if memory
@@ -32,18 +34,30 @@ pub enum Flaw {
 /// ```text
 /// let numbers = ill_formed_lines(alloc, b"a=1\nb=caf\xe9\n", Encoding::UTF_8)?; // line 2
 /// ```
-#[tactic(auto, using(crate::proofs::Flawed::flawed))]
 pub fn ill_formed_lines(
     alloc: Global,
     source: &[u8],
     encoding: Encoding,
 ) -> Result<Vec<usize>, PropertiesError>
-    ensures { FindsIllFormed (encoding_of encoding) source.now result }
+    ensures { FindsFlawed IllFormed (encoding_of encoding) source.now result }
 {
-    let (in_force, body) = body_to_search(source, encoding, Flaw::IllFormed);
+    flawed_lines(alloc, source, encoding, Flaw::IllFormed)
+}
+
+/// Returns the numbers of the natural lines with this flaw, in order. Fails only if memory runs out.
+#[tactic(auto, using(crate::proofs::Flawed::flawed))]
+pub(crate) fn flawed_lines(
+    alloc: Global,
+    source: &[u8],
+    encoding: Encoding,
+    flaw: Flaw,
+) -> Result<Vec<usize>, PropertiesError>
+    ensures { FindsFlawed flaw (encoding_of encoding) source.now result }
+{
+    let (in_force, body) = body_to_search(source, encoding, flaw);
     let mut scanner = Scanner::in_body(in_force);
     let mut numbers = Vec::new(alloc);
-    while let Some(number) = next_flawed(&mut scanner, body, Flaw::IllFormed) {
+    while let Some(number) = next_flawed(&mut scanner, body, flaw) {
         numbers.push(number)?;
     }
     Ok(numbers)
@@ -57,6 +71,21 @@ pub(crate) fn first_flawed_line(source: &[u8], encoding: Encoding, flaw: Flaw) -
     let (in_force, body) = body_to_search(source, encoding, flaw);
     let mut scanner = Scanner::in_body(in_force);
     next_flawed(&mut scanner, body, flaw)
+}
+
+/// Returns the number of the first line with a non-ASCII character of a source that is well-formed UTF-8, though
+/// windows-1252 is in force.
+pub(crate) fn first_utf_8_line(source: &[u8], encoding: Encoding) -> Option<usize>
+    ensures { IsFirstUtf8 (encoding_of encoding) source.now result }
+{
+    let (in_force, _) = encoding_in_force(source, encoding);
+    let Encoding::WINDOWS_1252 = in_force else {
+        return None;
+    };
+    if well_formed_length(source) < source.len() {
+        return None;
+    }
+    first_flawed_line(source, encoding, Flaw::NonAscii)
 }
 
 /// Returns whether a source begins with the byte order mark of UTF-8.
@@ -73,6 +102,7 @@ fn body_to_search(source: &[u8], encoding: Encoding, flaw: Flaw) -> (Encoding, &
     match flaw {
         Flaw::IllFormed => body_to_decode(source, encoding),
         Flaw::Zero => body_with_zeros(source, encoding),
+        Flaw::NonAscii => whole_body(source, encoding),
     }
 }
 
@@ -105,6 +135,13 @@ fn body_with_zeros(source: &[u8], encoding: Encoding) -> (Encoding, &[u8])
     (in_force, body)
 }
 
+fn whole_body(source: &[u8], encoding: Encoding) -> (Encoding, &[u8])
+    ensures { HasLinesOf NonAscii (encoding_of encoding) source.now (encoding_of result.0) result.1.now }
+{
+    let (in_force, start) = encoding_in_force(source, encoding);
+    (in_force, &source[start..])
+}
+
 // Returns the number of the next line with this flaw, if there is one.
 fn next_flawed(scanner: &mut Scanner, body: &[u8], flaw: Flaw) -> Option<usize>
     requires { IsScanning body.now scanner.old }
@@ -132,6 +169,9 @@ fn has_flaw(encoding: Encoding, body: &[u8], line: &RawLine, flaw: Flaw) -> bool
     match flaw {
         Flaw::IllFormed => !is_well_formed(encoding, body, line),
         Flaw::Zero => holds_zero(&body[line.start..line.end]),
+        Flaw::NonAscii => {
+            !is_ascii(encoding, body, line) && is_well_formed(encoding, body, line)
+        }
     }
 }
 
@@ -145,6 +185,17 @@ fn is_well_formed(encoding: Encoding, body: &[u8], line: &RawLine) -> bool
         Encoding::WINDOWS_1252 => true,
         Encoding::UTF_8 => line.is_ascii || well_formed_length(bytes) == bytes.len(),
         _ => is_utf_16(encoding, bytes),
+    }
+}
+
+// Returns whether a line has ASCII characters alone.
+fn is_ascii(encoding: Encoding, body: &[u8], line: &RawLine) -> bool
+    requires { IsFound (encoding_of encoding) body.now line.now }
+    ensures { result ≡ is_ascii (encoding_of encoding) (bytes_of body.now line.now) }
+{
+    match encoding {
+        Encoding::WINDOWS_1252 | Encoding::UTF_8 => line.is_ascii,
+        _ => is_ascii_in_utf_16(encoding, &body[line.start..line.end]),
     }
 }
 
@@ -170,6 +221,20 @@ fn is_utf_16(encoding: Encoding, bytes: &[u8]) -> bool
         rest = others;
     }
     rest.is_empty() && !after_high
+}
+
+// Returns whether each unit is an ASCII character, and no byte is left over.
+fn is_ascii_in_utf_16(encoding: Encoding, bytes: &[u8]) -> bool
+    ensures { result ≡ are_ascii (unit_in (encoding_of encoding)) bytes.now }
+{
+    let mut rest = bytes;
+    while let [first, second, others @ ..] = rest {
+        if unit(encoding, *first, *second) >= 0x80 {
+            return false;
+        }
+        rest = others;
+    }
+    rest.is_empty()
 }
 
 // Returns the unit that two bytes make.

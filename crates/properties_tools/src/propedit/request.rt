@@ -27,6 +27,7 @@ pub struct Job {
 pub struct CheckedFiles {
     /// The encoding of each. A byte order mark overrules it.
     pub encoding: Encoding,
+    pub allowed: Allowed,
     /// Their names. There is one at least.
     pub paths: Vec<String>,
 }
@@ -98,9 +99,18 @@ pub enum Command {
     /// Print these keys, each with its last value.
     ListValues(String, Terminator),
     /// Print what is wrong.
-    Check,
+    Check(Allowed),
     /// Print the source after this change.
     Change(Change),
+}
+
+/// The characters that a check allows.
+#[derive(Clone, Copy, Debug, PartialEq, Eq)]
+pub enum Allowed {
+    /// Those of any text.
+    All,
+    /// ASCII alone, in comments too.
+    Ascii,
 }
 
 /// What ends a text that is printed.

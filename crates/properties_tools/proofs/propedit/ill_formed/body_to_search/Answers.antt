@@ -5,3 +5,6 @@ returns-in-IllFormed c = rw c.in-IllFormed.is c.body_to_decode.ensures
 
 pub returns-in-Zero : goal.returns-in-Zero
 returns-in-Zero c = rw c.in-Zero.is c.body_with_zeros.ensures
+
+pub returns-in-NonAscii : goal.returns-in-NonAscii
+returns-in-NonAscii c = rw c.in-NonAscii.is c.whole_body.ensures

@@ -2,14 +2,13 @@ use Rattle.std.proofs.Common.{◌++◌, length}
 use Rattle.properties_text.specs.Encoding.{encoding_of}
 use Rattle.properties_tools.specs.Propedit.Lines.{HasFlawed}
 use Rattle.properties_tools.specs.Private.Flawed.{numbers_left, IsScanning}
-use Rattle.properties_tools.specs.declared.propedit.ill_formed.Flaw.TheVariants.{IllFormed}
-use Rattle.properties_tools.proofs.propedit.ill_formed.ill_formed_lines.Given as goal
+use Rattle.properties_tools.proofs.propedit.ill_formed.flawed_lines.Given as goal
 
 abbrev pub invariant-loop-number : goal.invariant-loop-number
 invariant-loop-number l = record {
   scanning : IsScanning l.body l.scanner;
-  all : HasFlawed IllFormed (encoding_of l.fn.encoding) l.fn.source (l.numbers.items ++ numbers_left IllFormed l.body l.scanner);
+  all : HasFlawed l.fn.flaw (encoding_of l.fn.encoding) l.fn.source (l.numbers.items ++ numbers_left l.fn.flaw l.body l.scanner);
 }
 
 abbrev pub decreases-loop-number : goal.decreases-loop-number
-decreases-loop-number l = length (numbers_left IllFormed l.body l.scanner)
+decreases-loop-number l = length (numbers_left l.fn.flaw l.body l.scanner)
