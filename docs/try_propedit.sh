@@ -249,6 +249,24 @@ run -e latin1 check app.properties one.properties
 gives 1 'one.properties:2: repeats the key of line 1\n' ''
 run check one.properties nowhere two.properties
 gives 2 'one.properties:2: repeats the key of line 1\n' 'propedit: nowhere: No such file or directory (os error 2)\n'
+printf '# \xc3\xa9\nb=1\n' >two.properties
+for option in -a --ascii; do
+    run $option check one.properties two.properties app.properties
+    gives 1 'one.properties:2: repeats the key of line 1
+two.properties:1: has a non-ASCII character
+app.properties:1: not UTF-8; if it is in windows-1252 or Latin-1, -e windows-1252 reads it
+app.properties:2: not UTF-8
+' ''
+done
+run -a -f two.properties check
+gives 1 'two.properties:1: has a non-ASCII character\n' ''
+run -a -e latin1 check app.properties
+gives 1 'app.properties:1: has a non-ASCII character\napp.properties:2: has a non-ASCII character\n' ''
+run -e latin1 check two.properties app.properties
+gives 1 'two.properties:1: looks like UTF-8; without -e it is read as UTF-8\n' ''
+run -i two.properties convert ascii
+run -a check two.properties
+gives 0 '' ''
 rm one.properties two.properties
 
 # set and remove
@@ -732,8 +750,10 @@ is_refused "the option '-f FILE' cannot be used with '-i FILE'" "$(shape set)" -
 is_refused "the option '-f FILE' cannot be used with '-i FILE'" "$(shape set)" -i a -f a set a 1
 is_refused "the option '-f FILE' cannot be used with 'check FILE ..'" "$(shape check)" \
     -f app.properties check app.properties
-for words in 'get a' list check 'remove a' 'remove a remove b'; do
+for words in 'get a' list 'remove a' 'remove a remove b'; do
     is_refused "the option '-a' cannot be used with '${words%% *}'" "$(shape ${words%% *})" -a $words
+done
+for words in 'get a' list check 'remove a' 'remove a remove b'; do
     is_refused "the option '-x' cannot be used with '${words%% *}'" "$(shape ${words%% *})" -x $words
 done
 is_refused "the option '-x' cannot be used with '--create'" "$(shape set)" -x --create -i new.properties set a 1
