@@ -34,6 +34,7 @@ use properties_tools::messages::{Escaped, print_error, print_line};
 use properties_tools::propedit::answers::{answer_to, name};
 use properties_tools::propedit::request::{Allowed, Change, Command, Conversion, Edits, FileChange, Missing, Request, Source, Terminator, Job};
 use properties_tools::propedit::error::{Failure, print_failure};
+use properties_tools::propedit::hint::{possible_files, print_reading, refused_file};
 use properties_tools::propedit::in_place::{Target, edit_file};
 use properties_tools::propedit::ill_formed::ill_formed_lines;
 use properties_tools::propedit::{self, change::change, check::report, exit_status, get::get, list::list, pairs::list_values, replacement};
@@ -73,6 +74,7 @@ GIVEN = {
     "repertoire": "let repertoire = Repertoire::Utf8;",
     "line": "let mut line = LineBuffer::new(alloc);",
     "keys": "let keys: Vec<String> = Vec::new(alloc);",
+    "files": "let files: Vec<String> = Vec::new(alloc);",
     "key": 'let key = String::from_str(alloc, "k")?;',
     "source": 'let source: &[u8] = b"port=80";',
     "port": 'let port = String::from_str(alloc, "port")?;',

@@ -5,7 +5,7 @@
 #     docs/try_propedit.sh crates/propedit/out/propedit
 #
 # Run as root, it also tries files and folders of another user. With a JDK, it has Java read what -a and convert write. With strace, it
-# tries what is synced and calls of the system that fail, with setfacl access control lists, with python3 the peak memory.
+# tries what is synced and calls of the system that fail, with setfacl access control lists, with python3 a terminal and the peak memory.
 set -u
 [ $# = 1 ] && [ -x "$1" ] || { echo "usage: try_propedit.sh PROGRAM" >&2; exit 2; }
 work=$(mktemp -d)
@@ -189,8 +189,12 @@ gives 0 'a.x\na.y\n' ''
 run list ''
 gives 0 'b\na.x\na.y\nno\n' ''
 run list c
-gives 1 '' ''
+gives 1 '' "propedit: no key begins with 'c'; a file is named by -f\n"
 run list a.x.
+gives 1 '' "propedit: no key begins with 'a.x.'; a file is named by -f\n"
+run -f app.properties list c
+gives 1 '' ''
+run -f - list c
 gives 1 '' ''
 run -z list a.
 gives 0 'a.x\0a.y\0' ''
@@ -203,16 +207,83 @@ gives 0 'a.x=6\na.y=5\n' ''
 run -zv -f app.properties list a.
 gives 0 'a.x\00006\0a.y\00005\0' ''
 run -v list c
-gives 1 '' ''
+gives 1 '' "propedit: no key begins with 'c'; a file is named by -f\n"
 command='propedit -z list | while read'
 is "$(../propedit -f app.properties -z list | while IFS= read -r -d '' key; do echo "($key)"; done)" $'(b)\n(a.x)\n(a.y)\n(no)'
 run list -z
-gives 1 '' ''
+gives 1 '' "propedit: no key begins with '-z'; options come before the command\n"
+run -f app.properties list -v
+gives 1 '' "propedit: no key begins with '-v'; options come before the command\n"
 given ''
 run list
 gives 1 '' ''
 run get a
 gives 1 '' ''
+
+# Files that are taken for a KEY or a PREFIX
+
+given 'port = 80\n'
+mkdir folder
+run get port app.properties
+gives 1 '80\n' "propedit: no pair has the key 'app.properties'; a file is named by -f\n"
+run list app.properties
+gives 1 '' "propedit: no key begins with 'app.properties'; a file is named by -f\n"
+run get port folder nowhere
+gives 1 '80\n' ''
+run -f app.properties get port app.properties
+gives 1 '80\n' ''
+run -f - get port app.properties
+gives 1 '80\n' ''
+is_refused "the KEY 'app.properties' is the name of a file; '-f app.properties' reads it, and '-f -' standard input" \
+    'Usage: propedit [OPTION ..] get KEY ..' -d 8080 get port app.properties
+run -d 8080 get app.properties port
+gives 0 '8080\n80\n' ''
+run -d 8080 get port folder
+gives 0 '80\n8080\n' ''
+run -d 8080 -f - get port app.properties
+gives 0 '80\n8080\n' ''
+printf 'app.properties = 1\n' >../input
+run get app.properties
+gives 0 '1\n' ''
+rmdir folder
+
+# Standard input that is a terminal
+
+if command -v python3 >../trace; then
+    # Runs the program in a terminal, in which `port = 80` and the end of the input are typed. All that it prints is one text.
+    in_terminal() {
+        command="propedit $* (in a terminal)"
+        python3 -c 'import os, pty, sys
+pid, terminal = pty.fork()
+if pid == 0:
+    os.execv(sys.argv[1], sys.argv[1:])
+os.write(terminal, b"port = 80\n\4")
+printed = b""
+try:
+    while more := os.read(terminal, 4096):
+        printed += more
+except OSError:  # the terminal was closed
+    pass
+sys.stdout.buffer.write(printed.replace(b"\r", b"").replace(b"port = 80\n", b"", 1))
+sys.exit(os.waitstatus_to_exitcode(os.waitpid(pid, 0)[1]))' ../propedit "$@" >../output 2>../errors
+        status=$?
+    }
+    reading="propedit: reading standard input; '-f FILE' reads a file"
+    in_terminal get port
+    gives 0 "$reading\n80\n" ''
+    in_terminal check
+    gives 0 "$reading\n" ''
+    in_terminal set port 8080
+    gives 0 "$reading\nport = 8080\n" ''
+    in_terminal list app.properties
+    gives 1 "$reading\npropedit: no key begins with 'app.properties'; a file is named by -f\n" ''
+    in_terminal -f - get port
+    gives 0 '80\n' ''
+    in_terminal check -
+    gives 0 '' ''
+else
+    echo 'not tried, since python3 is not at hand: standard input that is a terminal' >&2
+fi
 
 # check
 

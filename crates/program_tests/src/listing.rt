@@ -7,7 +7,6 @@ const KEYS: &[u8] = b"b.x = 1\n# b\n! c\nb.\\u0079 = 2\na=\nb.x = 3\nb";
 
 const LIST: &[Row] = &[
     ("list", b"a=1\nb=2\na = 3", 0, b"a\nb\n"),
-    ("list c", b"a=1", 1, b""),
     ("list --", b"a=1", 0, b"a\n"),
     ("list -- --", b"--=1\na=2", 0, b"--\n"),
     ("list --help", b"--help=1\na=2", 0, b"--help\n"),
@@ -15,7 +14,6 @@ const LIST: &[Row] = &[
     ("-e utf-16le list", b"a\0=\01\0", 0, b"a\n"),
     ("list", KEYS, 0, b"b.x\nb.y\na\nb\n"),
     ("-z list b.", KEYS, 0, b"b.x\0b.y\0"),
-    ("list b.z", KEYS, 1, b""),
 ];
 
 #[test]
@@ -29,7 +27,6 @@ const PAIRS: &[u8] =
 
 const LIST_VALUES: &[Row] = &[
     ("-v list", b"a=1\nb=2\na = 3", 0, b"a=3\nb=2\n"),
-    ("--values list c", b"a=1", 1, b""),
     ("-zv list", b"", 1, b""),
     ("-v list -- --", b"--=1\na=2", 0, b"--=1\n"),
     ("-v list", PAIRS, 0, b"b.x=\xc3\xa9\nb.y=23\na=\nb=c=d\ne\n"),

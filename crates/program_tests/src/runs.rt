@@ -3,8 +3,11 @@
 use crate::same::{Bytes, same};
 use crate::streams::{AMPLE, Plan, reader, sink, words_of};
 use counted_io::{CountedRead, CountedWrite, ScriptedSink, Tail};
+use propedit_arguments::mistake::Mistake;
+use propedit_arguments::parse::explain_mistake;
 use propedit_arguments::{asked_for, explain};
-use properties_tools::propedit::request::Request;
+use properties_tools::propedit::hint::{possible_files, refused_file};
+use properties_tools::propedit::request::{Job, Request};
 use properties_tools::{propedit, propfilter};
 use std::alloc::{AllocError, Global};
 use std::process::Abort;
@@ -16,20 +19,22 @@ pub enum Program {
     Propedit,
 }
 
-/// How the streams of a run behave.
+/// How the streams of a run behave, and what files are there.
 #[derive(Clone, Copy)]
 pub struct Streams {
     /// What comes after the input.
     pub tail: Tail,
     pub output: Plan,
     pub errors: Plan,
+    pub files: &'static [&'static str],
 }
 
-/// Streams that don't fail.
+/// Streams that don't fail, and no files.
 pub const SOUND: Streams = Streams {
     tail: Tail::End,
     output: AMPLE,
     errors: AMPLE,
+    files: &[],
 };
 
 // What stands for the status where files are to be checked or edited.
@@ -38,14 +43,35 @@ const FILES: u8 = 3;
 fn edit<R: CountedRead, W: CountedWrite, E: CountedWrite>(
     alloc: Global,
     words: &[String],
+    there: &[&str],
     input: &mut R,
     output: &mut W,
     errors: &mut E,
-) -> u8 {
+) -> Result<u8, AllocError> {
     match asked_for(alloc, words) {
-        Ok(Request::Job(job)) => propedit::run(alloc, &job, input, output, errors),
-        Ok(_) => FILES,
-        Err(error) => explain(alloc, error, output, errors),
+        Ok(Request::Job(job)) => do_job(alloc, &job, there, input, output, errors),
+        Ok(_) => Ok(FILES),
+        Err(error) => Ok(explain(alloc, error, output, errors)),
+    }
+}
+
+fn do_job<R: CountedRead, W: CountedWrite, E: CountedWrite>(
+    alloc: Global,
+    job: &Job,
+    there: &[&str],
+    input: &mut R,
+    output: &mut W,
+    errors: &mut E,
+) -> Result<u8, AllocError> {
+    let mut files = Vec::new(alloc);
+    for name in possible_files(job) {
+        if there.contains(&name.as_str()) {
+            files.push(name.clone()?)?;
+        }
+    }
+    match refused_file(job, &files) {
+        Some(file) => Ok(explain_mistake(alloc, Mistake::FileAsKey(file), errors)),
+        None => Ok(propedit::run(alloc, job, &files, input, output, errors)),
     }
 }
 
@@ -65,7 +91,14 @@ pub fn run(
     let mut errors = sink(alloc, streams.errors);
     let status = match program {
         Program::Propfilter => propfilter::run(alloc, words, &mut input, &mut output, &mut errors),
-        Program::Propedit => edit(alloc, words, &mut input, &mut output, &mut errors),
+        Program::Propedit => edit(
+            alloc,
+            words,
+            streams.files,
+            &mut input,
+            &mut output,
+            &mut errors,
+        )?,
     };
     Ok((status, output, errors))
 }

@@ -2,18 +2,21 @@
 #![tactic(auto)]
 
 use counted_io::{Counted, CountedWrite};
+use propedit_arguments::mistake::Mistake;
+use propedit_arguments::parse::explain_mistake;
 use propedit_arguments::{
     asked_for, explain, explain_name, explain_not_utf_8, marked_words, name_of_marked,
 };
 use properties_tools::arguments::words;
 use properties_tools::propedit::error::Failure;
+use properties_tools::propedit::hint::{possible_files, print_reading, refused_file};
 use properties_tools::propedit::in_place::edit_file;
 use properties_tools::propedit::request::{CheckedFiles, Command, Job, Request, Source};
 use properties_tools::propedit::{exit_status, print_out_of_memory, run};
-use std::alloc::Global;
+use std::alloc::{AllocError, Global};
 use std::env;
-use std::fs::File;
-use std::io::{self, BufWriter};
+use std::fs::{self, File};
+use std::io::{self, BufWriter, IsTerminal};
 use std::process::ExitCode;
 
 // How many bytes are written at once.
@@ -67,11 +70,62 @@ fn do_job<W: CountedWrite, E: CountedWrite>(
     errors: &mut E,
 ) -> u8 {
     match &job.source {
-        Source::StandardInput => run(alloc, job, &mut Counted::new(rt.stdin()), output, errors),
+        Source::StandardInput => run_unnamed(rt, alloc, job, output, errors),
+        Source::Dash => run(
+            alloc,
+            job,
+            &[],
+            &mut Counted::new(rt.stdin()),
+            output,
+            errors,
+        ),
         Source::File(path) => match File::open(rt, path.as_str()) {
-            Ok(file) => run(alloc, job, &mut Counted::new(file), output, errors),
+            Ok(file) => run(alloc, job, &[], &mut Counted::new(file), output, errors),
             Err(error) => exit_status(alloc, errors, path.as_str(), Err(Failure::from(error))),
         },
+    }
+}
+
+// Runs a command on standard input, where no file is named.
+fn run_unnamed<W: CountedWrite, E: CountedWrite>(
+    rt: &HostRuntime,
+    alloc: Global,
+    job: &Job,
+    output: &mut W,
+    errors: &mut E,
+) -> u8 {
+    let Ok(files) = files_among(rt, alloc, possible_files(job)) else {
+        return print_out_of_memory(errors);
+    };
+    if let Some(file) = refused_file(job, &files) {
+        return explain_mistake(alloc, Mistake::FileAsKey(file), errors);
+    }
+    let input = rt.stdin();
+    if input.is_terminal() {
+        print_reading(errors);
+    }
+    run(alloc, job, &files, &mut Counted::new(input), output, errors)
+}
+
+// Returns the names that files have.
+fn files_among(
+    rt: &HostRuntime,
+    alloc: Global,
+    names: &[String],
+) -> Result<Vec<String>, AllocError> {
+    let mut files = Vec::new(alloc);
+    for name in names {
+        if is_file(rt, name.as_str()) {
+            files.push(name.clone()?)?;
+        }
+    }
+    Ok(files)
+}
+
+fn is_file(rt: &HostRuntime, name: &str) -> bool {
+    match fs::metadata(rt, name) {
+        Ok(metadata) => metadata.is_file(),
+        Err(_) => false,
     }
 }
 
@@ -99,7 +153,7 @@ fn check_files<W: CountedWrite, E: CountedWrite>(
 // The name `-` is that of standard input.
 fn source_named(path: String) -> Source {
     if path.as_str() == "-" {
-        Source::StandardInput
+        Source::Dash
     } else {
         Source::File(path)
     }
@@ -115,7 +169,7 @@ fn check_file<W: CountedWrite, E: CountedWrite>(
 ) -> u8 {
     let marked = match &job.source {
         Source::File(path) => name_of_marked(path.as_str()),
-        Source::StandardInput => None,
+        Source::StandardInput | Source::Dash => None,
     };
     match marked {
         Some(name) => explain_name(alloc, name, errors),

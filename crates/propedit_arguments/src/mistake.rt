@@ -79,6 +79,8 @@ pub enum Mistake<'a> {
     NoKey(&'static str),
     /// The setting of this key has no value.
     NoValue(&'a str),
+    /// This key of `get` is the name of a file, and a default would hide it.
+    FileAsKey(&'a str),
     /// Memory ran out.
     Memory,
 }
@@ -103,6 +105,7 @@ impl Mistake<'_> {
             | Mistake::Surplus(_, row) => Usage::Of(row),
             Mistake::NoKey(name) => usage_of(name),
             Mistake::NoValue(_) => usage_of("set"),
+            Mistake::FileAsKey(_) => usage_of("get"),
             Mistake::NoEdit(_) => Usage::Edits,
             _ => Usage::All,
         }
@@ -196,6 +199,13 @@ impl fmt::Display for Mistake<'_> {
             Mistake::NoEdit(word) => show_no_edit(f, word),
             Mistake::NoKey(name) => write!(f, "'{name}' lacks its KEY"),
             Mistake::NoValue(key) => show_no_value(f, key),
+            Mistake::FileAsKey(name) => {
+                let name = Escaped(name);
+                write!(
+                    f,
+                    "the KEY '{name}' is the name of a file; '-f {name}' reads it, and '-f -' standard input"
+                )
+            }
             Mistake::Memory => f.write_str("Out of memory."),
         }
     }

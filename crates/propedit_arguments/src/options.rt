@@ -220,7 +220,8 @@ impl<'a> Options<'a> {
         command: Command,
     ) -> Result<Request, Mistake<'a>> {
         let source = match self.value(OptionName::File) {
-            None | Some(STANDARD_INPUT) => Source::StandardInput,
+            None => Source::StandardInput,
+            Some(STANDARD_INPUT) => Source::Dash,
             Some(path) => Source::File(String::from_str(alloc, path)?),
         };
         Ok(Request::Job(Job {

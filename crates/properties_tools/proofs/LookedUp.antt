@@ -1,6 +1,9 @@
 -- Values of some keys that are looked up.
 use Rattle.std.proofs.Common.{◌≡◌, ℕ, ◌+◌, ◌<◌, false, List, [], ◌∷◌, ◌++◌, length, map, drop, get_or, zero, suc, refl, sym, ap, ◌∙◌, inl, inr, subst, arith}
-use Rattle.std.specs.Prelude.{◌⊎◌, ◌==◌, Option, Some, None}
+use Rattle.std.specs.Prelude.{◌⊎◌, ◌==◌, Option, Some, None, Ok}
+use Rattle.std.specs.Borrow.{Bor}
+use Rattle.std.specs.Option.{option_map}
+use Rattle.std.specs.Str.{chars}
 use Rattle.std.specs.declared.string.String.{String}
 use native.Mathlib.Numerals.{unary_clauses}
 use Rattle.properties_format.specs.Encoding.{Encoding}
@@ -17,7 +20,9 @@ use Rattle.properties_items.specs.declared.error.PropertiesError.{PropertiesErro
 use Rattle.properties_tools.specs.Propedit.Change.{keys_set, HasKeys, IsFirstAbsent}
 use Rattle.properties_tools.specs.Propedit.Get.{HaveValues}
 use Rattle.properties_tools.specs.Propedit.Sources.{HasSoundBytes, IsSound}
+use Rattle.properties_tools.specs.Propedit.Texts.{borrowed_characters}
 use Rattle.properties_tools.specs.Private.Collected.{first_without, key_set}
+use Rattle.properties_tools.specs.Private.Hinting.{FindsAbsent}
 
 -- ---- a sound source
 
@@ -78,6 +83,12 @@ module _ (e : Encoding) (source : List ℕ) where
   one-absent (k ∷ ks) (None ∷ vs) key h is =
       let same : k ≡ key = cc in
       record { before = []; after = ks; division = ap (λ v. v ∷ ks) same; passed = tt; absent = subst (λ v. HasPairValue e source v None) same h.0 }
+
+  pub absent-found : (keys : List (List ℕ)) (values : List (Option (List ℕ))) (found : Option (Bor (List ℕ))) → HaveValues e source keys values
+      → option_map borrowed_characters found ≡ first_without keys values
+      → FindsAbsent e source keys (Ok found)
+  absent-found keys values None h is = none-absent keys values h is
+  absent-found keys values (Some key) h is = one-absent keys values (chars key.now) h is
 
 -- One more edit sets a key,
 pub edits-put : (edits : List format.Edit) (edit : format.Edit) (key : List ℕ) → Some key ≡ key_set edit

@@ -4,6 +4,7 @@ pub mod Change
 pub mod Check
 pub mod Failures
 pub mod Get
+pub mod Hints
 pub mod InPlace
 pub mod Lines
 pub mod Listing
@@ -18,6 +19,7 @@ use Rattle.properties_tools.specs.Propedit.Change.{Changes}
 use Rattle.properties_tools.specs.Propedit.Check.{IsReport}
 use Rattle.properties_tools.specs.Propedit.Failures.{LacksMemory, failure_status, standard_output, PrintsFailure}
 use Rattle.properties_tools.specs.Propedit.Get.{Gets}
+use Rattle.properties_tools.specs.Propedit.Hints.{hint_bytes, IsHint, PrintsHint}
 use Rattle.properties_tools.specs.Propedit.Listing.{Lists, ListsValues}
 use Rattle.properties_tools.specs.declared.propedit.answer.Answer.{Answer}
 use Rattle.properties_tools.specs.declared.propedit.request.Allowed.{Allowed}
@@ -25,10 +27,11 @@ use Rattle.properties_tools.specs.declared.propedit.request.Command.{Command}
 use Rattle.properties_tools.specs.declared.propedit.request.Change.{Change as AskedChange}
 use Rattle.properties_tools.specs.declared.propedit.request.Command.TheVariants as command
 use Rattle.properties_tools.specs.declared.propedit.request.Source.{Source}
-use Rattle.properties_tools.specs.declared.propedit.request.Source.TheVariants.{StandardInput, File}
+use Rattle.properties_tools.specs.declared.propedit.request.Source.TheVariants.{StandardInput, Dash, File}
 use Rattle.properties_tools.specs.declared.propedit.request.Job.{Job}
 use Rattle.properties_tools.specs.declared.propedit.error.Failure.{Failure}
-use Rattle.std.specs.Global.{Vec}
+use Rattle.std.specs.Global.{Global, Vec}
+use Rattle.std.specs.declared.string.String.{String}
 use Rattle.counted_io.specs.Streams.{Reader, Sink}
 use Rattle.java_properties.specs.WholeSources.{GivesWhole, ReadsSource, WritesSource}
 use Rattle.properties_items.specs.declared.error.PropertiesError.{PropertiesError}
@@ -37,6 +40,7 @@ use Rattle.properties_tools.specs.declared.propedit.error.Failure.TheVariants.{I
 -- the name of a source in messages
 abbrev pub name_of : Source → List ℕ
 name_of StandardInput = codes "standard input"
+name_of Dash = codes "standard input"
 name_of (File path) = string_bytes path
 
 -- The status of a report: 0 where it is empty.
@@ -106,20 +110,26 @@ pub record FailsInOutput {R W : Type 0} (reader : Reader R) (sink : Sink W) (job
   pub prints : PrintsAnswer reader sink job input output answer (Err error) input' output'
   pub is : failure ≡ Output error
 
--- What printing the answer to a command returns: the answer's status, or why it failed.
-abbrev pub Prints : {R W : Type 0} → Reader R → Sink W → Job → R → W → Result ℕ Failure → R → W → Type 0
-Prints reader sink job input output (Ok status) input' output' =
-    (answer : Answer) × PrintsAnswer reader sink job input output answer (Ok tt) input' output' × (status ≡ answer.status)
-Prints reader sink job input output (Err failure) input' output' =
+-- What printing the answer to a command returns: the answer's status and what is said of it, or why it failed.
+abbrev pub Prints : {R W : Type 0} → Reader R → Sink W → Job → List (List ℕ) → R → W → Result (ℕ × Option (String Global)) Failure → R → W → Type 0
+Prints reader sink job files input output (Ok said) input' output' =
+    (answer : Answer) × (printed : PrintsAnswer reader sink job input output answer (Ok tt) input' output') × (said.0 ≡ answer.status)
+    × IsHint job files printed.source answer.status (hint_bytes said.1)
+Prints reader sink job files input output (Err failure) input' output' =
     FailsInSource reader job input output failure input' output'
     ⊎ (HasNoAnswer reader job input output failure input' output' ⊎ FailsInOutput reader sink job input output failure input' output')
 
--- What the program does for a command: it reads the source, prints the answer, and ends so.
-pub record Runs {R W E : Type 0} (reader : Reader R) (sink : Sink W) (error_sink : Sink E) (job : Job) (input : R) (output : W) (errors : E)
-    (status : ℕ) (input' : R) (output' : W) (errors' : E) : Type 0 where
-  pub result : Result ℕ Failure
-  pub prints : Prints reader sink job input output result input' output'
-  pub ends : Ends error_sink (name_of job.source) errors result status errors'
+-- The status is that of the answer, and what is said of it is printed; or it ends as at any failure.
+abbrev pub EndsSaying : {E : Type 0} → Sink E → List ℕ → E → Result (ℕ × Option (String Global)) Failure → ℕ → E → Type 0
+EndsSaying error_sink name errors (Ok said) status errors' = (status ≡ said.0) × PrintsHint error_sink errors (hint_bytes said.1) errors'
+EndsSaying error_sink name errors (Err failure) status errors' = Ends error_sink name errors (Err failure) status errors'
+
+-- What the program does for a command: it reads the source, prints the answer, and ends so. These files are there.
+pub record Runs {R W E : Type 0} (reader : Reader R) (sink : Sink W) (error_sink : Sink E) (job : Job) (files : List (List ℕ)) (input : R) (output : W)
+    (errors : E) (status : ℕ) (input' : R) (output' : W) (errors' : E) : Type 0 where
+  pub result : Result (ℕ × Option (String Global)) Failure
+  pub prints : Prints reader sink job files input output result input' output'
+  pub ends : EndsSaying error_sink (name_of job.source) errors result status errors'
 
 -- ---- a text
 

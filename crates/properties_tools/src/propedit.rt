@@ -7,6 +7,7 @@ pub mod check;
 pub mod error;
 mod first_keys;
 pub mod get;
+pub mod hint;
 pub mod ill_formed;
 pub mod in_place;
 mod line_findings;
@@ -16,8 +17,9 @@ pub mod request;
 pub mod sound;
 mod values;
 
-ghost use Rattle.std.specs.Prelude.{◌≡◌};
+ghost use Rattle.std.specs.Prelude.{◌≡◌, map};
 ghost use Rattle.counted_io.specs.Streams.{IsSameReader, IsSameSink};
+ghost use Rattle.java_properties.specs.Maps.{characters};
 ghost use Rattle.properties_text.specs.Encoding.{encoding_of};
 ghost use Rattle.properties_tools.specs.Messages.{printed_line, HasPrintedLine};
 ghost use Rattle.properties_tools.specs.Propedit.{Ends, Prints, Replaces, Runs, PrintsText};
@@ -27,6 +29,7 @@ use crate::messages::print_line;
 use crate::propedit::answers::{answer_to, name};
 use crate::propedit::change::change;
 use crate::propedit::error::{FAILED, Failure, NO_MEMORY, STANDARD_OUTPUT, print_failure};
+use crate::propedit::hint::{hint, print_hint};
 use crate::propedit::request::{Change, Job};
 use counted_io::{CountedRead, CountedWrite};
 use java_properties::{Encoding, read_source, write_source};
@@ -37,46 +40,57 @@ use std::alloc::Global;
 /// The status is that of the answer, or of a failure; a line on `errors` then says why. If the source can't be
 /// read, or the command refuses it, nothing is printed on `output`. Nothing is written to the source.
 ///
+/// `files` are the names among `possible_files` that are there. If nothing is found that was asked for, a line on
+/// `errors` may say that a PREFIX looks like an option or a file, or that one of these files was taken for a KEY.
+///
 /// ```text
 /// let mut input: &[u8] = b"# the front door\nport = 80\n";
 /// let mut output = Counted::new(Vec::new(alloc));
 /// let mut errors = Counted::new(Vec::new(alloc));
 /// // For the arguments `get port` the status is 0, and the output holds `80` and a line feed.
-/// propedit::run(alloc, &job, &mut input, &mut output, &mut errors);
+/// propedit::run(alloc, &job, &[], &mut input, &mut output, &mut errors);
 /// ```
 pub fn run<R: CountedRead, W: CountedWrite, E: CountedWrite>(
     alloc: Global,
     job: &Job,
+    files: &[String],
     input: &mut R,
     output: &mut W,
     errors: &mut E,
 ) -> u8
-    ensures runs { Runs R.CountedRead W.CountedWrite E.CountedWrite job.now
+    ensures runs { Runs R.CountedRead W.CountedWrite E.CountedWrite job.now (map characters files.now)
         input.old output.old errors.old result input.new output.new errors.new }
     ensures same_reader { IsSameReader R.CountedRead input.old input.new }
     ensures same_sink { IsSameSink W.CountedWrite output.old output.new }
     ensures same_error_sink { IsSameSink E.CountedWrite errors.old errors.new }
 {
-    let printed = print_answer(alloc, job, input, output);
-    exit_status(alloc, errors, name(&job.source), printed)
+    match print_answer(alloc, job, files, input, output) {
+        Ok((status, hint)) => {
+            print_hint(errors, &hint);
+            status
+        }
+        Err(failure) => exit_status(alloc, errors, name(&job.source), Err(failure)),
+    }
 }
 
-// Prints what the command gives for the source, and returns the status of the answer.
+// Prints what the command gives for the source, and returns the status of the answer, and what is to be said of it.
 fn print_answer<R: CountedRead, W: CountedWrite>(
     alloc: Global,
     job: &Job,
+    files: &[String],
     input: &mut R,
     output: &mut W,
-) -> Result<u8, Failure>
-    ensures prints { Prints R.CountedRead W.CountedWrite job.now
+) -> Result<(u8, Option<String>), Failure>
+    ensures prints { Prints R.CountedRead W.CountedWrite job.now (map characters files.now)
         input.old output.old result input.new output.new }
     ensures same_reader { IsSameReader R.CountedRead input.old input.new }
     ensures same_sink { IsSameSink W.CountedWrite output.old output.new }
 {
     let source = read_source(alloc, input, job.encoding)?;
     let answer = answer_to(alloc, job, &source)?;
+    let hint = hint(alloc, job, files, &source, answer.status)?;
     match write_source(output, &answer.text) {
-        Ok(()) => Ok(answer.status),
+        Ok(()) => Ok((answer.status, hint)),
         Err(error) => Err(Failure::Output(error)),
     }
 }

@@ -24,7 +24,7 @@ pub fn name(source: &Source) -> &str
     ensures { result.now ≡ name_of source.now }
 {
     match source {
-        Source::StandardInput => "standard input",
+        Source::StandardInput | Source::Dash => "standard input",
         Source::File(path) => path.as_str(),
     }
 }

@@ -6,6 +6,7 @@ ghost use Rattle.java_properties.specs.Editing.{edit_in, edits_in};
 ghost use Rattle.java_properties.specs.Maps.{characters};
 ghost use Rattle.properties_text.specs.Encoding.{encoding_of};
 ghost use Rattle.properties_tools.specs.Private.Collected.{first_without, key_set, value_texts, RefusesIfAbsent};
+ghost use Rattle.properties_tools.specs.Private.Hinting.{FindsAbsent};
 ghost use Rattle.properties_tools.specs.Propedit.Change.{keys_set, Changes, ChangesByEdits, Converts};
 ghost use Rattle.properties_tools.specs.Propedit.Texts.{borrowed_characters};
 
@@ -87,11 +88,23 @@ fn refuse_absent(
     ensures { RefusesIfAbsent (encoding_of encoding) source.now (keys_set (edits_in edits.now)) result }
 {
     let keys = keys_set(alloc, edits)?;
-    let values = values_of(alloc, source, encoding, &keys)?;
-    match first_without_value(&keys, &values) {
+    match first_absent(alloc, source, encoding, &keys)? {
         Some(key) => Err(Failure::Absent(String::from_str(alloc, key)?)),
         None => Ok(()),
     }
+}
+
+/// Returns the first of these keys that no pair of a sound source has.
+pub(crate) fn first_absent<'a>(
+    alloc: Global,
+    source: &[u8],
+    encoding: Encoding,
+    keys: &'a [String],
+) -> Result<Option<&'a str>, Failure>
+    ensures { FindsAbsent (encoding_of encoding) source.now (map characters keys.now) result }
+{
+    let values = values_of(alloc, source, encoding, keys)?;
+    Ok(first_without_value(keys, &values))
 }
 
 // Returns the keys that edits set, in order.

@@ -84,7 +84,10 @@ pub enum Missing {
 /// Where the bytes come from.
 #[derive(Drop)]
 pub enum Source {
+    /// Standard input, since no file is named.
     StandardInput,
+    /// Standard input, which is named `-`.
+    Dash,
     /// The file of this name.
     File(String),
 }

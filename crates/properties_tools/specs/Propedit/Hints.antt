@@ -1,0 +1,110 @@
+-- What is said of words that may have been meant otherwise.
+use Rattle.std.specs.Prelude.{◌≡◌, ◌==◌, ℕ, Bool, true, false, if◌then◌else◌, List, [], ◌∷◌, ◌++◌, Option, Some, None, codes, string_bytes}
+use Rattle.std.specs.Borrow.{Bor}
+use Rattle.std.specs.Global.{Global}
+use Rattle.std.specs.Option.{option_map}
+use Rattle.std.specs.Str.{chars}
+use Rattle.std.specs.declared.string.String.{String}
+use Rattle.counted_io.specs.Streams.{Sink}
+use Rattle.properties_format.specs.Encoding.{Encoding}
+use Rattle.properties_text.specs.Encoding.{encoding_of}
+use Rattle.properties_tools.specs.Messages.{escaped, printed_line, HasPrintedLine}
+use Rattle.properties_tools.specs.Propedit.Change.{HasKeys, IsFirstAbsent}
+use Rattle.properties_tools.specs.declared.propedit.request.Command.{Command}
+use Rattle.properties_tools.specs.declared.propedit.request.Command.TheVariants.{Get, ListValues}
+use Rattle.properties_tools.specs.declared.propedit.request.Command.TheVariants as command
+use Rattle.properties_tools.specs.declared.propedit.request.Job.{Job}
+use Rattle.properties_tools.specs.declared.propedit.request.Source.{Source}
+use Rattle.properties_tools.specs.declared.propedit.request.Source.TheVariants.{StandardInput}
+
+-- the bytes of a text that is borrowed
+abbrev pub borrowed_bytes : Bor (List ℕ) → List ℕ
+borrowed_bytes text = text.now
+
+-- ---- before standard input is read
+
+-- what is said in a terminal
+abbrev pub reading_line : List ℕ
+reading_line = printed_line (codes "propedit: reading standard input; '-f FILE' reads a file")
+
+abbrev pub without_first : {X : Type 0} → List X → List X
+without_first [] = []
+without_first (key ∷ keys) = keys
+
+-- The KEYs that may be files by mistake: those of `get` where no file is named, but with a default not the first one.
+abbrev pub possible_files : Source → Command → List (String Global)
+possible_files StandardInput (Get keys None end) = keys.items
+possible_files StandardInput (Get keys (Some default) end) = without_first keys.items
+possible_files source command = []
+
+abbrev pub first_name : List (String Global) → Option (List ℕ)
+first_name [] = None
+first_name (file ∷ files) = Some (string_bytes file)
+
+-- The first of these files, where a default would hide that it was taken for a KEY.
+abbrev pub refused_file : Command → List (String Global) → Option (List ℕ)
+refused_file (Get keys (Some default) end) files = first_name files
+refused_file command files = None
+
+-- ---- of an answer that finds nothing
+
+abbrev pub is_a_file : List ℕ
+is_a_file = codes "a file is named by -f"
+
+abbrev pub is_an_option : List ℕ
+is_an_option = codes "options come before the command"
+
+-- the line of a KEY that no pair has
+abbrev pub key_line : List ℕ → List ℕ
+key_line key = codes "propedit: no pair has the key '" ++ (escaped key ++ (codes "'; " ++ printed_line is_a_file))
+
+-- the line of a PREFIX that no key begins with
+abbrev pub prefix_line : List ℕ → List ℕ → List ℕ
+prefix_line prefix advice = codes "propedit: no key begins with '" ++ (escaped prefix ++ (codes "'; " ++ printed_line advice))
+
+-- a file would be named, where none is
+abbrev pub file_advice : Source → Option (List ℕ)
+file_advice StandardInput = Some is_a_file
+file_advice source = None
+
+-- What a PREFIX may have been meant as: an option, if it begins with a dash, or else a file.
+abbrev pub prefix_advice : Source → List ℕ → Option (List ℕ)
+prefix_advice source [] = None
+prefix_advice source (byte ∷ bytes) = if byte == 45 then Some is_an_option else file_advice source
+
+abbrev pub prefix_hint : Source → List ℕ → Option (List ℕ)
+prefix_hint source prefix = option_map (prefix_line prefix) (prefix_advice source prefix)
+
+-- The line is that of the first of these files that no pair of the source has as its key.
+pub record NamesFile (e : Encoding) (source : List ℕ) (files : List (List ℕ)) (line : List ℕ) : Type 0 where
+  pub key : List ℕ
+  pub first : IsFirstAbsent e source files (chars key)
+  pub is : line ≡ key_line key
+
+-- There is a line if there is such a file.
+abbrev pub IsFileHint : Encoding → List ℕ → List (List ℕ) → Option (List ℕ) → Type 0
+IsFileHint e source files None = HasKeys e source files
+IsFileHint e source files (Some line) = NamesFile e source files line
+
+-- What is said where a command found nothing in a source. These files are there.
+abbrev pub IsHintOf : Source → Encoding → Command → List (List ℕ) → List ℕ → Option (List ℕ) → Type 0
+IsHintOf from e (Get keys default end) files source hint = IsFileHint e source files hint
+IsHintOf from e (command.List prefix end) files source hint = hint ≡ prefix_hint from (string_bytes prefix)
+IsHintOf from e (ListValues prefix end) files source hint = hint ≡ prefix_hint from (string_bytes prefix)
+IsHintOf from e other files source hint = hint ≡ None
+
+abbrev pub IsHintIf : Bool → Job → List (List ℕ) → List ℕ → Option (List ℕ) → Type 0
+IsHintIf true job files source hint = hint ≡ None
+IsHintIf false job files source hint = IsHintOf job.source (encoding_of job.encoding) job.command files source hint
+
+-- What is said of an answer with this status: nothing where something was found.
+abbrev pub IsHint : Job → List (List ℕ) → List ℕ → ℕ → Option (List ℕ) → Type 0
+IsHint job files source status hint = IsHintIf (status == 0) job files source hint
+
+abbrev pub hint_bytes : Option (String Global) → Option (List ℕ)
+hint_bytes hint = option_map string_bytes hint
+
+-- It is printed as a line.
+abbrev pub PrintsHint : {W : Type 0} → Sink W → W → Option (List ℕ) → W → Type 0
+PrintsHint sink old None new = new ≡ old
+PrintsHint sink old (Some line) new = HasPrintedLine sink old line new

@@ -1,0 +1,167 @@
+// What is said of words that may have been meant otherwise.
+
+ghost use Rattle.std.specs.Prelude.{◌≡◌, map, IfOk, string_bytes};
+ghost use Rattle.std.specs.Option.{option_map};
+ghost use Rattle.counted_io.specs.Streams.{IsSameSink};
+ghost use Rattle.java_properties.specs.Maps.{characters};
+ghost use Rattle.properties_text.specs.Encoding.{encoding_of};
+ghost use Rattle.properties_tools.specs.Messages.{HasPrintedLine};
+ghost use Rattle.properties_tools.specs.Private.Hinting.{FindsFileHint, FindsHint};
+ghost use Rattle.properties_tools.specs.Propedit.Hints.{borrowed_bytes, hint_bytes, key_line, possible_files, prefix_advice, prefix_hint, prefix_line, reading_line, refused_file, without_first, PrintsHint};
+
+use crate::messages::{Escaped, print_line};
+use crate::propedit::change::first_absent;
+use crate::propedit::error::Failure;
+use crate::propedit::request::{Command, Job, Source};
+use counted_io::CountedWrite;
+use java_properties::Encoding;
+use std::alloc::{AllocError, Global};
+
+const IS_A_FILE: &str = "a file is named by -f";
+
+const IS_AN_OPTION: &str = "options come before the command";
+
+const READING: &str = "propedit: reading standard input; '-f FILE' reads a file\n";
+
+/// Returns the KEYs of a job that may be files by mistake, if no file is named: those of `get`, but with a default not
+/// the first one.
+///
+/// ```text
+/// // For the arguments `get port app.properties` it returns both.
+/// let words = possible_files(&job);
+/// ```
+pub fn possible_files(job: &Job) -> &[String]
+    ensures { result.now ≡ possible_files job.now.source job.now.command }
+{
+    let Command::Get(keys, default, _) = &job.command else {
+        return &[];
+    };
+    match (&job.source, default) {
+        (Source::StandardInput, None) => keys.as_slice(),
+        (Source::StandardInput, Some(_)) => without_first(keys.as_slice()),
+        _ => &[],
+    }
+}
+
+fn without_first(keys: &[String]) -> &[String]
+    ensures { result.now ≡ without_first keys.now }
+{
+    match keys {
+        [_, others @ ..] => others,
+        [] => &[],
+    }
+}
+
+/// Returns the first of the `files` if the job has a default, with which nothing would tell that its KEY was taken for
+/// a file. The files are those of its possible files that are there.
+///
+/// ```text
+/// // For the arguments `-d 80 get port app.properties` it returns the name, and else `None`.
+/// let file = refused_file(&job, &files);
+/// ```
+pub fn refused_file<'a>(job: &Job, files: &'a [String]) -> Option<&'a str>
+    ensures { option_map borrowed_bytes result ≡ refused_file job.now.command files.now }
+{
+    match (&job.command, files) {
+        (Command::Get(_, Some(_), _), [file, ..]) => Some(file.as_str()),
+        _ => None,
+    }
+}
+
+/// Prints on `errors` that standard input is read, which nothing else shows in a terminal. What can't be printed is
+/// dropped.
+///
+/// ```text
+/// let mut errors = Counted::new(Vec::new(alloc));
+/// print_reading(&mut errors); // They hold `propedit: reading standard input; ..`, and a line feed.
+/// ```
+pub fn print_reading<E: CountedWrite>(errors: &mut E)
+    ensures prints { HasPrintedLine E.CountedWrite errors.old reading_line errors.new }
+    ensures same_sink { IsSameSink E.CountedWrite errors.old errors.new }
+{
+    print_line(errors, READING);
+}
+
+/// Returns the line that says of an answer with this status what a word may have been meant as: a PREFIX that no key
+/// begins with an option or a file, or a KEY that no pair has a file, if it is one of the `files`.
+pub(crate) fn hint(
+    alloc: Global,
+    job: &Job,
+    files: &[String],
+    source: &[u8],
+    status: u8,
+) -> Result<Option<String>, Failure>
+    ensures { FindsHint job.now (map characters files.now) source.now status result }
+{
+    if status == 0 {
+        return Ok(None);
+    }
+    match &job.command {
+        Command::Get(_, _, _) => file_hint(alloc, source, job.encoding, files),
+        Command::List(prefix, _) | Command::ListValues(prefix, _) => {
+            Ok(prefix_hint(alloc, &job.source, prefix.as_str())?)
+        }
+        Command::Check | Command::Change(_) => Ok(None),
+    }
+}
+
+/// Prints a hint, if there is one.
+pub(crate) fn print_hint<E: CountedWrite>(errors: &mut E, hint: &Option<String>)
+    ensures prints { PrintsHint E.CountedWrite errors.old (hint_bytes hint.now) errors.new }
+    ensures same_sink { IsSameSink E.CountedWrite errors.old errors.new }
+{
+    match hint {
+        Some(line) => print_line(errors, line.as_str()),
+        None => {}
+    }
+}
+
+// Returns the line for the first of these files that no pair has as its key.
+fn file_hint(
+    alloc: Global,
+    source: &[u8],
+    encoding: Encoding,
+    files: &[String],
+) -> Result<Option<String>, Failure>
+    ensures { FindsFileHint (encoding_of encoding) source.now (map characters files.now) result }
+{
+    match first_absent(alloc, source, encoding, files)? {
+        Some(key) => Ok(Some(key_line(alloc, key)?)),
+        None => Ok(None),
+    }
+}
+
+fn key_line(alloc: Global, key: &str) -> Result<String, AllocError>
+    ensures { IfOk result (λ line. string_bytes line ≡ key_line key.now) }
+{
+    let key = Escaped(key);
+    format!(in alloc; "propedit: no pair has the key '{key}'; {IS_A_FILE}\n")
+}
+
+fn prefix_hint(alloc: Global, source: &Source, prefix: &str) -> Result<Option<String>, AllocError>
+    ensures { IfOk result (λ hint. hint_bytes hint ≡ prefix_hint source.now prefix.now) }
+{
+    match prefix_advice(source, prefix) {
+        Some(advice) => Ok(Some(prefix_line(alloc, prefix, advice)?)),
+        None => Ok(None),
+    }
+}
+
+fn prefix_line(alloc: Global, prefix: &str, advice: &str) -> Result<String, AllocError>
+    ensures { IfOk result (λ line. string_bytes line ≡ prefix_line prefix.now advice.now) }
+{
+    let prefix = Escaped(prefix);
+    format!(in alloc; "propedit: no key begins with '{prefix}'; {advice}\n")
+}
+
+// Returns what is said of a PREFIX: that it looks like an option, or that a file would be named otherwise.
+fn prefix_advice(source: &Source, prefix: &str) -> Option<&'static str>
+    ensures { option_map borrowed_bytes result ≡ prefix_advice source.now prefix.now }
+{
+    match (prefix.as_bytes(), source) {
+        ([], _) => None,
+        ([b'-', ..], _) => Some(IS_AN_OPTION),
+        (_, Source::StandardInput) => Some(IS_A_FILE),
+        _ => None,
+    }
+}
