@@ -8,7 +8,7 @@ returns-in-Ok-clause-prints g c =
     let writes = rw c.deref-3.ensures.value at c.in-Ok.ensures.writes in
     (
       c.in_ok-answer.answer,
-      record { source = c.in_ok-source.source.items; read = c.in_ok-source.ensures; answers = answers; writes = writes },
+      record { source = c.in_ok-source.source.items; read = search rules; answers = answers; writes = writes },
       refl,
       hints,
     )
