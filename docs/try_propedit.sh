@@ -4,8 +4,9 @@
 #
 #     docs/try_propedit.sh crates/propedit/out/propedit
 #
-# Run as root, it also tries files and folders of another user. With a JDK, it has Java read what -a and convert write. With strace, it
-# tries what is synced and calls of the system that fail, with setfacl access control lists, with python3 a terminal and the peak memory.
+# Run as root, it also tries files and folders of another user, and a mount point. With a JDK, it has Java read what -a
+# and convert write. With strace, it tries what is synced and calls of the system that fail, with setfacl access control
+# lists, with python3 a terminal and the peak memory.
 set -u
 [ $# = 1 ] && [ -x "$1" ] || { echo "usage: try_propedit.sh PROGRAM" >&2; exit 2; }
 work=$(mktemp -d)
@@ -82,10 +83,10 @@ leaves_nothing() {
 run --help
 gives 0 "$(cat ../output)\n" ''
 cp ../output ../usage
-for words in 'Usage: propedit [OPTION ..] COMMAND [WORD ..]' '  get KEY ..  ' '  list [PREFIX]  ' '  check [FILE ..]  ' \
+for words in 'Usage: propedit [OPTION ..] COMMAND [ARGUMENT ..]' '  get KEY ..  ' '  list [PREFIX]  ' '  check [FILE ..]  ' \
     '  set KEY VALUE ..  ' '  remove KEY ..  ' '  convert ENCODING  ' '-f, --file FILE' '-i, --in-place FILE' '--create' '-e, --encoding NAME' \
     '-d, --default VALUE' '-z, --null' '-v, --values' '-a, --ascii' '-x, --existing' '-r, --readable' '-h, --help' '-V, --version' 'utf-8 (the default)' \
-    'Options come before the command' 'Words after get, list, set and remove are never options' 'standard input' \
+    'Options come before the command' 'Arguments after get, list, set and remove are never options' 'standard input' \
     'Status: 0'; do
     grep -qF -- "$words" ../usage || fail "the usage lacks: $words"
     count=$((count + 1))
@@ -94,9 +95,9 @@ is "$(awk 'length > 80' ../usage)" ''
 run -h
 gives 0 "$(cat ../usage)\n" ''
 run --version
-gives 0 'propedit 1.12.0\n' ''
+gives 0 'propedit 1.13.0\n' ''
 run -V
-gives 0 'propedit 1.12.0\n' ''
+gives 0 'propedit 1.13.0\n' ''
 run -f nowhere --help get
 gives 0 "$(cat ../usage)\n" ''
 for words in 'check --help' 'check a -h' 'convert --help' 'convert ascii -h'; do
@@ -371,14 +372,16 @@ run set -f -i
 gives 0 'a = 1\n-f = -i\n' ''
 run remove a
 gives 0 '' ''
-run set --file --help set -- -- remove --file
+run set --file --help set -- -- -- remove --file
 gives 0 'a = 1\n-- = --\n' ''
-run set -- 1
+run set -- -- 1
 gives 0 'a = 1\n-- = 1\n' ''
+run set -- -f -i
+gives 0 'a = 1\n-f = -i\n' ''
 run set a --
 gives 0 'a = --\n' ''
 given '-- = 1\n'
-run remove --
+run remove -- --
 gives 0 '' ''
 given 'a = 1\n'
 run set set remove remove get
@@ -741,10 +744,11 @@ shape() {
         convert) echo "$usage convert ENCODING" ;;
     esac
 }
-is_refused "'convert' lacks its ENCODING" "$(shape convert)" convert
-is_refused "'convert' takes utf-8, windows-1252 or ascii, and not 'latin1'; 'ascii' is what Java reads right as ISO 8859-1" \
-    "$(shape convert)" convert latin1
-is_refused "'convert' takes utf-8, windows-1252 or ascii, and not 'UTF_8'; write 'utf-8'" "$(shape convert)" convert UTF_8
+is_refused "'convert' requires an ENCODING: utf-8, windows-1252 or ascii" "$(shape convert)" convert
+is_refused "cannot convert to 'utf-16le'; use utf-8, windows-1252 or ascii" "$(shape convert)" convert utf-16le
+is_refused "cannot convert to 'latin1'; for programs that read ISO 8859-1, use ascii" "$(shape convert)" convert latin1
+is_refused "cannot convert to 'UTF_8'; did you mean 'utf-8'?" "$(shape convert)" convert UTF_8
+is_refused "cannot convert to 'us-ascii'; did you mean 'ascii'?" "$(shape convert)" convert us-ascii
 for option in -a '-d VALUE' -z --create; do
     is_refused "the option '$option' cannot be used with 'convert'" "$(shape convert)" -i app.properties ${option/VALUE/x} \
         convert utf-8
@@ -754,10 +758,22 @@ for words in 'get a' list check 'set a 1' 'remove a'; do
 done
 is_refused 'no command' "$all"
 is_refused 'no command' "$all" -f app.properties
-is_refused "unexpected '--': the command stands without it" "$all" --
-is_refused "unexpected '--': the command stands without it" "$(shape get)" -- get a
-is_refused "unknown command 'gett'; 'get' is one" "$(shape get)" gett a
-is_refused "unknown command 'GET'; 'get' is one" "$(shape get)" GET a
+is_refused "no command; the option '-e NAME' took 'get' as its value" "$(shape get)" -e get
+is_refused "unexpected '--' before the command" "$all" --
+is_refused "unexpected '--' before the command" "$(shape get)" -- get a
+is_refused "unknown command 'gett'; did you mean 'get'?" "$(shape get)" gett a
+is_refused "unknown command 'GET'; did you mean 'get'?" "$(shape get)" GET a
+for word in edit replace change; do
+    is_refused "unknown command '$word'; did you mean 'set'?" "$(shape set)" $word a 1
+done
+is_refused "unknown command 'help'; did you mean '--help'?" "$all" help
+is_refused "unknown command 'help'; did you mean '--help'?" "$all" help get
+is_refused "unknown command 'HELP'; did you mean '--help'?" "$all" HELP
+is_refused "unknown command 'gett'; did you mean 'get'?" "$(shape get)" -d list gett a
+is_refused "unknown command 'version'; did you mean '--version'?" "$all" version
+for option in '-e NAME' '-d VALUE' '--file FILE'; do
+    is_refused "unknown command 'k'; the option '$option' took 'get' as its value" "$(shape get)" ${option% *} get k
+done
 is_refused "unknown command 'utf-8'; a file is named as in '-f utf-8 get'" "$(shape get)" utf-8 get a
 is_refused "unknown command 'port'" "$all" port
 is_refused "unknown command '-'" "$all" -
@@ -768,11 +784,11 @@ is_refused "unknown command 'get.properties'; a file is named as in '-f get.prop
 is_refused "unknown command 'app.properties'; a file is named as in '-i app.properties set'" "$(shape set)" \
     app.properties set port 1
 for word in delete del rm unset; do
-    is_refused "unknown command '$word'; 'remove' is one" "$(shape remove)" -f app.properties $word port
-    is_refused "unknown edit '$word'; 'remove' is one" "$edits" set a 1 $word b
+    is_refused "unknown command '$word'; did you mean 'remove'?" "$(shape remove)" -f app.properties $word port
+    is_refused "unknown edit '$word'; did you mean 'remove'?" "$edits" set a 1 $word b
 done
-is_refused "'get' lacks its KEY" "$(shape get)" get
-surplus="takes one word, and '-f FILE' before it names a file"
+is_refused "'get' requires a KEY" "$(shape get)" get
+surplus="takes one argument; '-f FILE' before it names a file"
 is_refused "unexpected 'b': 'list' $surplus" "$(shape list)" list a b
 first='options come before the command'
 is_refused "unexpected '-z' after 'get': $first" "$(shape get)" get k -z
@@ -781,34 +797,60 @@ is_refused "unexpected '-f' after 'get': $first" "$(shape get)" get -f a k
 is_refused "unexpected '-f' after 'list': $first" "$(shape list)" list -f a
 is_refused "unexpected '-z' after 'check': $first" "$(shape check)" check a -z
 is_refused "unexpected '-q' after 'check': $first" "$(shape check)" -f app.properties check -q
-is_refused "'set' lacks its KEY" "$(shape set)" set
-is_refused "'set a' lacks its VALUE" "$(shape set)" set a
-is_refused "'set port=8080' lacks its VALUE; write 'set port 8080'" "$(shape set)" -i app.properties set port=8080
-is_refused "'remove' lacks its KEY" "$(shape remove)" remove
-is_refused "'remove' lacks its KEY" "$(shape remove)" set a 1 remove
-is_refused "'set b' lacks its VALUE" "$(shape set)" set a 1 set b
-edit="after an edit comes set or remove, and $first"
+for words in set 'set --'; do
+    is_refused "'set' requires a KEY" "$(shape set)" $words
+done
+for words in 'set a' 'set -- a' 'set a 1 set a'; do
+    is_refused "'set a' requires a VALUE" "$(shape set)" $words
+done
+is_refused "'set port=8080' requires a VALUE; did you mean 'set port 8080'?" "$(shape set)" -i app.properties set port=8080
+for words in remove 'remove --' 'set a 1 remove'; do
+    is_refused "'remove' requires a KEY" "$(shape remove)" $words
+done
+# KEY and VALUE that both look like NAME=TEXT are refused, unless -- comes before them.
+for words in 'a=1 b=2' 'a=1 b=2 c=3' 'a=1 b=2 set c 3' 'a=x b==x'; do
+    set -- $words
+    is_refused "'set $1 $2': did you mean 'set ${1/=/ } set ${2/=/ }'? For the key '$1', write 'set -- $1 $2'" "$(shape set)" \
+        -i app.properties set $words
+done
+is_refused "'set a= b=1 2': did you mean 'set a \"\" set b \"1 2\"'? For the key 'a=', write 'set -- a= \"b=1 2\"'" "$(shape set)" set a= 'b=1 2'
+is_refused "'set a=' requires a VALUE; did you mean 'set a \"\"'?" "$(shape set)" set a=
+run set -- a=1 b=2
+gives 0 'a = 1\na\\=1 = b=2\n' ''
+run set a=1 b set a '=2' set '=c' b=2 set 'd e=' b=2
+gives 0 'a = =2\na\\=1 = b\n\\=c = b=2\nd\\ e\\= = b=2\n' ''
+run set -- -- 1 set -- set remove remove -- a
+gives 0 '-- = 1\nset = remove\n' ''
+edit="each edit begins with set or remove, and $first"
 is_refused "unknown edit 'get': $edit" "$edits" set a 1 get a
 is_refused "unknown edit 'host': $edit" "$edits" -i app.properties set port 1 host 2
 is_refused "unknown edit '-i': $edit" "$edits" set a 1 -i app.properties
 is_refused "unknown edit 'app.properties': $edit" "$edits" set port=8080 -i app.properties
 for option in '-f FILE' '-i FILE' '-e NAME' '-d VALUE'; do
-    is_refused "the option '$option' lacks its ${option#* }" "$all" ${option% *}
+    is_refused "the option '$option' requires a ${option#* }" "$all" ${option% *}
 done
-is_refused "the option '-f FILE' lacks its FILE" "$all" --file
-is_refused "the option '-f FILE' lacks its FILE" "$all" -f '' get a
-is_refused "the option '-i FILE' lacks its FILE" "$all" --create --in-place= set a 1
-is_refused "the option '-z' takes no value" "$all" --null=1 list
+is_refused "the option '--file FILE' requires a FILE" "$all" --file
+is_refused "the option '-f FILE' requires a FILE" "$all" -f '' get a
+is_refused "the option '--in-place FILE' requires a FILE" "$all" --create --in-place= set a 1
+is_refused "the option '--null' takes no value" "$all" --null=1 list
 is_refused "unknown option in '-q'" "$all" -q get a
 is_refused "unknown option in '-zq'" "$all" -zq list
-is_refused "unknown option '--fil'; '--file' is one" "$all" --fil app.properties get a
-labels='is no label of windows-1252, utf-8, utf-16le or utf-16be'
-is_refused "'latin2' $labels" "$(shape get)" -e latin2 get a
-is_refused "'latin-1' $labels; 'latin1' is one" "$(shape get)" -e latin-1 -f app.properties get port
-is_refused "'Latin_1' $labels; 'latin1' is one" "$(shape list)" -e Latin_1 list
-is_refused "'iso8859_1' $labels; 'iso-8859-1' is one" "$(shape check)" -e iso8859_1 check
-is_refused "'utf_8' $labels; 'utf-8' is one" "$(shape set)" -e utf_8 set a 1
-is_refused "'--' $labels" "$(shape get)" -e -- get a
+is_refused "unknown option '--fil'; did you mean '--file'?" "$all" --fil app.properties get a
+labels='use utf-8, windows-1252, utf-16le or utf-16be'
+is_refused "unknown encoding 'latin2'; $labels" "$(shape get)" -e latin2 get a
+is_refused "unknown encoding 'latin-1'; did you mean 'latin1'?" "$(shape get)" -e latin-1 -f app.properties get port
+is_refused "unknown encoding 'Latin_1'; did you mean 'latin1'?" "$(shape list)" -e Latin_1 list
+is_refused "unknown encoding 'iso8859_1'; did you mean 'iso-8859-1'?" "$(shape check)" -e iso8859_1 check
+is_refused "unknown encoding 'utf_8'; did you mean 'utf-8'?" "$(shape set)" -e utf_8 set a 1
+is_refused "unknown encoding '--'; $labels" "$(shape get)" -e -- get a
+# No label that means ASCII is taken, since each stands for windows-1252.
+for label in ascii US-ASCII ANSI_X3.4-1968 us_ascii; do
+    ascii="encoding '$label': ASCII is read as windows-1252; write '-e windows-1252' if that is meant, \
+or '-a check' to find non-ASCII characters"
+    is_refused "$ascii" "$(shape check)" -e $label check
+    is_refused "$ascii" "$(shape check)" -e $label check app.properties
+    is_refused "$ascii" "$(shape set)" -e $label -i app.properties set a 1
+done
 for option in -z '-e NAME' '-d VALUE' '-f FILE' '-i FILE' --create -a -x; do
     letter=${option% *}
     value=
@@ -816,7 +858,7 @@ for option in -z '-e NAME' '-d VALUE' '-f FILE' '-i FILE' --create -a -x; do
     is_refused "the option '$option' is given twice" "$all" $letter $value $letter $value get a
 done
 is_refused "the option '-z' is given twice" "$all" -zz list
-is_refused "the option '-z' is given twice" "$all" -z --null list
+is_refused "the option '--null' is given twice" "$all" -z --null list
 is_refused "the option '-f FILE' cannot be used with '-i FILE'" "$(shape set)" -f a -i a set a 1
 is_refused "the option '-f FILE' cannot be used with '-i FILE'" "$(shape set)" -i a -f a set a 1
 is_refused "the option '-f FILE' cannot be used with 'check FILE ..'" "$(shape check)" \
@@ -828,12 +870,13 @@ for words in 'get a' list check 'remove a' 'remove a remove b'; do
     is_refused "the option '-x' cannot be used with '${words%% *}'" "$(shape ${words%% *})" -x $words
 done
 is_refused "the option '-x' cannot be used with '--create'" "$(shape set)" -x --create -i new.properties set a 1
-file="needs a file, and '-' is standard input; './-' is a file"
+file="requires a file, but '-' is standard input; './-' names a file"
 for words in 'set a 1' 'remove a' 'convert ascii'; do
     is_refused "the option '-i FILE' $file" "$(shape ${words%% *})" -i - $words
 done
 for words in 'get a' list check; do
-    is_refused "the option '-i FILE' cannot be used with '${words%% *}'" "$(shape ${words%% *})" -i app.properties $words
+    is_refused "the option '-i FILE' cannot be used with '${words%% *}'; '-f FILE' reads a file" "$(shape ${words%% *})" \
+        -i app.properties $words
     is_refused "the option '--create' cannot be used with '${words%% *}'" "$(shape ${words%% *})" --create $words
     is_refused "the option '--create' cannot be used with '${words%% *}'" "$(shape ${words%% *})" --create -f a $words
 done
@@ -845,13 +888,13 @@ for words in check 'set a 1' 'remove a'; do
 done
 for words in 'set a 1' 'remove a'; do
     for options in --create '--create -f app.properties'; do
-        is_refused "the option '--create' needs '-i FILE', whose FILE it makes" "$(shape ${words%% *})" $options $words
+        is_refused "the option '--create' requires '-i FILE'" "$(shape ${words%% *})" $options $words
     done
 done
 holds app.properties 'a = 1\n'
 # Control characters and bytes that are no characters are printed as escapes.
 is_refused "unknown command '\u{1b}[2J\u{a}\u{85}é'" "$all" $'\e[2J\n\u0085é'
-is_refused "'set \u{9}' lacks its VALUE" "$(shape set)" set $'\t'
+is_refused "'set \u{9}' requires a VALUE" "$(shape set)" set $'\t'
 run -f $'no\twhere\n' get a
 gives 2 '' 'propedit: no\\u{9}where\\u{a}: No such file or directory (os error 2)\n'
 run -i $'no\twhere' set a 1
@@ -863,14 +906,14 @@ touch $'two\nlines.propedit'
 run -i $'two\nlines' set b 1
 gives 2 '' 'propedit: two\\u{a}lines: two\\u{a}lines.propedit exists: another run is at work, or was killed; if none is, remove it\n'
 rm $'two\nlines' $'two\nlines.propedit'
-is_refused "the argument 'a\xff\n' is not UTF-8" "$all" get $'a\xff\n'
+is_refused "the argument 'éa\xff\u{a}\xc3' is not UTF-8" "$all" get $'éa\xff\n\xc3'
 is_refused "the argument '\xe9' is not UTF-8" "$all" -f $'\xe9' check
 is_refused "the argument '\xe9' is not UTF-8" "$all" -e $'\xe9' check app.properties
 # A check of files goes on after such a name. The name - is that of standard input.
 given 'a = 1\na = 2\n'
-run check app.properties $'a\xe9' -
+run check app.properties $'a\n\xe9' -
 gives 2 'app.properties:2: repeats the key of line 1\nstandard input:2: repeats the key of line 1\n' \
-    'propedit: a\\xe9: this name is not UTF-8\n'
+    'propedit: a\\u{a}\\xe9: this name is not UTF-8\n'
 
 # Files that can't be read, and standard streams that fail
 
@@ -898,7 +941,50 @@ done
 command='propedit list | head -c 1'
 seq -f 'key%.0f = 1' 200000 | ../propedit list 2>../errors | head -c 1 >../output
 status=${PIPESTATUS[1]}
-gives 2 'k' 'propedit: standard output: Broken pipe (os error 32)\n'
+# A pipe that nobody reads is no news, as for cat, but the output isn't whole.
+gives 2 'k' ''
+given 'a = 1\na = 2\n'
+for line in 'get a' '-v list' check 'set a 2' 'convert ascii' --help 'check app.properties'; do
+    command="propedit $line | true"
+    { sleep 0.1; ../propedit $line <../input 2>../errors; echo $? >../ended; } | true
+    is "$(cat ../ended) $(cat ../errors)" '2 '
+done
+
+# Standard output that is the file. A shell has emptied it for > before the program begins.
+given 'a = 1\n'
+ln -s app.properties link.properties
+for name in app.properties link.properties; do
+    for line in "-f $name get a" "-f $name list" "-f $name check" "-f $name set a 2" "-f $name convert ascii" "check $name" \
+        "-i $name set a 2" "--create -i $name set b 2"; do
+        command="propedit $line >>app.properties"
+        ../propedit $line >>app.properties 2>../errors
+        is "$? $(cat ../errors)" "2 propedit: $name: is also standard output"
+        holds app.properties 'a = 1\n'
+    done
+done
+command='propedit set a 2 <app.properties 1<>app.properties'
+../propedit set a 2 <app.properties 1<>app.properties 2>../errors
+is "$? $(cat ../errors)" '2 propedit: standard input: is also standard output'
+holds app.properties 'a = 1\n'
+command='propedit check nowhere app.properties - >>app.properties'
+../propedit check nowhere app.properties - <../input >>app.properties 2>../errors
+is "$? $(cat ../errors)" $'2 propedit: nowhere: No such file or directory (os error 2)\npropedit: app.properties: is also standard output'
+holds app.properties 'a = 1\n'
+for line in '-f app.properties set b 2' '-i app.properties set b 2'; do
+    command="propedit $line >app.properties"
+    ../propedit $line >app.properties 2>../errors
+    is "$? $(cat ../errors)" '2 propedit: app.properties: is also standard output'
+    holds app.properties ''
+done
+command='propedit get a </dev/null >/dev/null'
+../propedit get a </dev/null >/dev/null 2>../errors
+is "$? $(cat ../errors)" '1 '
+given 'a = 1\n'
+command='propedit get a, which prints on another file'
+../propedit -f app.properties get a >../output 2>../errors
+status=$?
+gives 0 '1\n' ''
+rm link.properties
 command='propedit check >/dev/full'
 printf 'a = 1\na = 2\n' | ../propedit check >/dev/full 2>../errors
 is "$? $(cat ../errors)" '2 propedit: standard output: No space left on device (os error 28)'
@@ -974,7 +1060,7 @@ is "$(readlink links/one) $(readlink links/two)" '../sub/real.properties one'
 leaves_nothing
 ln -s nowhere links/broken
 run -i links/broken set a 2
-gives 2 '' 'propedit: links/broken: No such file or directory (os error 2)\n'
+gives 2 '' 'propedit: links/broken: the target of this symbolic link is missing\n'
 [ ! -e links/nowhere ] || fail 'the target of a link was made'
 
 # A missing file is made where it is asked for.
@@ -990,7 +1076,7 @@ run --create -i app.properties set a 2
 gives 0 '' ''
 holds app.properties 'a=2\nb=2\n'
 run --create -i links/broken set a 2
-gives 2 '' 'propedit: links/broken: No such file or directory (os error 2)\n'
+gives 2 '' 'propedit: links/broken: the target of this symbolic link is missing\n'
 [ ! -e links/nowhere ] || fail 'the target of a link was made'
 run --create -i nowhere/app.properties set a 2
 gives 2 '' 'propedit: nowhere/app.properties: cannot create nowhere/app.properties.propedit: No such file or directory (os error 2)\n'
@@ -1050,7 +1136,8 @@ traced() {
     local injected=$1
     shift
     command="strace ${injected:+-e inject=$injected }propedit $*"
-    strace -qq -y -a 1 -o ../trace -e trace=fsync,rename,link,unlink ${injected:+-e "inject=$injected"} \
+    strace -qq -y -a 1 -o ../trace -e "trace=fsync,rename,link,unlink${injected:+,${injected%%:*}}" \
+        ${injected:+-e "inject=$injected"} \
         ../propedit "$@" <../input >../output 2>../errors
     status=$?
 }
@@ -1119,6 +1206,45 @@ if strace -o ../trace true 2>../errors; then
     holds made.properties 'a=1\n'
     rm made.properties made.properties.propedit
 
+    # A look at the new file that fails says nothing about it: when it was made, before it gets its name, and after a
+    # hard link. A file that is gone is no longer there to remove.
+    traced statx:error=EIO:when=2 --create -i made.properties set a 1
+    gives 2 '' 'propedit: made.properties: cannot access made.properties.propedit: Input/output error (os error 5)\n'
+    traced statx:error=EIO:when=3 --create -i made.properties set a 1
+    gives 2 '' 'propedit: made.properties: cannot access made.properties.propedit: Input/output error (os error 5)\n'
+    [ ! -e made.properties ] || fail 'a file was made'
+    leaves_nothing
+    traced statx:error=EIO:when=3+ --create -i made.properties set a 1
+    gives 2 '' "propedit: made.properties: cannot access made.properties.propedit: Input/output error (os error 5); \
+made.properties.propedit may be left\n"
+    rm made.properties.propedit
+    traced statx:error=EIO:when=4 --create -i made.properties set a 1
+    gives 2 '' 'propedit: made.properties: is made; made.properties.propedit may be left\n'
+    holds made.properties 'a=1\n'
+    rm made.properties made.properties.propedit
+    for last in 8 9; do
+        given 'a = 1\n'
+        traced statx:error=EIO:when=$last+ -i app.properties set a 2
+        grep -q '^propedit: app.properties: cannot .*; app.properties.propedit may be left$' ../errors || fail "$(cat ../errors)"
+        is "$status $(cat app.properties)" '2 a = 1'
+        rm app.properties.propedit
+    done
+
+    given 'a = 1\n'
+    traced rename,unlink:error=EIO -i app.properties set a 2
+    gives 2 '' "propedit: app.properties: cannot rename app.properties.propedit: Input/output error (os error 5); \
+app.properties.propedit is left\n"
+    holds app.properties 'a = 1\n'
+    rm app.properties.propedit
+
+    # A mount point, as the system refuses one.
+    busy='is a mount point or in use, so it cannot be replaced; edit a copy, and copy it back with cp'
+    given 'a = 1\n'
+    traced rename:error=EBUSY -i app.properties set a 2
+    gives 2 '' "propedit: app.properties: $busy\n"
+    holds app.properties 'a = 1\n'
+    leaves_nothing
+
     # A file that another program makes before the new one gets its name.
     command='another program makes made.properties'
     strace -qq -o ../trace -e trace=link -e inject=link:delay_enter=1000000 \
@@ -1136,6 +1262,24 @@ if strace -o ../trace true 2>../errors; then
 else
     echo 'not tried, since strace is not at hand: what is synced, and calls that fail' >&2
 fi
+
+# A mount point, and the cure that its message names.
+given 'a = 1\n'
+printf 'a = 1\n' >mounted
+if unshare -m true 2>../trace; then
+    command='propedit -i app.properties set a 2, where app.properties is a mount point'
+    unshare -m sh -c 'mount --bind mounted app.properties || exit 3
+        ../propedit -i app.properties set a 2 2>../errors && exit 4
+        cp app.properties copy && ../propedit -i copy set a 2 && cp copy app.properties'
+    is "$? $(cat ../errors)" \
+        '0 propedit: app.properties: is a mount point or in use, so it cannot be replaced; edit a copy, and copy it back with cp'
+    holds mounted 'a = 2\n'
+    rm copy
+else
+    echo 'not tried, since unshare fails: a mount point' >&2
+fi
+rm mounted
+leaves_nothing
 
 # Access control lists, as the manual has them.
 given 'a = 1\n'

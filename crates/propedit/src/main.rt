@@ -8,10 +8,12 @@ use propedit_arguments::{
     asked_for, explain, explain_name, explain_not_utf_8, marked_words, name_of_marked,
 };
 use properties_tools::arguments::words;
+use properties_tools::propedit::answers::name;
 use properties_tools::propedit::error::Failure;
 use properties_tools::propedit::hint::{possible_files, print_reading, refused_file};
 use properties_tools::propedit::in_place::edit_file;
 use properties_tools::propedit::request::{CheckedFiles, Command, Job, Request, Source};
+use properties_tools::propedit::same_file::{INPUT, refuse_output};
 use properties_tools::propedit::{exit_status, print_out_of_memory, run};
 use std::alloc::{AllocError, Global};
 use std::env;
@@ -61,7 +63,7 @@ fn check_or_explain<W: CountedWrite, E: CountedWrite>(
     }
 }
 
-// Opens the source, and runs the command on it.
+// Opens the source, and runs the command on it, unless its bytes would go where they come from.
 fn do_job<W: CountedWrite, E: CountedWrite>(
     rt: &HostRuntime,
     alloc: Global,
@@ -69,6 +71,9 @@ fn do_job<W: CountedWrite, E: CountedWrite>(
     output: &mut W,
     errors: &mut E,
 ) -> u8 {
+    if let Err(error) = refuse_output(rt, file_of(&job.source)) {
+        return exit_status(alloc, errors, name(&job.source), Err(Failure::from(error)));
+    }
     match &job.source {
         Source::StandardInput => run_unnamed(rt, alloc, job, output, errors),
         Source::Dash => run(
@@ -126,6 +131,14 @@ fn is_file(rt: &HostRuntime, name: &str) -> bool {
     match fs::metadata(rt, name) {
         Ok(metadata) => metadata.is_file(),
         Err(_) => false,
+    }
+}
+
+// Returns the path of the file that the bytes come from.
+fn file_of(source: &Source) -> &str {
+    match source {
+        Source::StandardInput | Source::Dash => INPUT,
+        Source::File(path) => path.as_str(),
     }
 }
 

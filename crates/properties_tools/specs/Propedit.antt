@@ -17,7 +17,7 @@ use Rattle.properties_text.specs.Encoding.{encoding_of}
 use Rattle.java_properties.specs.Maps.{characters}
 use Rattle.properties_tools.specs.Propedit.Change.{Changes}
 use Rattle.properties_tools.specs.Propedit.Check.{IsReport}
-use Rattle.properties_tools.specs.Propedit.Failures.{LacksMemory, failure_status, standard_output, PrintsFailure}
+use Rattle.properties_tools.specs.Propedit.Failures.{LacksMemory, failure_status, standard_output, Reports}
 use Rattle.properties_tools.specs.Propedit.Get.{Gets}
 use Rattle.properties_tools.specs.Propedit.Hints.{hint_bytes, IsHint, PrintsHint}
 use Rattle.properties_tools.specs.Propedit.Listing.{Lists, ListsValues}
@@ -73,10 +73,11 @@ Answers job source result = AnswersCommand (name_of job.source) (encoding_of job
 
 -- ---- how it ends
 
--- The status is that of the result, and nothing is printed; or it is that of the failure, whose message is printed.
+-- The status is that of the result, and nothing is printed; or it is that of the failure, whose message is printed,
+-- but for an output that nobody reads any more.
 abbrev pub Ends : {E : Type 0} → Sink E → List ℕ → E → Result ℕ Failure → ℕ → E → Type 0
 Ends error_sink name errors (Ok answer) status errors' = (status ≡ answer) × (errors' ≡ errors)
-Ends error_sink name errors (Err failure) status errors' = (status ≡ failure_status failure) × PrintsFailure error_sink errors name failure errors'
+Ends error_sink name errors (Err failure) status errors' = (status ≡ failure_status failure) × Reports error_sink errors name failure errors'
 
 -- ---- a command
 

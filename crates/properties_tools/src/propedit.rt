@@ -14,6 +14,7 @@ mod line_findings;
 pub mod list;
 pub mod pairs;
 pub mod request;
+pub mod same_file;
 pub mod sound;
 mod values;
 
@@ -125,6 +126,9 @@ pub fn replacement(
 /// Returns the exit status of a result: its own, or that of a failure, which is printed on `errors` as a line under the
 /// name of the source. It is 1 if no pair has a key that is set, and else 2. What can't be printed is dropped.
 ///
+/// If standard output is a pipe that nobody reads any more, as with `| head -1`, nothing is printed, and the status is
+/// 2.
+///
 /// ```text
 /// exit_status(alloc, &mut errors, "app.properties", Err(Failure::NotUtf8(7))); // 2, and one line is printed
 /// ```
@@ -140,18 +144,20 @@ pub fn exit_status<E: CountedWrite>(
     match outcome {
         Ok(status) => status,
         Err(failure) => {
-            print_failure(alloc, errors, name, &failure);
+            if !failure.is_closed_pipe() {
+                print_failure(alloc, errors, name, &failure);
+            }
             failure.status()
         }
     }
 }
 
 /// Prints a text, such as the help or the version, and returns the exit status: 0, or 2 if it can't be printed, and
-/// then a line on `errors` says why.
+/// then a line on `errors` says why, as [`exit_status`] prints it.
 ///
 /// ```text
 /// let mut output = Counted::new(Vec::new(alloc));
-/// propedit::print_text(alloc, "propedit 1.12.0\n", &mut output, &mut errors); // 0, and the output holds the text
+/// propedit::print_text(alloc, "propedit 1.13.0\n", &mut output, &mut errors); // 0, and the output holds the text
 /// ```
 pub fn print_text<W: CountedWrite, E: CountedWrite>(
     alloc: Global,

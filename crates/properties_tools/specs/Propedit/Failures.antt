@@ -1,12 +1,15 @@
 -- Why `propedit` fails, and what it prints of a failure.
-use Rattle.std.specs.Prelude.{◌≡◌, ◌≢◌, ◌⊎◌, ℕ, List, ◌++◌, Option, Some, None, IfSome, codes, string_bytes}
+use Rattle.std.specs.Prelude.{◌≡◌, ◌≢◌, ◌⊎◌, ℕ, Bool, true, false, List, ◌++◌, Option, Some, None, IfSome, codes, string_bytes}
 use Rattle.std.specs.Fmt.{decimal}
 use Rattle.std.specs.IoError.{error_kind}
 use Rattle.std.specs.declared.io.Error.{Error}
-use Rattle.std.specs.declared.io.ErrorKind.TheVariants.{OutOfMemory}
+use Rattle.std.specs.declared.io.ErrorKind.{ErrorKind as IoKind}
+use Rattle.std.specs.declared.io.ErrorKind.TheVariants.{BrokenPipe, OutOfMemory}
 use Rattle.counted_io.specs.Streams.{Sink}
 use Rattle.java_properties.specs.DisplayTexts.{description, reason_display}
-use Rattle.java_properties.specs.Errors.{kind_of, message_line, IsBareError, IsReason, IsStreamError}
+use Rattle.java_properties.specs.Errors.{cause_of, kind_of, message_line, IsBareError, IsReason, IsStreamError}
+use Rattle.properties_items.specs.declared.error.Cause.{Cause}
+use Rattle.properties_items.specs.declared.error.Cause.TheVariants as cause
 use Rattle.properties_items.specs.declared.error.ErrorKind.TheVariants as kind
 use Rattle.properties_items.specs.declared.error.PropertiesError.{PropertiesError}
 use Rattle.properties_items.specs.declared.error.Reason.{Reason}
@@ -36,6 +39,22 @@ IsIoFailure source failure =
 abbrev pub failure_status : Failure → ℕ
 failure_status (Absent key) = 1
 failure_status other = 2
+
+-- ---- a pipe that nobody reads
+
+abbrev pub is_broken_pipe : IoKind → Bool
+is_broken_pipe BrokenPipe = true
+is_broken_pipe _ = false
+
+-- whether a stream failed because nobody reads it any more
+abbrev pub is_broken : Cause → Bool
+is_broken (cause.Io error) = is_broken_pipe (error_kind error)
+is_broken other = false
+
+-- whether nobody reads the output any more
+abbrev pub is_closed_pipe : Failure → Bool
+is_closed_pipe (Output error) = is_broken (cause_of error)
+is_closed_pipe other = false
 
 -- ---- its reason
 
@@ -131,3 +150,11 @@ PrintsLine sink old IsLine new =
 -- The message of a failure is printed.
 abbrev pub PrintsFailure : {W : Type 0} → Sink W → W → List ℕ → Failure → W → Type 0
 PrintsFailure sink old name failure new = PrintsLine sink old (IsMessageLine name failure) new
+
+-- Nothing is printed if nobody reads the output any more, and else the message of the failure.
+abbrev pub PrintsUnless : {W : Type 0} → Bool → Sink W → W → List ℕ → Failure → W → Type 0
+PrintsUnless true sink old name failure new = new ≡ old
+PrintsUnless false sink old name failure new = PrintsFailure sink old name failure new
+
+abbrev pub Reports : {W : Type 0} → Sink W → W → List ℕ → Failure → W → Type 0
+Reports sink old name failure new = PrintsUnless (is_closed_pipe failure) sink old name failure new

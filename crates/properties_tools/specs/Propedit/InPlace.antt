@@ -1,5 +1,5 @@
 -- Why a file that is edited in place is not replaced, or what fails after that, and what is printed of it.
-use Rattle.std.specs.Prelude.{◌≡◌, ◌⊎◌, ℕ, Bool, true, false, List, [], ◌++◌, Option, None, Some, Err, IfSome, codes, string_bytes}
+use Rattle.std.specs.Prelude.{◌≡◌, ◌⊎◌, ℕ, List, [], ◌++◌, Option, None, Some, Err, IfSome, codes, string_bytes}
 use Rattle.std.specs.Fmt.{◌++?◌}
 use Rattle.std.specs.Global.{Global}
 use Rattle.std.specs.declared.string.String.{String}
@@ -11,6 +11,8 @@ use Rattle.properties_tools.specs.Propedit.Failures.{failure_status, message, Pr
 use Rattle.properties_tools.specs.declared.propedit.request.Change.{Change}
 use Rattle.properties_tools.specs.declared.propedit.error.Failure.{Failure}
 use Rattle.properties_tools.specs.declared.propedit.error.Failure.TheVariants.{Absent}
+use Rattle.properties_tools.specs.declared.propedit.in_place.Presence.{Presence}
+use Rattle.properties_tools.specs.declared.propedit.in_place.Presence.TheVariants as presence
 use Rattle.properties_tools.specs.declared.propedit.in_place.Problem.{Problem}
 use Rattle.properties_tools.specs.declared.propedit.in_place.Problem.TheVariants as problem
 use Rattle.properties_tools.specs.declared.propedit.in_place.ReplaceError.{ReplaceError}
@@ -22,18 +24,20 @@ abbrev pub problem_display : List ℕ → Problem → Option (List ℕ)
 problem_display temporary problem.Held = Some (escaped temporary ++ codes " exists: another run is at work, or was killed; if none is, remove it")
 problem_display temporary problem.Changed = Some (codes "changed while it was edited")
 problem_display temporary problem.Taken = Some (escaped temporary ++ codes " was removed or replaced")
+problem_display temporary problem.Busy = Some (codes "is a mount point or in use, so it cannot be replaced; edit a copy, and copy it back with cp")
 problem_display temporary problem.Appeared = Some (codes "was made by another program meanwhile")
 problem_display temporary problem.Made = Some (codes "is made")
 problem_display temporary other = None
 
--- what is added where the temporary file is left
-abbrev pub left_display : List ℕ → Bool → List ℕ
-left_display temporary false = []
-left_display temporary true = codes "; " ++ (escaped temporary ++ codes " is left")
+-- what is added where the temporary file is left, or where the system can't tell
+abbrev pub left_display : List ℕ → Presence → List ℕ
+left_display temporary presence.Absent = []
+left_display temporary presence.Present = codes "; " ++ (escaped temporary ++ codes " is left")
+left_display temporary (presence.Unknown error) = codes "; " ++ (escaped temporary ++ codes " may be left")
 
--- what failed, and the name of the temporary file where it is left
+-- what failed, and the name of the temporary file where it is left, or may be
 abbrev pub replace_display : ReplaceError → Option (List ℕ)
-replace_display e = problem_display (string_bytes e.temporary) e.problem ++? Some (left_display (string_bytes e.temporary) e.is_left)
+replace_display e = problem_display (string_bytes e.temporary) e.problem ++? Some (left_display (string_bytes e.temporary) e.presence)
 
 -- ---- what is printed
 

@@ -3,11 +3,11 @@
 ghost use Rattle.std.specs.Prelude.{◌≡◌, IfOk, string_bytes};
 ghost use Rattle.counted_io.specs.Streams.{IsSameSink};
 ghost use Rattle.java_properties.specs.DisplayTexts.{description};
-ghost use Rattle.properties_tools.specs.Propedit.Failures.{absent_words, failure_status, number_of, place_of, IsInputReason, IsIoFailure, IsMessageLine, IsReasonOf, LacksMemory, PrintsFailure};
+ghost use Rattle.properties_tools.specs.Propedit.Failures.{absent_words, failure_status, is_broken, is_closed_pipe, number_of, place_of, IsInputReason, IsIoFailure, IsMessageLine, IsReasonOf, LacksMemory, PrintsFailure};
 
 use crate::messages::{Escaped, print_line};
 use counted_io::CountedWrite;
-use java_properties::{ErrorKind, MalformedEscape, PropertiesError};
+use java_properties::{Cause, ErrorKind, MalformedEscape, PropertiesError};
 use std::alloc::{AllocError, Global};
 use std::io;
 
@@ -122,6 +122,16 @@ impl Failure {
         }
     }
 
+    // Returns whether the output is a pipe that nobody reads any more.
+    pub(crate) fn is_closed_pipe(&self) -> bool
+        ensures { result ≡ is_closed_pipe self.now }
+    {
+        match self {
+            Failure::Output(error) => is_broken(error.cause()),
+            _ => false,
+        }
+    }
+
     fn reason(&self, alloc: Global) -> Result<String, AllocError>
         ensures { IfOk result (λ text. IsReasonOf self.now (string_bytes text)) }
     {
@@ -134,6 +144,16 @@ impl Failure {
             Failure::Absent(key) => reason_of_absence(alloc, key.as_str()),
             Failure::Input(error) | Failure::Output(error) => reason_of_error(alloc, error),
         }
+    }
+}
+
+// Returns whether a stream failed for want of a reader.
+fn is_broken(cause: &Cause) -> bool
+    ensures { result ≡ is_broken cause.now }
+{
+    match cause {
+        Cause::Io(error) => matches!(error.kind(), io::ErrorKind::BrokenPipe),
+        Cause::None | Cause::NotHex => false,
     }
 }
 

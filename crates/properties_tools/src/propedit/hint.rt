@@ -101,7 +101,7 @@ pub(crate) fn hint(
         Command::List(prefix, _) | Command::ListValues(prefix, _) => {
             Ok(prefix_hint(alloc, &job.source, prefix.as_str())?)
         }
-        Command::Check | Command::Change(_) => Ok(None),
+        Command::Check(_) | Command::Change(_) => Ok(None),
     }
 }
 

@@ -6,12 +6,13 @@ ghost use Rattle.counted_io.specs.Streams.{IsSameSink};
 ghost use Rattle.std.specs.Path.{path_bytes};
 ghost use Rattle.properties_text.specs.Encoding.{encoding_of};
 ghost use Rattle.properties_tools.specs.Propedit.InPlace.{problem_display, replace_display, IsProblemLine, PrintsAbsent, PrintsEditError, PrintsProblem};
-ghost use Rattle.properties_tools.specs.Private.InPlace.{folder_of, unsynced, IsEditError};
+ghost use Rattle.properties_tools.specs.Private.InPlace.{folder_of, unsynced, IsEditError, IsPresenceAfter, IsRenameProblem};
 
 use crate::messages::{Escaped, print_line};
-use crate::propedit::error::{FAILED, Failure, NO_MEMORY};
+use crate::propedit::error::{FAILED, Failure, NO_MEMORY, print_failure};
+use crate::propedit::replacement;
 use crate::propedit::request::{FileChange, Missing};
-use crate::propedit::{exit_status, replacement};
+use crate::propedit::same_file::{is_same_file, refuse_output};
 use counted_io::CountedWrite;
 use std::alloc::{AllocError, Global};
 use std::error::Error;
@@ -51,7 +52,10 @@ pub fn edit_file<E: CountedWrite>(
     let path = file.path.as_str();
     match replace_edited(rt, alloc, file) {
         Ok(()) => 0,
-        Err(EditError::NotEdited(failure)) => exit_status(alloc, errors, path, Err(failure)),
+        Err(EditError::NotEdited(failure)) => {
+            print_failure(alloc, errors, path, &failure);
+            failure.status()
+        }
         Err(EditError::NotReplaced(error)) => print_replace_error(alloc, errors, path, &error),
     }
 }
@@ -132,7 +136,8 @@ struct Snapshot {
 }
 
 impl Target {
-    /// Reads a regular file, or the target of a symbolic link. A missing file that may be created has no bytes.
+    /// Reads a regular file, or the target of a symbolic link. A missing file that may be created has no bytes. A file
+    /// that is standard output too is refused, since a shell has emptied it for `> FILE`.
     pub fn read(
         rt: &HostRuntime,
         alloc: Global,
@@ -144,6 +149,7 @@ impl Target {
             return Target::of(alloc, String::from_str(alloc, path)?, None);
         }
         let path = resolve(rt, alloc, path)?;
+        refuse_output(rt, path.as_str())?;
         let snapshot = take_snapshot(rt, alloc, path.as_str())?;
         Target::of(alloc, path, Some(snapshot))
     }
@@ -178,31 +184,36 @@ impl Target {
         let file = match create(rt, self.temporary.as_str(), self.creation_mode()) {
             Ok(file) => file,
             Err(error) if error.kind() == ErrorKind::AlreadyExists => {
-                return Err(self.into_error(Problem::Held, false));
+                return Err(self.into_error(Problem::Held, Presence::Absent));
             }
-            Err(error) => return Err(self.into_error(Problem::NotCreated(error), false)),
+            Err(error) => {
+                return Err(self.into_error(Problem::NotCreated(error), Presence::Absent));
+            }
         };
         let created = match file.metadata() {
             Ok(created) => created,
             Err(error) => {
                 // Without its metadata, only its name tells which file it is.
-                let is_left = fs::remove_file(rt, self.temporary.as_str()).is_err();
-                return Err(self.into_error(Problem::NotCreated(error), is_left));
+                let presence = remove_by_name(rt, self.temporary.as_str());
+                return Err(self.into_error(Problem::Inaccessible(error), presence));
             }
         };
         if let Err(problem) = self.put_in_place(rt, file, &created, bytes) {
-            let is_left = self.leaves_temporary(rt, &created);
-            return Err(self.into_error(problem, is_left));
+            let presence = self.remove_temporary(rt, &created);
+            return Err(self.into_error(problem, presence));
         }
         // A rename takes the temporary name away, and a hard link doesn't.
-        if self.snapshot.is_none() && self.leaves_temporary(rt, &created) {
-            return Err(self.into_error(Problem::Made, true));
+        if self.snapshot.is_none() {
+            match self.remove_temporary(rt, &created) {
+                Presence::Absent => {}
+                presence => return Err(self.into_error(Problem::Made, presence)),
+            }
         }
         match sync_folder(rt, self.path.as_str()) {
             Ok(()) => Ok(()),
             Err(error) => {
                 let problem = self.unsynced(error);
-                Err(self.into_error(problem, false))
+                Err(self.into_error(problem, Presence::Absent))
             }
         }
     }
@@ -218,9 +229,7 @@ impl Target {
         if let Some(snapshot) = &self.snapshot {
             self.check_unchanged(rt, snapshot)?;
         }
-        if !self.is_still_there(rt, created) {
-            return Err(Problem::Taken);
-        }
+        self.check_present(rt, created)?;
         match self.snapshot {
             Some(_) => self.rename(rt),
             None => self.link(rt),
@@ -230,7 +239,7 @@ impl Target {
     fn rename(&self, rt: &HostRuntime) -> Result<(), Problem> {
         match fs::rename(rt, self.temporary.as_str(), self.path.as_str()) {
             Ok(()) => Ok(()),
-            Err(error) => Err(Problem::NotRenamed(error)),
+            Err(error) => Err(rename_problem(error)),
         }
     }
 
@@ -277,17 +286,32 @@ impl Target {
         }
     }
 
-    // Returns whether the temporary file is still the one that was created.
-    fn is_still_there(&self, rt: &HostRuntime, created: &Metadata) -> bool {
+    // Fails unless the temporary file is still the one that was created.
+    fn check_present(&self, rt: &HostRuntime, created: &Metadata) -> Result<(), Problem> {
+        match self.presence(rt, created) {
+            Presence::Present => Ok(()),
+            Presence::Absent => Err(Problem::Taken),
+            Presence::Unknown(error) => Err(Problem::Inaccessible(error)),
+        }
+    }
+
+    fn presence(&self, rt: &HostRuntime, created: &Metadata) -> Presence {
         match fs::symlink_metadata(rt, self.temporary.as_str()) {
-            Ok(now) => is_same_file(&now, created),
-            Err(_) => false,
+            Ok(now) if is_same_file(&now, created) => Presence::Present,
+            Ok(_) => Presence::Absent,
+            Err(error) => presence_after(error),
         }
     }
 
     // Removes the temporary file, unless someone else has removed or replaced it. Returns whether it is left.
-    fn leaves_temporary(&self, rt: &HostRuntime, created: &Metadata) -> bool {
-        self.is_still_there(rt, created) && fs::remove_file(rt, self.temporary.as_str()).is_err()
+    fn remove_temporary(&self, rt: &HostRuntime, created: &Metadata) -> Presence {
+        match self.presence(rt, created) {
+            Presence::Present => match fs::remove_file(rt, self.temporary.as_str()) {
+                Ok(()) => Presence::Absent,
+                Err(_) => self.presence(rt, created),
+            },
+            presence => presence,
+        }
     }
 
     fn unsynced(&self, error: io::Error) -> Problem
@@ -299,15 +323,44 @@ impl Target {
         }
     }
 
-    fn into_error(self, problem: Problem, is_left: bool) -> ReplaceError
-        ensures { result ≡ record { problem = problem; temporary = self.temporary; is_left = is_left } }
+    fn into_error(self, problem: Problem, presence: Presence) -> ReplaceError
+        ensures { result ≡ record { problem = problem; temporary = self.temporary; presence = presence } }
     {
         ReplaceError {
             problem,
             temporary: self.temporary,
-            is_left,
+            presence,
         }
     }
+}
+
+// Removes a file that can't be looked at. Returns whether it is left.
+fn remove_by_name(rt: &HostRuntime, path: &str) -> Presence {
+    match fs::remove_file(rt, path) {
+        Ok(()) => Presence::Absent,
+        Err(error) => presence_after(error),
+    }
+}
+
+// Returns what this error tells of the file that was looked at, or was to be removed. Only that nothing has its name
+// means that it is gone.
+fn presence_after(error: io::Error) -> Presence
+    ensures { IsPresenceAfter error result }
+{
+    if error.kind() == ErrorKind::NotFound {
+        return Presence::Absent;
+    }
+    Presence::Unknown(error)
+}
+
+// Returns why a file can't be renamed.
+fn rename_problem(error: io::Error) -> Problem
+    ensures { IsRenameProblem error result }
+{
+    if error.kind() == ErrorKind::ResourceBusy {
+        return Problem::Busy;
+    }
+    Problem::NotRenamed(error)
 }
 
 // Gives the temporary file the owner, the group and the mode of the old one, through the open file, since someone else
@@ -350,10 +403,17 @@ fn is_missing(rt: &HostRuntime, path: &str) -> io::Result<bool> {
 
 // Returns the path of the target if it is a symbolic link, and the path itself otherwise.
 fn resolve(rt: &HostRuntime, alloc: Global, path: &str) -> io::Result<String> {
-    if fs::symlink_metadata(rt, path)?.is_symlink() {
-        return Ok(fs::canonicalize(rt, path)?.into_string());
+    if !fs::symlink_metadata(rt, path)?.is_symlink() {
+        return Ok(String::from_str(alloc, path)?);
     }
-    Ok(String::from_str(alloc, path)?)
+    match fs::canonicalize(rt, path) {
+        Ok(target) => Ok(target.into_string()),
+        Err(error) if error.kind() == ErrorKind::NotFound => {
+            let words = "the target of this symbolic link is missing";
+            Err(io::Error::new(ErrorKind::NotFound, words))
+        }
+        Err(error) => Err(error),
+    }
 }
 
 fn take_snapshot(rt: &HostRuntime, alloc: Global, path: &str) -> io::Result<Snapshot> {
@@ -416,10 +476,6 @@ fn fills(file: &mut File, block: &mut [u8]) -> io::Result<bool> {
     }
 }
 
-fn is_same_file(one: &Metadata, other: &Metadata) -> bool {
-    one.dev() == other.dev() && one.ino() == other.ino()
-}
-
 // Syncs the folder of a file, so that its new name is on the disk. Some file systems can't, which is no failure.
 fn sync_folder(rt: &HostRuntime, path: &str) -> io::Result<()> {
     match File::open(rt, folder_of(path))?.sync_all() {
@@ -452,12 +508,23 @@ fn create(rt: &HostRuntime, path: &str, mode: u32) -> io::Result<File> {
 
 /// Why a file was not replaced, or what failed after that.
 ///
-/// It prints what failed, the error of the system, and the name of the temporary file if it couldn't be removed.
+/// It prints what failed, the error of the system, and the name of the temporary file if it is left, or may be.
 #[derive(Debug, Drop)]
 pub struct ReplaceError {
     problem: Problem,
     temporary: String,
-    is_left: bool,
+    presence: Presence,
+}
+
+// Whether the temporary file has its name.
+#[derive(Clone, Copy, Debug)]
+enum Presence {
+    // It is the file that was created.
+    Present,
+    // Nothing has this name, or another file.
+    Absent,
+    // The system can't tell.
+    Unknown(io::Error),
 }
 
 // What failed.
@@ -465,6 +532,7 @@ pub struct ReplaceError {
 enum Problem {
     Held,
     NotCreated(io::Error),
+    Inaccessible(io::Error),
     NotWritten(io::Error),
     Owner(io::Error),
     Group(io::Error),
@@ -473,6 +541,7 @@ enum Problem {
     Changed,
     Taken,
     NotRenamed(io::Error),
+    Busy,
     NotLinked(io::Error),
     Appeared,
     Made,
@@ -492,10 +561,11 @@ impl fmt::Display for ReplaceError {
             temporary,
         };
         let left = Escaped(temporary);
-        if self.is_left {
-            return write!(f, "{failed}; {left} is left");
+        match self.presence {
+            Presence::Present => write!(f, "{failed}; {left} is left"),
+            Presence::Absent => write!(f, "{failed}"),
+            Presence::Unknown(_) => write!(f, "{failed}; {left} may be left"),
         }
-        write!(f, "{failed}")
     }
 }
 
@@ -523,6 +593,11 @@ impl fmt::Display for Failed<'_> {
                 "cannot create {temporary}: {}",
                 SystemError(error)
             ),
+            Problem::Inaccessible(error) => write!(
+                f,
+                "cannot access {temporary}: {}",
+                SystemError(error)
+            ),
             Problem::NotWritten(error) => write!(
                 f,
                 "cannot write {temporary}: {}",
@@ -538,6 +613,9 @@ impl fmt::Display for Failed<'_> {
                 f,
                 "cannot rename {temporary}: {}",
                 SystemError(error)
+            ),
+            Problem::Busy => f.write_str(
+                "is a mount point or in use, so it cannot be replaced; edit a copy, and copy it back with cp",
             ),
             Problem::NotLinked(error) => {
                 write!(

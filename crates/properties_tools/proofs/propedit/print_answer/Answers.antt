@@ -5,8 +5,7 @@ pub returns-in-Ok-clause-prints : goal.returns-in-Ok-clause-prints
 returns-in-Ok-clause-prints g c =
     let answers = rw c.deref.ensures.value at c.in_ok-answer.ensures in
     let hints = rw c.deref-2.ensures.value at c.in_ok-hint.ensures in
-    let writes = rw c.deref-3.ensures.value at c.in-Ok.ensures.writes in
-    (
+    let writes = rw c.deref-3.ensures.value at c.in-Ok.ensures.writes in (
       c.in_ok-answer.answer,
       record { source = c.in_ok-source.source.items; read = search rules; answers = answers; writes = writes },
       refl,

@@ -1,4 +1,4 @@
-use Rattle.std.proofs.Common.{inr}
+use Rattle.std.proofs.Common.{sym, ◌∙◌, inl, inr}
 use Rattle.properties_tools.proofs.Statuses.{absent-status}
 use Rattle.properties_tools.proofs.propedit.in_place.edit_file.Goals as goal
 
@@ -9,5 +9,10 @@ returns-in-Err-NotReplaced-clause-prints g c =
 pub returns-in-Err-NotEdited-clause-absent : goal.returns-in-Err-NotEdited-clause-absent
 returns-in-Err-NotEdited-clause-absent g c = λ one.
     rw (← c.as_str-path.ensures.value)
-    (absent-status _ _ _ _ _ _ c.in-Err-NotEdited.failure c.exit_status.result
-    (rw c.in-Err-NotEdited.field-0-is at c.in-Err-NotEdited.ensures) c.exit_status.ensures.ends.0 c.exit_status.ensures.ends.1 one)
+    (absent-status _ _ _ _ _ _ c.in-Err-NotEdited.failure c.status.result
+    (rw c.in-Err-NotEdited.field-0-is at c.in-Err-NotEdited.ensures) c.status.ensures c.print_failure.ensures.prints one)
+
+pub returns-in-Err-NotEdited-clause-prints : goal.returns-in-Err-NotEdited-clause-prints
+returns-in-Err-NotEdited-clause-prints g c = λ two.
+    rw (← c.as_str-path.ensures.value)
+    (inl (record { failure = c.in-Err-NotEdited.failure; status = sym c.status.ensures ∙ two; prints = c.print_failure.ensures.prints }))
