@@ -44,7 +44,7 @@ const CHECK: &[Row] = &[
         1,
         b"standard input:2: repeats the key of line 1\n",
     ),
-    // A byte order mark overrules the option. Two keys are U+FFFD, and may be different bytes.
+    // A byte order mark overrides the option. Two keys are U+FFFD, and may be different bytes.
     (
         "-e windows-1252 check",
         b"\xef\xbb\xbfa=1\r\nb=caf\xe9\rc=\xc3\xa9\n\xc3\n\xa9",

@@ -20,10 +20,17 @@ const EDITS: &[Row] = &[
     ),
     // Words after `set` and `remove` are keys and values, whatever they are.
     (
-        "set a -1 remove -- set set remove",
-        b"a=0\n--=1\nset=2\n",
+        "set a -1 remove -x set set remove",
+        b"a=0\n-x=1\nset=2\n",
         0,
         b"a=-1\nset=remove\n",
+    ),
+    // After `--` so is `--`, and a KEY and a VALUE may both look like NAME=TEXT.
+    (
+        "set -- a=1 b=2 remove -- -- set -- -- -- set c=1 d",
+        b"--=1",
+        0,
+        b"a\\=1=b=2\n--=--\nc\\=1=d\n",
     ),
     // The layout of a line stays.
     (

@@ -35,12 +35,23 @@ fn check_refusals<R: Abort + AllocGlobal>(rt: &R, rows: &[Refusal]) -> Result<()
 
 const OTHER_WORDS: &[Refusal] = &[
     ("", "no command"),
-    ("--", "unexpected '--': the command stands without it"),
-    ("-- check", "unexpected '--': the command stands without it"),
-    ("show a", "unknown command 'show'; 'get' is one"),
-    ("gett a", "unknown command 'gett'; 'get' is one"),
-    ("GET a", "unknown command 'GET'; 'get' is one"),
+    ("--", "unexpected '--' before the command"),
+    ("-- check", "unexpected '--' before the command"),
+    ("show a", "unknown command 'show'; did you mean 'get'?"),
+    ("gett a", "unknown command 'gett'; did you mean 'get'?"),
+    ("GET a", "unknown command 'GET'; did you mean 'get'?"),
+    ("edit a 1", "unknown command 'edit'; did you mean 'set'?"),
     ("port", "unknown command 'port'"),
+    // An option instead of a command, and a command that an option took.
+    ("help get", "unknown command 'help'; did you mean '--help'?"),
+    (
+        "-e get k",
+        "unknown command 'k'; the option '-e NAME' took 'get' as its value",
+    ),
+    (
+        "--file get",
+        "no command; the option '--file FILE' took 'get' as its value",
+    ),
     // A file without its option, and a command by another name.
     (
         "app.properties get port",
@@ -52,26 +63,32 @@ const OTHER_WORDS: &[Refusal] = &[
     ),
     (
         "-f a delete port",
-        "unknown command 'delete'; 'remove' is one",
+        "unknown command 'delete'; did you mean 'remove'?",
     ),
-    ("rm port", "unknown command 'rm'; 'remove' is one"),
-    ("del port", "unknown command 'del'; 'remove' is one"),
-    ("unset port", "unknown command 'unset'; 'remove' is one"),
+    ("rm port", "unknown command 'rm'; did you mean 'remove'?"),
+    ("del port", "unknown command 'del'; did you mean 'remove'?"),
+    (
+        "unset port",
+        "unknown command 'unset'; did you mean 'remove'?",
+    ),
     // Control characters are printed as escapes.
     (
         "'\u{1b}[2J\u{a}\u{85}'",
         "unknown command '\\u{1b}[2J\\u{a}\\u{85}'",
     ),
-    ("get", "'get' lacks its KEY"),
-    ("get --", "'get' lacks its KEY"),
+    ("get", "'get' requires a KEY"),
+    ("get --", "'get' requires a KEY"),
     (
         "list a b",
-        "unexpected 'b': 'list' takes one word, and '-f FILE' before it names a file",
+        "unexpected 'b': 'list' takes one argument; '-f FILE' before it names a file",
     ),
-    ("convert", "'convert' lacks its ENCODING"),
+    (
+        "convert",
+        "'convert' requires an ENCODING: utf-8, windows-1252 or ascii",
+    ),
     (
         "convert utf-8 x",
-        "unexpected 'x': 'convert' takes one word, and '-f FILE' before it names a file",
+        "unexpected 'x': 'convert' takes one argument; '-f FILE' before it names a file",
     ),
 ];
 
@@ -82,28 +99,42 @@ fn other_words_are_named(rt: HostRuntime) -> Result<(), Fail> {
 
 const EDITS: &[Refusal] = &[
     // Edits that aren't whole, and words that are none.
-    ("set", "'set' lacks its KEY"),
-    ("set a", "'set a' lacks its VALUE"),
+    ("set", "'set' requires a KEY"),
+    ("set --", "'set' requires a KEY"),
+    ("set a", "'set a' requires a VALUE"),
+    ("set -- a", "'set a' requires a VALUE"),
     (
         "-i x set port=8080",
-        "'set port=8080' lacks its VALUE; write 'set port 8080'",
+        "'set port=8080' requires a VALUE; did you mean 'set port 8080'?",
     ),
-    ("remove", "'remove' lacks its KEY"),
-    ("set a 1 remove", "'remove' lacks its KEY"),
-    ("set a 1 set b", "'set b' lacks its VALUE"),
+    ("remove", "'remove' requires a KEY"),
+    ("set a 1 remove --", "'remove' requires a KEY"),
+    ("set a 1 set b", "'set b' requires a VALUE"),
+    // A KEY and a VALUE that both look like NAME=TEXT.
+    (
+        "set a=1 b=2",
+        "'set a=1 b=2': did you mean 'set a 1 set b 2'? For the key 'a=1', write 'set -- a=1 b=2'",
+    ),
+    (
+        "remove c set a= b==1 c=2",
+        "'set a= b==1': did you mean 'set a \"\" set b =1'? For the key 'a=', write 'set -- a= b==1'",
+    ),
     (
         "set a 1 -i x",
-        "unknown edit '-i': after an edit comes set or remove, and options come before the command",
+        "unknown edit '-i': each edit begins with set or remove, and options come before the command",
     ),
     (
         "set port=8080 -i x",
-        "unknown edit 'x': after an edit comes set or remove, and options come before the command",
+        "unknown edit 'x': each edit begins with set or remove, and options come before the command",
     ),
     (
         "-i x set port 1 host 2",
-        "unknown edit 'host': after an edit comes set or remove, and options come before the command",
+        "unknown edit 'host': each edit begins with set or remove, and options come before the command",
     ),
-    ("set a 1 delete b", "unknown edit 'delete'; 'remove' is one"),
+    (
+        "set a 1 delete b",
+        "unknown edit 'delete'; did you mean 'remove'?",
+    ),
 ];
 
 #[test]
@@ -111,39 +142,45 @@ fn edits_that_are_not_whole_are_named(rt: HostRuntime) -> Result<(), Fail> {
     check_refusals(&rt, EDITS)
 }
 
-const NEEDS_A_FILE: &str =
-    "the option '-i FILE' needs a file, and '-' is standard input; './-' is a file";
+const REQUIRES_A_FILE: &str =
+    "the option '-i FILE' requires a file, but '-' is standard input; './-' names a file";
 
-const NEEDS_IN_PLACE: &str = "the option '--create' needs '-i FILE', whose FILE it makes";
+const REQUIRES_IN_PLACE: &str = "the option '--create' requires '-i FILE'";
 
 const OPTIONS: &[Refusal] = &[
     // Options that there are not, without their value, or with one.
     ("-q check", "unknown option in '-q'"),
     ("-zq check", "unknown option in '-zq'"),
-    ("--fil x check", "unknown option '--fil'; '--file' is one"),
+    (
+        "--fil x check",
+        "unknown option '--fil'; did you mean '--file'?",
+    ),
     ("--quiet check", "unknown option '--quiet'"),
-    ("-f", "the option '-f FILE' lacks its FILE"),
-    ("--file", "the option '-f FILE' lacks its FILE"),
-    ("-i", "the option '-i FILE' lacks its FILE"),
+    ("-f", "the option '-f FILE' requires a FILE"),
+    ("--file", "the option '--file FILE' requires a FILE"),
+    ("-i", "the option '-i FILE' requires a FILE"),
     (
         "--create -i '' set a 1",
-        "the option '-i FILE' lacks its FILE",
+        "the option '-i FILE' requires a FILE",
     ),
-    ("-d", "the option '-d VALUE' lacks its VALUE"),
-    ("-ze", "the option '-e NAME' lacks its NAME"),
-    ("--null=1 list", "the option '-z' takes no value"),
+    ("-d", "the option '-d VALUE' requires a VALUE"),
+    ("-ze", "the option '-e NAME' requires a NAME"),
+    ("--null=1 list", "the option '--null' takes no value"),
     // Twice the same option.
     ("-z -z list", "the option '-z' is given twice"),
     ("-zz list", "the option '-z' is given twice"),
     ("-vv list", "the option '-v' is given twice"),
-    ("-f x --file=y list", "the option '-f FILE' is given twice"),
+    (
+        "-f x --file=y list",
+        "the option '--file FILE' is given twice",
+    ),
     // Standard input can't be changed in place.
-    ("-i - set k v", NEEDS_A_FILE),
-    ("-i- convert ascii", NEEDS_A_FILE),
+    ("-i - set k v", REQUIRES_A_FILE),
+    ("-i- convert ascii", REQUIRES_A_FILE),
     // A file to make is one that is edited in place.
-    ("--create set a 1", NEEDS_IN_PLACE),
-    ("--create -f a set k v", NEEDS_IN_PLACE),
-    ("--create remove k", NEEDS_IN_PLACE),
+    ("--create set a 1", REQUIRES_IN_PLACE),
+    ("--create -f a set k v", REQUIRES_IN_PLACE),
+    ("--create remove k", REQUIRES_IN_PLACE),
 ];
 
 #[test]
@@ -186,44 +223,65 @@ fn options_after_the_command_are_named(rt: HostRuntime) -> Result<(), Fail> {
     check_filled(&rt, pattern, LATE_OPTIONS)
 }
 
+const ENCODINGS: &str = "use utf-8, windows-1252, utf-16le or utf-16be";
+
 // Labels that no encoding has.
 const LABELS: &[Filled] = &[
-    ("-e latin-9 check", "latin-9", ""),
-    ("-e latin-1 get a", "latin-1", "; 'latin1' is one"),
-    ("-e Latin_1 get a", "Latin_1", "; 'latin1' is one"),
-    ("-e iso8859_1 get a", "iso8859_1", "; 'iso-8859-1' is one"),
-    ("-e -- get a", "--", ""),
+    ("-e latin-9 check", "latin-9", ENCODINGS),
+    ("-e latin-1 get a", "latin-1", "did you mean 'latin1'?"),
+    ("-e Latin_1 get a", "Latin_1", "did you mean 'latin1'?"),
+    (
+        "-e iso8859_1 get a",
+        "iso8859_1",
+        "did you mean 'iso-8859-1'?",
+    ),
+    ("-e -- get a", "--", ENCODINGS),
 ];
 
 #[test]
 fn other_labels_are_named(rt: HostRuntime) -> Result<(), Fail> {
-    let pattern = "'*' is no label of windows-1252, utf-8, utf-16le or utf-16be*";
-    check_filled(&rt, pattern, LABELS)
+    check_filled(&rt, "unknown encoding '*'; *", LABELS)
 }
 
-const FOR_JAVA: &str = "; 'ascii' is what Java reads right as ISO 8859-1";
+// Labels that mean ASCII.
+const ASCII_LABELS: &[Filled] = &[
+    ("-e ascii check", "ascii", ""),
+    ("-e US-ASCII check a", "US-ASCII", ""),
+    ("-e ansi_x3.4-1968 get a", "ansi_x3.4-1968", ""),
+    ("-e ' ascii ' -i a set b 1", " ascii ", ""),
+];
+
+#[test]
+fn labels_of_ascii_are_refused(rt: HostRuntime) -> Result<(), Fail> {
+    let pattern = "encoding '*': ASCII is read as windows-1252; write '-e windows-1252' \
+        if that is meant, or '-a check' to find non-ASCII characters*";
+    check_filled(&rt, pattern, ASCII_LABELS)
+}
+
+const FOR_LATIN_1: &str = "for programs that read ISO 8859-1, use ascii";
 
 // Encodings that nothing is converted to.
 const TARGETS: &[Filled] = &[
-    ("convert utf-16le", "utf-16le", ""),
-    ("convert UTF8", "UTF8", "; write 'utf-8'"),
-    ("convert latin1", "latin1", FOR_JAVA),
-    ("convert ISO-8859-1", "ISO-8859-1", FOR_JAVA),
+    (
+        "convert utf-16le",
+        "utf-16le",
+        "use utf-8, windows-1252 or ascii",
+    ),
+    ("convert UTF8", "UTF8", "did you mean 'utf-8'?"),
+    ("convert us-ascii", "us-ascii", "did you mean 'ascii'?"),
+    ("convert latin1", "latin1", FOR_LATIN_1),
+    ("convert ISO-8859-1", "ISO-8859-1", FOR_LATIN_1),
 ];
 
 #[test]
 fn other_targets_are_named(rt: HostRuntime) -> Result<(), Fail> {
-    let pattern = "'convert' takes utf-8, windows-1252 or ascii, and not '*'*";
-    check_filled(&rt, pattern, TARGETS)
+    check_filled(&rt, "cannot convert to '*'; *", TARGETS)
 }
 
 // Two files, and options that the command has no use for.
 const USELESS_OPTIONS: &[Filled] = &[
     ("-f x -i x set a 1", "-f FILE", "-i FILE"),
     ("-f x check y", "-f FILE", "check FILE .."),
-    ("-i x get a", "-i FILE", "get"),
-    ("-i x list", "-i FILE", "list"),
-    ("-i x check", "-i FILE", "check"),
     ("-d x list", "-d VALUE", "list"),
     ("-d x set a 1", "-d VALUE", "set"),
     ("-d x convert utf-8", "-d VALUE", "convert"),
@@ -235,7 +293,7 @@ const USELESS_OPTIONS: &[Filled] = &[
     ("-a remove a", "-a", "remove"),
     ("-a convert utf-8", "-a", "convert"),
     ("-v get a", "-v", "get"),
-    ("--values set a 1", "-v", "set"),
+    ("--values set a 1", "--values", "set"),
     ("-x get a", "-x", "get"),
     ("-x remove a remove b", "-x", "remove"),
     ("-x --create -i a set k v", "-x", "--create"),
@@ -257,6 +315,19 @@ fn options_without_use_are_named(rt: HostRuntime) -> Result<(), Fail> {
     check_filled(&rt, pattern, USELESS_OPTIONS)
 }
 
+// A file that was to be edited by a command that reads one.
+const EDITED_FILES: &[Filled] = &[
+    ("-i x get a", "-i", "get"),
+    ("--in-place=x list", "--in-place", "list"),
+    ("-i x check", "-i", "check"),
+];
+
+#[test]
+fn commands_that_read_name_the_option_for_a_file(rt: HostRuntime) -> Result<(), Fail> {
+    let pattern = "the option '* FILE' cannot be used with '*'; '-f FILE' reads a file";
+    check_filled(&rt, pattern, EDITED_FILES)
+}
+
 const COMMANDS: &str = "get KEY ..\n       \
     propedit [OPTION ..] list [PREFIX]\n       \
     propedit [OPTION ..] check [FILE ..]\n       \
@@ -269,7 +340,7 @@ const USAGES: &[(&str, &str, &str)] = &[
     ("", "no command", COMMANDS),
     (
         "-f x delete a",
-        "unknown command 'delete'; 'remove' is one",
+        "unknown command 'delete'; did you mean 'remove'?",
         "remove KEY ..",
     ),
     (
@@ -277,10 +348,10 @@ const USAGES: &[(&str, &str, &str)] = &[
         "the option '-a' cannot be used with 'get'",
         "get KEY ..",
     ),
-    ("set a", "'set a' lacks its VALUE", "set KEY VALUE .."),
+    ("set a", "'set a' requires a VALUE", "set KEY VALUE .."),
     (
         "set a 1 b",
-        "unknown edit 'b': after an edit comes set or remove, and options come before the command",
+        "unknown edit 'b': each edit begins with set or remove, and options come before the command",
         "(set KEY VALUE | remove KEY) ..",
     ),
 ];

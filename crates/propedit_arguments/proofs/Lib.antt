@@ -1,1 +1,2 @@
+pub mod Assignments
 pub mod Words

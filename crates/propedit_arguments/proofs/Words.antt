@@ -1,30 +1,79 @@
 -- The words of edits, one edit after another.
-use Rattle.std.proofs.Common.{◌≡◌, ◌≢◌, ◌==◌, false, ℕ, List, [], ◌∷◌, ◌++◌, length, map}
-use Rattle.std.proofs.Common.{refl, ap, sym, ◌∙◌, append_assoc, append-nil}
-use Rattle.std.specs.Prelude.{Result, Ok, Err, IsErr, string_bytes}
-use Rattle.std.specs.Global.{Vec}
+use Rattle.std.proofs.Common.{◌≡◌, ◌≢◌, ◌≤◌, ◌<◌, ◌-◌, ◌==◌, false, ℕ, List, [], ◌∷◌, ◌++◌, length, get_or, take, drop, map}
+use Rattle.std.proofs.Common.{refl, ap, sym, subst, ◌∙◌, append_assoc, append-nil, arith, true≢false}
+use Rattle.std.specs.Prelude.{codes, string_bytes}
 use Rattle.std.specs.declared.string.String.{String}
+use Rattle.std.specs.List.{list_any}
+use Rattle.std.proofs.lemmas.Grind.{common_steps}
 use Rattle.std.proofs.lemmas.List.{map-append}
 use Rattle.properties_format.specs.Edits as format
 use Rattle.java_properties.specs.Editing.{edit_in, edits_in}
 use Rattle.properties_editing.specs.declared.edit.Edit as editor
-use Rattle.propedit_arguments.specs.Private.Edits.{Edit, set, remove, in_characters, edit_words, words_of, BeginNoEdit, GivesEdits}
+use Rattle.propedit_arguments.specs.Private.Edits.{Edit, set, remove, Form, plain, literal, WrittenEdit, MayBeWritten, IsAssignment}
+use Rattle.propedit_arguments.specs.Private.Edits.{in_characters, edit_words, words_of, IsMistakeAt, no_edit, no_key, no_value, assignments}
+use Rattle.propedit_arguments.specs.Private.Edits.{AreWrong, is_sign}
+use Rattle.propedit_arguments.proofs.Assignments.{has-sign}
 use Rattle.propedit_arguments.specs.declared.mistake.Mistake.{Mistake}
 
 -- the words of one edit more
-words-more : (edits : List Edit) (edit : Edit) → words_of (edits ++ (edit ∷ [])) ≡ words_of edits ++ edit_words edit
-words-more [] edit = append-nil (edit_words edit)
-words-more (e ∷ es) edit = ap (λ v. edit_words e ++ v) (words-more es edit) ∙ sym (append_assoc (edit_words e) (words_of es) (edit_words edit))
+words-more : (ws : List WrittenEdit) (w : WrittenEdit) → words_of (ws ++ (w ∷ [])) ≡ words_of ws ++ edit_words w.form w.edit
+words-more [] w = append-nil (edit_words w.form w.edit)
+words-more (v ∷ vs) w =
+    ap (λ u. edit_words v.form v.edit ++ u) (words-more vs w) ∙ sym (append_assoc (edit_words v.form v.edit) (words_of vs) (edit_words w.form w.edit))
+
+-- what comes after the words of an edit, which only one edit has
+same-rest : (f g : Form) (e d : Edit) (a b : List (List ℕ)) → MayBeWritten f e → MayBeWritten g d → edit_words f e ++ a ≡ edit_words g d ++ b → a ≡ b
+same-rest plain plain (set k v) (set l w) a b p q e = cc
+same-rest plain plain (set k v) (remove l) a b p q e = absurd (cc)
+same-rest plain plain (remove k) (set l w) a b p q e = absurd (cc)
+same-rest plain plain (remove k) (remove l) a b p q e = cc
+same-rest plain literal (set k v) (set l w) a b p q e = absurd (p.0 (cc))
+same-rest plain literal (set k v) (remove l) a b p q e = absurd (cc)
+same-rest plain literal (remove k) (set l w) a b p q e = absurd (cc)
+same-rest plain literal (remove k) (remove l) a b p q e = absurd (p (cc))
+same-rest literal plain (set k v) (set l w) a b p q e = absurd (q.0 (cc))
+same-rest literal plain (set k v) (remove l) a b p q e = absurd (cc)
+same-rest literal plain (remove k) (set l w) a b p q e = absurd (cc)
+same-rest literal plain (remove k) (remove l) a b p q e = absurd (q (cc))
+same-rest literal literal (set k v) (set l w) a b p q e = cc
+same-rest literal literal (set k v) (remove l) a b p q e = absurd (cc)
+same-rest literal literal (remove k) (set l w) a b p q e = absurd (cc)
+same-rest literal literal (remove k) (remove l) a b p q e = cc
+
+-- some words begin the words of an edit
+no-none : (f : Form) (e : Edit) (a : List (List ℕ)) → edit_words f e ++ a ≢ []
+no-none f e a h = cc
 
 -- what comes after some edits, where all words are those of edits, are words of edits
-rest-of : (done all : List Edit) (rest : List (List ℕ)) → words_of all ≡ words_of done ++ rest → (others : List Edit) × (rest ≡ words_of others)
+rest-of : (done all : List WrittenEdit) (rest : List (List ℕ)) → words_of all ≡ words_of done ++ rest → (others : List WrittenEdit) × (rest ≡ words_of others)
 rest-of [] all rest e = (all, sym e)
-rest-of (set k v ∷ done) [] rest e = absurd (cc)
-rest-of (set k v ∷ done) (set l w ∷ all) rest e = rest-of done all rest (cc)
-rest-of (set k v ∷ done) (remove l ∷ all) rest e = absurd (cc)
-rest-of (remove k ∷ done) [] rest e = absurd (cc)
-rest-of (remove k ∷ done) (set l w ∷ all) rest e = absurd (cc)
-rest-of (remove k ∷ done) (remove l ∷ all) rest e = rest-of done all rest (cc)
+rest-of (w ∷ done) [] rest e = absurd (no-none w.form w.edit (words_of done ++ rest) (sym (e ∙ append_assoc (edit_words w.form w.edit) (words_of done) rest)))
+rest-of (w ∷ done) (v ∷ all) rest e =
+    rest-of done all rest (same-rest v.form w.form v.edit w.edit (words_of all) (words_of done ++ rest) v.may w.may
+    (e ∙ append_assoc (edit_words w.form w.edit) (words_of done) rest))
+
+-- ---- the front of some texts
+
+module _ {Z : Type 0} where
+  pub none : (texts : List (String Z)) → length texts < 1 → texts ≡ []
+  none [] few = refl
+  none (a ∷ texts) few = absurd (omega arith)
+
+  pub alone : (texts : List (String Z)) (text other : String Z) → 1 ≤ length texts → length texts < 2 → text ≡ get_or texts 0 other → texts ≡ text ∷ []
+  alone [] text other some few is = absurd (omega arith)
+  alone (a ∷ []) text other some few is = ap (λ v. v ∷ []) (sym is)
+  alone (a ∷ b ∷ texts) text other some few is = absurd (omega arith)
+
+  pub first : (texts : List (String Z)) (text other : String Z) → 1 ≤ length texts → text ≡ get_or texts 0 other
+      → texts ≡ text ∷ take (length texts - 1) (drop 1 texts)
+  first [] text other some is = absurd (omega arith)
+  first (a ∷ texts) text other some is = grind (arith, common_steps)
+
+  pub first-two : (texts : List (String Z)) (text next other another : String Z) → 2 ≤ length texts → text ≡ get_or texts 0 other
+      → next ≡ get_or texts 1 another → (others : List (String Z)) × (texts ≡ text ∷ (next ∷ others))
+  first-two [] text next other another some is at = absurd (omega arith)
+  first-two (a ∷ []) text next other another some is at = absurd (omega arith)
+  first-two (a ∷ b ∷ texts) text next other another some is at = (texts, ap (λ v. v ∷ (b ∷ texts)) (sym is) ∙ ap (λ v. text ∷ (v ∷ texts)) (sym at))
 
 -- some texts, by a test
 some-words : {Z : Type 0} (texts : List (String Z)) → (length texts == 0) ≡ false → map string_bytes texts ≢ []
@@ -33,40 +82,89 @@ some-words (a ∷ texts) h e = cc
 
 -- Edits were found and are made, and these words are left.
 pub record HasMade (words : List (List ℕ)) (edits : List format.Edit) (rest : List (List ℕ)) : Type 0 where
-  pub done : List Edit
+  pub done : List WrittenEdit
   pub is : words ≡ words_of done ++ rest
-  pub made : edits ≡ map in_characters done
+  pub made : edits ≡ map (λ w. in_characters w.edit) done
 
 -- none of them yet
 pub made-none : (words : List (List ℕ)) (edits : List editor.Edit) → edits ≡ [] → HasMade words (edits_in edits) words
 made-none words edits none = record { done = []; is = refl; made = ap edits_in none }
 
 -- one more
-pub made-more : {more : List editor.Edit} (words : List (List ℕ)) (edits : List editor.Edit) (rest others : List (List ℕ)) (edit : Edit) (made : editor.Edit)
-    → HasMade words (edits_in edits) rest → rest ≡ edit_words edit ++ others → edit_in made ≡ in_characters edit → more ≡ edits ++ (made ∷ [])
-    → HasMade words (edits_in more) others
-made-more words edits rest others edit made h next same is = record {
-  done = h.done ++ (edit ∷ []);
+pub made-more : {more : List editor.Edit} (words : List (List ℕ)) (edits : List editor.Edit) (rest others : List (List ℕ))
+    (form : Form) (edit : Edit) (made : editor.Edit) → HasMade words (edits_in edits) rest → MayBeWritten form edit
+    → rest ≡ edit_words form edit ++ others → edit_in made ≡ in_characters edit → more ≡ edits ++ (made ∷ []) → HasMade words (edits_in more) others
+made-more words edits rest others form edit made h may next same is = record {
+  done = h.done ++ (w ∷ []);
   is =
-      h.is ∙ ap (λ v. words_of h.done ++ v) next ∙ sym (append_assoc (words_of h.done) (edit_words edit) others)
-      ∙ ap (λ v. v ++ others) (sym (words-more h.done edit));
+      h.is ∙ ap (λ v. words_of h.done ++ v) next ∙ sym (append_assoc (words_of h.done) (edit_words form edit) others)
+      ∙ ap (λ v. v ++ others) (sym (words-more h.done w));
   made =
       ap edits_in is ∙ map-append edit_in edits (made ∷ []) ∙ ap (λ v. edits_in edits ++ (v ∷ [])) same
-      ∙ ap (λ v. v ++ (in_characters edit ∷ [])) h.made ∙ sym (map-append in_characters h.done (edit ∷ []));
+      ∙ ap (λ v. v ++ (in_characters edit ∷ [])) h.made ∙ sym (map-append (λ v. in_characters v.edit) h.done (w ∷ []));
 }
-
--- Where no edit comes next and texts are left, by a test, the words are those of no edits.
-pub no-edits : {Z : Type 0} (words : List (List ℕ)) (edits : List format.Edit) (texts : List (String Z)) → HasMade words edits (map string_bytes texts)
-    → (length texts == 0) ≡ false → BeginNoEdit (map string_bytes texts) → (all : List Edit) → words ≡ words_of all → ⊥
-no-edits words edits texts h some none all is = left (rest-of h.done all (map string_bytes texts) (sym is ∙ h.is))
   where
-    left : (others : List Edit) × (map string_bytes texts ≡ words_of others) → ⊥
-    left o = elim o.0 as (λ others. map string_bytes texts ≡ words_of others → ⊥) [
-      | [] ↦ some-words texts some
-      | (edit ∷ others) ↦ none edit (words_of others)
+    w : WrittenEdit
+    w = record { edit = edit; form = form; may = may }
+
+-- ---- words that ask for no edit
+
+-- `--` doesn't look like NAME=TEXT.
+no-dashes : IsAssignment (codes "--") → ⊥
+no-dashes a = true≢false (sym (has-sign a.name a.value) ∙ ap (list_any is_sign) (sym a.is))
+
+-- Where something is wrong, no edit begins the words.
+none-at : (words : List (List ℕ)) (mistake : Mistake) (f : Form) (e : Edit) (others : List (List ℕ)) → MayBeWritten f e → IsMistakeAt words mistake
+    → words ≡ edit_words f e ++ others → ⊥
+none-at words mistake f (set k v) others may (no_edit word rest is no-set no-removal m) w = no-set (cc)
+none-at words mistake f (remove k) others may (no_edit word rest is no-set no-removal m) w = no-removal (cc)
+none-at words mistake plain (set k v) others may (no_key command edit plain c is m) w = cc
+none-at words mistake plain (remove k) others may (no_key command edit plain c is m) w = cc
+none-at words mistake literal (set k v) others may (no_key command edit plain c is m) w = cc
+none-at words mistake literal (remove k) others may (no_key command edit plain c is m) w = cc
+none-at words mistake plain (set k v) others may (no_key command edit literal c is m) w = cc
+none-at words mistake plain (remove k) others may (no_key command edit literal c is m) w = may (cc)
+none-at words mistake literal (set k v) others may (no_key command edit literal c is m) w = cc
+none-at words mistake literal (remove k) others may (no_key command edit literal c is m) w = cc
+none-at words mistake plain (set k v) others may (no_value key plain is first m) w = cc
+none-at words mistake plain (remove k) others may (no_value key plain is first m) w = cc
+none-at words mistake literal (set k v) others may (no_value key plain is first m) w = cc
+none-at words mistake literal (remove k) others may (no_value key plain is first m) w = cc
+none-at words mistake plain (set k v) others may (no_value key literal is first m) w = may.0 (cc)
+none-at words mistake plain (remove k) others may (no_value key literal is first m) w = cc
+none-at words mistake literal (set k v) others may (no_value key literal is first m) w = cc
+none-at words mistake literal (remove k) others may (no_value key literal is first m) w = cc
+none-at words mistake plain (set k v) others may (assignments key value rest is a b m) w =
+    let one : key.now ≡ k = cc in
+    let other : value.now ≡ v = cc in
+    may.1 (subst IsAssignment one a) (subst IsAssignment other b)
+none-at words mistake plain (remove k) others may (assignments key value rest is a b m) w = cc
+none-at words mistake literal (set k v) others may (assignments key value rest is a b m) w =
+    let dashes : key.now ≡ codes "--" = cc in no-dashes (subst IsAssignment dashes a)
+none-at words mistake literal (remove k) others may (assignments key value rest is a b m) w = cc
+
+-- Something is wrong with some words.
+some-wrong : (words : List (List ℕ)) (mistake : Mistake) → IsMistakeAt words mistake → words ≢ []
+some-wrong words mistake (no_edit word rest is no-set no-removal m) e = cc
+some-wrong words mistake (no_key command edit form c is m) e = cc
+some-wrong words mistake (no_value key form is first m) e = cc
+some-wrong words mistake (assignments key value rest is a b m) e = cc
+
+-- Where something is wrong behind some edits, the words are those of no edits.
+no-edits : (words : List (List ℕ)) (mistake : Mistake) → AreWrong words mistake → (all : List WrittenEdit) → words ≡ words_of all → ⊥
+no-edits words mistake h all is = left (rest-of h.before all h.rest (sym is ∙ h.is))
+  where
+    left : (others : List WrittenEdit) × (h.rest ≡ words_of others) → ⊥
+    left o = elim o.0 as (λ others. h.rest ≡ words_of others → ⊥) [
+      | [] ↦ some-wrong h.rest mistake h.wrong
+      | (w ∷ others) ↦ none-at h.rest mistake w.form w.edit (words_of others) w.may h.wrong
     ] o.1
 
--- An error says so.
-pub refused : (words : List (List ℕ)) (r : Result (Vec editor.Edit) Mistake) → IsErr r → ((all : List Edit) → words ≡ words_of all → ⊥) → GivesEdits words r
-refused words (Err mistake) failed none = λ other. none
-refused words (Ok edits) failed none = absurd (cc)
+-- An error that says what is wrong behind some edits is what the words give.
+pub refused : {Z : Type 0} (words : List (List ℕ)) (edits : List format.Edit) (texts : List (String Z)) (mistake : Mistake)
+    → HasMade words edits (map string_bytes texts) → (length texts == 0) ≡ false → (map string_bytes texts ≢ [] → IsMistakeAt (map string_bytes texts) mistake)
+    → AreWrong words mistake × ((all : List WrittenEdit) → words ≡ words_of all → ⊥)
+refused words edits texts mistake h some wrong = (w, no-edits words mistake w)
+  where
+    w : AreWrong words mistake
+    w = record { before = h.done; rest = map string_bytes texts; is = h.is; wrong = wrong (some-words texts some) }

@@ -3,7 +3,7 @@
 use java_properties::Repertoire;
 use std::fmt;
 
-const VERSION: &str = "1.12.0";
+const VERSION: &str = "1.13.0";
 
 /// A command.
 #[derive(Clone, Copy, Debug, PartialEq, Eq)]
@@ -99,7 +99,7 @@ pub const COMMANDS: &[CommandRow] = &[
         words: "KEY VALUE ..",
         help: "Sets a value, keeps its line's layout; edits may follow",
         options: EDIT_OPTIONS,
-        other_names: &["put", "add"],
+        other_names: &["put", "add", "edit", "change", "update", "replace"],
     },
     CommandRow {
         command: CommandName::Remove,
@@ -188,7 +188,7 @@ const OPTIONS: &[OptionRow] = &[
         short: Some('a'),
         long: "ascii",
         value: "",
-        help: "Has set put in ASCII only, and check report all else",
+        help: "Has set write only ASCII, and check report all else",
     },
     OptionRow {
         option: OptionName::Existing,
@@ -223,7 +223,7 @@ const OPTIONS: &[OptionRow] = &[
 const ABOUT: &str = "Reads, checks, edits and converts Java properties files";
 
 const NOTES: &str = "Options come before the command, and each may be given once.\n\
-    Words after get, list, set and remove are never options, not even --help.\n\
+    Arguments after get, list, set and remove are never options, not even --help.\n\
     A byte order mark overrides -e, which also takes other labels, such as latin1.\n\
     Reads standard input and prints on standard output, unless -f or -i is given.\n\
     Status: 0 done or found, 1 not found or check found something, 2 an error.\n";
@@ -281,32 +281,40 @@ fn is_continued(name: &str, word: &str) -> bool {
 
 impl CommandRow {
     /// Returns whether the words after it are files or an encoding, so that one that begins with a dash is an option.
-    pub fn takes_plain_words(&self) -> bool {
+    pub(crate) fn takes_plain_words(&self) -> bool {
         self.command == CommandName::Check || self.command == CommandName::Convert
     }
 
     /// Returns whether it edits.
-    pub fn is_edit(&self) -> bool {
+    pub(crate) fn is_edit(&self) -> bool {
         self.command == CommandName::Set || self.command == CommandName::Remove
     }
 }
 
 impl OptionRow {
     /// Returns whether a value belongs to it.
-    pub fn takes_value(&self) -> bool {
+    pub(crate) fn takes_value(&self) -> bool {
         !self.value.is_empty()
     }
 }
 
-// Prints the option as messages name it, with its value: by its letter, if it has one.
-impl fmt::Display for OptionRow {
+/// An option as it was typed.
+#[derive(Clone, Copy, Debug)]
+pub struct TypedOption {
+    pub row: &'static OptionRow,
+    /// The letter, or `None` if the long name was typed.
+    pub letter: Option<char>,
+}
+
+// Prints the option as messages name it: as it was typed, with what its value is called.
+impl fmt::Display for TypedOption {
     fn fmt<W: fmt::Write>(&self, f: &mut fmt::Formatter<W>) -> fmt::Result {
-        match self.short {
+        match self.letter {
             Some(letter) => write!(f, "-{letter}")?,
-            None => write!(f, "--{}", self.long)?,
+            None => write!(f, "--{}", self.row.long)?,
         }
-        if self.takes_value() {
-            write!(f, " {}", self.value)?;
+        if self.row.takes_value() {
+            write!(f, " {}", self.row.value)?;
         }
         Ok(())
     }
@@ -361,7 +369,7 @@ impl fmt::Display for Help {
     fn fmt<W: fmt::Write>(&self, f: &mut fmt::Formatter<W>) -> fmt::Result {
         write!(
             f,
-            "{ABOUT}\n\nUsage: propedit [OPTION ..] COMMAND [WORD ..]\n\nCommands:\n"
+            "{ABOUT}\n\nUsage: propedit [OPTION ..] COMMAND [ARGUMENT ..]\n\nCommands:\n"
         )?;
         for row in COMMANDS {
             write!(f, "  {} {}", row.name, row.words)?;

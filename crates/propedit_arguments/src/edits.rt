@@ -1,8 +1,11 @@
 // The edits that words are.
 
-ghost use Rattle.std.specs.Prelude.{◌∷◌, ◌≡◌, codes, map, string_bytes, IfOk};
+ghost use Rattle.std.specs.Prelude.{◌∷◌, ◌≡◌, codes, map, string_bytes, IfOk, MatchBool};
+ghost use Rattle.std.specs.List.{list_any};
 ghost use Rattle.java_properties.specs.Editing.{edit_in};
-ghost use Rattle.propedit_arguments.specs.Private.Edits.{borrowed_edit, in_characters, GivesEdits, TakesEdit};
+ghost use Rattle.properties_format.specs.Text.{is_blank};
+ghost use Rattle.propedit_arguments.specs.Private.Edits.{borrowed_edit, in_characters, IsAssignment};
+ghost use Rattle.propedit_arguments.specs.Private.Edits.{AreAfterDashes, GivesEdits, RefusesAssignments, TakesEdit};
 
 use crate::mistake::Mistake;
 use java_properties::Edit;
@@ -58,7 +61,8 @@ fn next_edit<'a>(words: &'a [String]) -> Result<(BorrowedEdit<'a>, &'a [String])
 fn next_set<'a>(words: &'a [String]) -> Result<(BorrowedEdit<'a>, &'a [String]), Mistake<'a>>
     ensures { TakesEdit (codes "set" ∷ map string_bytes words.now) result }
 {
-    match words {
+    refuse_assignments(words)?;
+    match after_dashes(words) {
         [key, value, others @ ..] => Ok((BorrowedEdit::Set(key, value), others)),
         [key] => Err(Mistake::NoValue(key.as_str())),
         [] => Err(Mistake::NoKey("set")),
@@ -69,8 +73,52 @@ fn next_set<'a>(words: &'a [String]) -> Result<(BorrowedEdit<'a>, &'a [String]),
 fn next_removal<'a>(words: &'a [String]) -> Result<(BorrowedEdit<'a>, &'a [String]), Mistake<'a>>
     ensures { TakesEdit (codes "remove" ∷ map string_bytes words.now) result }
 {
-    match words {
+    match after_dashes(words) {
         [key, others @ ..] => Ok((BorrowedEdit::Remove(key), others)),
         [] => Err(Mistake::NoKey("remove")),
     }
+}
+
+// Returns the words without a `--` that comes first: what is behind it is taken as it is.
+fn after_dashes(words: &[String]) -> &[String]
+    ensures { AreAfterDashes (map string_bytes words.now) (map string_bytes result.now) }
+{
+    match words {
+        [first, others @ ..] if first.as_str() == "--" => others,
+        _ => words,
+    }
+}
+
+// Fails if the words begin with a key and a value that both look like NAME=TEXT.
+fn refuse_assignments<'a>(words: &'a [String]) -> Result<(), Mistake<'a>>
+    ensures { RefusesAssignments (map string_bytes words.now) result }
+{
+    match words {
+        [key, value, ..] if is_assignment(key.as_str()) && is_assignment(value.as_str()) => {
+            Err(Mistake::TwoAssignments(key.as_str(), value.as_str()))
+        }
+        _ => Ok(()),
+    }
+}
+
+// Returns whether a text looks like NAME=TEXT.
+fn is_assignment(text: &str) -> bool
+    ensures { MatchBool result (IsAssignment text.now) (IsAssignment text.now → ⊥) }
+{
+    match text.split_once('=') {
+        Some((name, _)) => !name.is_empty() && !has_blank(name.as_bytes()),
+        None => false,
+    }
+}
+
+fn has_blank(bytes: &[u8]) -> bool
+    ensures { result ≡ list_any is_blank bytes.now }
+{
+    bytes.iter().any(|byte| is_blank(*byte))
+}
+
+fn is_blank(byte: u8) -> bool
+    ensures { result ≡ is_blank byte }
+{
+    byte == b' ' || (byte == b'\t' || byte == b'\x0c')
 }

@@ -18,5 +18,6 @@ mod not_utf_8;
 mod options;
 pub mod parse;
 
+pub use command_line::{CommandName, CommandRow, OptionName, OptionRow, TypedOption};
 pub use not_utf_8::{explain_name, explain_not_utf_8, marked_words, name_of_marked};
 pub use parse::{asked_for, explain};

@@ -1,7 +1,7 @@
 // Why words ask for nothing.
 
 use crate::command_line::{
-    CommandRow, OptionRow, Usage, command_meant, command_named, option_meant,
+    CommandRow, OptionName, TypedOption, Usage, command_meant, command_named, option_meant,
 };
 use properties_tools::messages::Escaped;
 use std::alloc::{AllocError, AllocFailed};
@@ -35,39 +35,56 @@ impl<T: Drop> From<AllocFailed<T>> for NoRequest<'_> {
     }
 }
 
+/// What may be meant by a word that is no command.
+#[derive(Clone, Copy, Debug)]
+pub enum Hint {
+    Nothing,
+    Command(&'static CommandRow),
+    /// The option with this long name.
+    Option(&'static str),
+    /// A file, before this command.
+    File(&'static CommandRow),
+    /// An argument of this command, whose name this option took as its value.
+    Taken(TypedOption, &'static CommandRow),
+}
+
 /// What is wrong with words, or that memory ran out.
 #[derive(Clone, Copy, Debug)]
 pub enum Mistake<'a> {
     /// The bytes of this argument aren't UTF-8.
     NotUtf8(&'a [u8]),
     NoCommand,
-    /// No command has this name. The word after it is a command, if it names one.
-    UnknownCommand(&'a str, Option<&'static CommandRow>),
+    /// There is no command but this one, which this option took as its value.
+    CommandTaken(TypedOption, &'static CommandRow),
+    /// No command has this name.
+    UnknownCommand(&'a str, Hint),
     /// No option has this long name.
     UnknownOption(&'a str),
     /// No option has a letter of this word.
     UnknownLetter(&'a str),
-    /// This option lacks its value.
-    NoOptionValue(&'static OptionRow),
+    /// This option requires a value.
+    NoOptionValue(TypedOption),
     /// This option has a value, and takes none.
-    OptionValue(&'static OptionRow),
+    OptionValue(TypedOption),
     /// This option is given twice.
-    Twice(&'static OptionRow),
+    Twice(TypedOption),
     /// This command has no use for this option.
-    NotWith(&'static OptionRow, &'static CommandRow),
-    /// A file is given by `-f`, and another one by `-i` or after `check`.
-    TwoFiles(&'static str, Usage),
+    NotWith(TypedOption, &'static CommandRow),
+    /// These two options exclude each other.
+    Both(TypedOption, TypedOption, &'static CommandRow),
+    /// A file is given by this option, and others after this command.
+    TwoFiles(TypedOption, &'static CommandRow),
     /// A file is to be made, and none is edited in place.
     NothingToCreate(&'static CommandRow),
-    /// A file may be made, and a pair of it has to have each key.
-    NothingExists(&'static CommandRow),
-    /// Standard input is to be changed in place.
-    NoFileInPlace(&'static CommandRow),
+    /// Standard input is to be changed in place, by this option.
+    NoFileInPlace(TypedOption, &'static CommandRow),
     /// No encoding has this label, which is given for this command.
     NoEncoding(&'a str, &'static CommandRow),
+    /// This label, which is given for this command, means ASCII, which is read as windows-1252.
+    AsciiEncoding(&'a str, &'static CommandRow),
     /// No conversion is to this encoding.
     NoTarget(&'a str, &'static CommandRow),
-    /// This command lacks its word.
+    /// This command requires an encoding to convert to.
     NoWord(&'static CommandRow),
     /// After this command comes an option, or what looks like one.
     OptionAfter(&'a str, &'static CommandRow),
@@ -81,33 +98,43 @@ pub enum Mistake<'a> {
     NoValue(&'a str),
     /// This key of `get` is the name of a file, and a default would hide it.
     FileAsKey(&'a str),
+    /// The key and the value of a setting both look like NAME=TEXT.
+    TwoAssignments(&'a str, &'a str),
     /// Memory ran out.
     Memory,
 }
 
 impl Mistake<'_> {
     /// Returns the usage to print under it: that of the command that was meant, if it tells.
-    pub fn usage(self) -> Usage {
+    pub(crate) fn usage(self) -> Usage {
         match self {
-            Mistake::UnknownCommand(word, next) => match command_meant(word).or(next) {
-                Some(row) => Usage::Of(row),
-                None => Usage::All,
-            },
-            Mistake::TwoFiles(_, usage) => usage,
-            Mistake::NotWith(_, row)
+            Mistake::UnknownCommand(_, hint) => hint.usage(),
+            Mistake::CommandTaken(_, row)
+            | Mistake::NotWith(_, row)
+            | Mistake::Both(_, _, row)
+            | Mistake::TwoFiles(_, row)
             | Mistake::NothingToCreate(row)
-            | Mistake::NothingExists(row)
-            | Mistake::NoFileInPlace(row)
+            | Mistake::NoFileInPlace(_, row)
             | Mistake::NoEncoding(_, row)
+            | Mistake::AsciiEncoding(_, row)
             | Mistake::NoTarget(_, row)
             | Mistake::NoWord(row)
             | Mistake::OptionAfter(_, row)
             | Mistake::Surplus(_, row) => Usage::Of(row),
             Mistake::NoKey(name) => usage_of(name),
-            Mistake::NoValue(_) => usage_of("set"),
+            Mistake::NoValue(_) | Mistake::TwoAssignments(_, _) => usage_of("set"),
             Mistake::FileAsKey(_) => usage_of("get"),
             Mistake::NoEdit(_) => Usage::Edits,
             _ => Usage::All,
+        }
+    }
+}
+
+impl Hint {
+    fn usage(self) -> Usage {
+        match self {
+            Hint::Command(row) | Hint::File(row) | Hint::Taken(_, row) => Usage::Of(row),
+            Hint::Nothing | Hint::Option(_) => Usage::All,
         }
     }
 }
@@ -141,6 +168,23 @@ impl<T: Drop> From<AllocFailed<T>> for Mistake<'_> {
     }
 }
 
+/// Bytes in a message that are not UTF-8: those that are no text are printed as in `\xff`, and all others as an `Escaped`
+/// text.
+#[derive(Clone, Copy)]
+pub(crate) struct EscapedBytes<'a>(pub &'a [u8]);
+
+impl fmt::Display for EscapedBytes<'_> {
+    fn fmt<W: fmt::Write>(&self, f: &mut fmt::Formatter<W>) -> fmt::Result {
+        for chunk in self.0.utf8_chunks() {
+            write!(f, "{}", Escaped(chunk.valid()))?;
+            for byte in chunk.invalid() {
+                write!(f, "\\x{byte:02x}")?;
+            }
+        }
+        Ok(())
+    }
+}
+
 const OPTIONS_FIRST: &str = "options come before the command";
 
 const TARGETS: &str = "utf-8, windows-1252 or ascii";
@@ -149,37 +193,44 @@ impl fmt::Display for Mistake<'_> {
     fn fmt<W: fmt::Write>(&self, f: &mut fmt::Formatter<W>) -> fmt::Result {
         match *self {
             Mistake::NotUtf8(bytes) => {
-                write!(f, "the argument '{}' is not UTF-8", bytes.escape_ascii())
+                write!(f, "the argument '{}' is not UTF-8", EscapedBytes(bytes))
             }
             Mistake::NoCommand => f.write_str("no command"),
-            Mistake::UnknownCommand(word, next) => show_unknown_command(f, word, next),
+            Mistake::CommandTaken(option, row) => {
+                f.write_str("no command")?;
+                show_taken(f, option, row.name)
+            }
+            Mistake::UnknownCommand(word, hint) => show_unknown_command(f, word, hint),
             Mistake::UnknownOption(long) => show_unknown_option(f, long),
             Mistake::UnknownLetter(word) => write!(f, "unknown option in '{}'", Escaped(word)),
-            Mistake::NoOptionValue(row) => write!(f, "the option '{row}' lacks its {}", row.value),
-            Mistake::OptionValue(row) => write!(f, "the option '{row}' takes no value"),
-            Mistake::Twice(row) => write!(f, "the option '{row}' is given twice"),
-            Mistake::NotWith(option, row) => {
+            Mistake::NoOptionValue(option) => {
+                let value = option.row.value;
+                write!(f, "the option '{option}' requires a {value}")
+            }
+            Mistake::OptionValue(option) => write!(f, "the option '{option}' takes no value"),
+            Mistake::Twice(option) => write!(f, "the option '{option}' is given twice"),
+            Mistake::NotWith(option, row) => show_not_with(f, option, row.name),
+            Mistake::Both(one, other, _) => {
+                write!(f, "the option '{one}' cannot be used with '{other}'")
+            }
+            Mistake::TwoFiles(option, row) => {
                 write!(
                     f,
-                    "the option '{option}' cannot be used with '{}'",
+                    "the option '{option}' cannot be used with '{} FILE ..'",
                     row.name
                 )
             }
-            Mistake::TwoFiles(other, _) => {
-                write!(f, "the option '-f FILE' cannot be used with '{other}'")
-            }
             Mistake::NothingToCreate(_) => {
-                f.write_str("the option '--create' needs '-i FILE', whose FILE it makes")
+                f.write_str("the option '--create' requires '-i FILE'")
             }
-            Mistake::NothingExists(_) => {
-                f.write_str("the option '-x' cannot be used with '--create'")
-            }
-            Mistake::NoFileInPlace(_) => f.write_str(
-                "the option '-i FILE' needs a file, and '-' is standard input; './-' is a file",
+            Mistake::NoFileInPlace(option, _) => write!(
+                f,
+                "the option '{option}' requires a file, but '-' is standard input; './-' names a file"
             ),
             Mistake::NoEncoding(label, _) => show_unknown_encoding(f, label),
-            Mistake::NoTarget(word, row) => show_no_target(f, word, row.name),
-            Mistake::NoWord(row) => write!(f, "'{}' lacks its {}", row.name, row.words),
+            Mistake::AsciiEncoding(label, _) => show_ascii_encoding(f, label),
+            Mistake::NoTarget(word, _) => show_no_target(f, word),
+            Mistake::NoWord(row) => { write!(f, "'{}' requires an ENCODING: {TARGETS}", row.name) }
             Mistake::OptionAfter(word, row) => {
                 write!(
                     f,
@@ -191,13 +242,13 @@ impl fmt::Display for Mistake<'_> {
             Mistake::Surplus(word, row) => {
                 write!(
                     f,
-                    "unexpected '{}': '{}' takes one word, and '-f FILE' before it names a file",
+                    "unexpected '{}': '{}' takes one argument; '-f FILE' before it names a file",
                     Escaped(word),
                     row.name
                 )
             }
             Mistake::NoEdit(word) => show_no_edit(f, word),
-            Mistake::NoKey(name) => write!(f, "'{name}' lacks its KEY"),
+            Mistake::NoKey(name) => write!(f, "'{name}' requires a KEY"),
             Mistake::NoValue(key) => show_no_value(f, key),
             Mistake::FileAsKey(name) => {
                 let name = Escaped(name);
@@ -206,38 +257,68 @@ impl fmt::Display for Mistake<'_> {
                     "the KEY '{name}' is the name of a file; '-f {name}' reads it, and '-f -' standard input"
                 )
             }
+            Mistake::TwoAssignments(key, value) => show_two_assignments(f, key, value),
             Mistake::Memory => f.write_str("Out of memory."),
         }
     }
 }
 
-// Prints that a word is no command, and what may be meant: a command, or a file, if a command comes next.
+// Prints that a word is no command, and what may be meant.
 fn show_unknown_command<W: fmt::Write>(
     f: &mut fmt::Formatter<W>,
     word: &str,
-    next: Option<&'static CommandRow>,
+    hint: Hint,
 ) -> fmt::Result {
     if word == "--" {
-        return f.write_str("unexpected '--': the command stands without it");
+        return f.write_str("unexpected '--' before the command");
     }
     let shown = Escaped(word);
     write!(f, "unknown command '{shown}'")?;
-    match (command_meant(word), next) {
-        (Some(row), _) => write!(f, "; '{}' is one", row.name),
-        (None, Some(row)) if row.is_edit() => {
+    match hint {
+        Hint::Nothing => Ok(()),
+        Hint::Command(row) => show_meant(f, "", row.name),
+        Hint::Option(long) => show_meant(f, "--", long),
+        Hint::File(row) if row.is_edit() => {
             write!(f, "; a file is named as in '-i {shown} {}'", row.name)
         }
-        (None, Some(row)) => write!(f, "; a file is named as in '-f {shown} {}'", row.name),
-        (None, None) => Ok(()),
+        Hint::File(row) => write!(f, "; a file is named as in '-f {shown} {}'", row.name),
+        Hint::Taken(option, row) => show_taken(f, option, row.name),
     }
+}
+
+// Prints which name may be meant, after these dashes.
+fn show_meant<W: fmt::Write>(f: &mut fmt::Formatter<W>, dashes: &str, name: &str) -> fmt::Result {
+    write!(f, "; did you mean '{dashes}{name}'?")
+}
+
+// Prints that an option took a command as its value.
+fn show_taken<W: fmt::Write>(
+    f: &mut fmt::Formatter<W>,
+    option: TypedOption,
+    command: &str,
+) -> fmt::Result {
+    write!(f, "; the option '{option}' took '{command}' as its value")
 }
 
 // Prints that no option has this long name, and which one may be meant.
 fn show_unknown_option<W: fmt::Write>(f: &mut fmt::Formatter<W>, long: &str) -> fmt::Result {
     write!(f, "unknown option '--{}'", Escaped(long))?;
     match option_meant(long) {
-        Some(row) => write!(f, "; '--{}' is one", row.long),
+        Some(row) => show_meant(f, "--", row.long),
         None => Ok(()),
+    }
+}
+
+// Prints that a command has no use for an option, and how a file is read that was to be edited.
+fn show_not_with<W: fmt::Write>(
+    f: &mut fmt::Formatter<W>,
+    option: TypedOption,
+    command: &str,
+) -> fmt::Result {
+    write!(f, "the option '{option}' cannot be used with '{command}'")?;
+    match option.row.option {
+        OptionName::InPlace => f.write_str("; '-f FILE' reads a file"),
+        _ => Ok(()),
     }
 }
 
@@ -245,61 +326,120 @@ fn show_unknown_option<W: fmt::Write>(f: &mut fmt::Formatter<W>, long: &str) -> 
 fn show_no_edit<W: fmt::Write>(f: &mut fmt::Formatter<W>, word: &str) -> fmt::Result {
     write!(f, "unknown edit '{}'", Escaped(word))?;
     match command_meant(word) {
-        Some(row) if row.is_edit() => write!(f, "; '{}' is one", row.name),
+        Some(row) if row.is_edit() => show_meant(f, "", row.name),
         _ => write!(
             f,
-            ": after an edit comes set or remove, and {OPTIONS_FIRST}"
+            ": each edit begins with set or remove, and {OPTIONS_FIRST}"
         ),
     }
 }
 
 // Prints that the setting of a key has no value, and how to write one that is joined to the key.
 fn show_no_value<W: fmt::Write>(f: &mut fmt::Formatter<W>, key: &str) -> fmt::Result {
-    write!(f, "'set {}' lacks its VALUE", Escaped(key))?;
+    write!(f, "'set {}' requires a VALUE", Escaped(key))?;
     match key.split_once('=') {
-        Some((key, value)) => write!(f, "; write 'set {} {}'", Escaped(key), Escaped(value)),
+        Some((key, value)) => {
+            f.write_str("; did you mean '")?;
+            show_setting(f, key, value)?;
+            f.write_str("'?")
+        }
         None => Ok(()),
     }
 }
 
-// Prints that no conversion is to this encoding, and which one may be meant.
-fn show_no_target<W: fmt::Write>(
+// Prints that a key and a value look like two settings, how to write these, and how to write the key.
+fn show_two_assignments<W: fmt::Write>(
     f: &mut fmt::Formatter<W>,
-    word: &str,
-    command: &str,
+    key: &str,
+    value: &str,
 ) -> fmt::Result {
-    let shown = Escaped(word);
-    write!(f, "'{command}' takes {TARGETS}, and not '{shown}'")?;
-    match target_meant(word) {
-        Some(hint) => write!(f, "; {hint}"),
-        None => Ok(()),
-    }
-}
-
-// Prints that no encoding has this label, and which there are.
-fn show_unknown_encoding<W: fmt::Write>(f: &mut fmt::Formatter<W>, label: &str) -> fmt::Result {
-    let label = Escaped(label);
     write!(
         f,
-        "'{label}' is no label of windows-1252, utf-8, utf-16le or utf-16be"
+        "'set {} {}': did you mean '",
+        Escaped(key),
+        Escaped(value)
     )?;
-    match label_meant(label.0) {
-        Some(meant) => write!(f, "; '{meant}' is one"),
-        None => Ok(()),
+    show_assignment(f, key)?;
+    f.write_str(" ")?;
+    show_assignment(f, value)?;
+    write!(f, "'? For the key '{}', write 'set -- ", Escaped(key))?;
+    show_argument(f, key)?;
+    f.write_str(" ")?;
+    show_argument(f, value)?;
+    f.write_str("'")
+}
+
+// Prints the setting that a text in the form NAME=TEXT is meant for.
+fn show_assignment<W: fmt::Write>(f: &mut fmt::Formatter<W>, text: &str) -> fmt::Result {
+    let (key, value) = text.split_once('=').unwrap_or((text, ""));
+    show_setting(f, key, value)
+}
+
+fn show_setting<W: fmt::Write>(f: &mut fmt::Formatter<W>, key: &str, value: &str) -> fmt::Result {
+    f.write_str("set ")?;
+    show_argument(f, key)?;
+    f.write_str(" ")?;
+    show_argument(f, value)
+}
+
+// Prints an argument, in quotes if a shell would take it for none or for several.
+fn show_argument<W: fmt::Write>(f: &mut fmt::Formatter<W>, text: &str) -> fmt::Result {
+    if text.is_empty() || text.contains(' ') {
+        write!(f, "\"{}\"", Escaped(text))
+    } else {
+        write!(f, "{}", Escaped(text))
     }
+}
+
+// Prints that no conversion is to this encoding, and which one may be meant, or which there are.
+fn show_no_target<W: fmt::Write>(f: &mut fmt::Formatter<W>, word: &str) -> fmt::Result {
+    write!(f, "cannot convert to '{}'; ", Escaped(word))?;
+    match target_meant(word) {
+        Some(hint) => f.write_str(hint),
+        None => write!(f, "use {TARGETS}"),
+    }
+}
+
+// Prints that no encoding has this label, and which one may be meant, or which there are.
+fn show_unknown_encoding<W: fmt::Write>(f: &mut fmt::Formatter<W>, label: &str) -> fmt::Result {
+    write!(f, "unknown encoding '{}'", Escaped(label))?;
+    match label_meant(label) {
+        Some(meant) => show_meant(f, "", meant),
+        None => f.write_str("; use utf-8, windows-1252, utf-16le or utf-16be"),
+    }
+}
+
+// Prints what a label that means ASCII stands for, and how to find what isn't ASCII.
+fn show_ascii_encoding<W: fmt::Write>(f: &mut fmt::Formatter<W>, label: &str) -> fmt::Result {
+    write!(
+        f,
+        "encoding '{}': ASCII is read as windows-1252; write '-e windows-1252' if that is meant, \
+        or '-a check' to find non-ASCII characters",
+        Escaped(label)
+    )
 }
 
 // Returns what is said of an encoding that no conversion is to: which one may be meant.
 fn target_meant(word: &str) -> Option<&'static str> {
+    if means_ascii(word) {
+        return Some("did you mean 'ascii'?");
+    }
     match label_meant(word) {
-        Some("utf-8") => Some("write 'utf-8'"),
-        Some("windows-1252" | "cp1252") => Some("write 'windows-1252'"),
-        Some("latin1" | "iso-8859-1" | "us-ascii") => {
-            Some("'ascii' is what Java reads right as ISO 8859-1")
-        }
+        Some("utf-8") => Some("did you mean 'utf-8'?"),
+        Some("windows-1252" | "cp1252") => Some("did you mean 'windows-1252'?"),
+        Some("latin1" | "iso-8859-1") => Some("for programs that read ISO 8859-1, use ascii"),
         _ => None,
     }
 }
+
+/// Returns whether this label means ASCII to people who write it.
+pub(crate) fn means_ascii(label: &str) -> bool {
+    ASCII_LABELS
+        .iter()
+        .any(|ascii| have_same_letters(ascii, label))
+}
+
+const ASCII_LABELS: &[&str] = &["ascii", "us-ascii", "ansi_x3.4-1968"];
 
 // Labels that people write with other signs between their letters and digits.
 const LABELS: &[&str] = &[
@@ -311,7 +451,6 @@ const LABELS: &[&str] = &[
     "latin1",
     "iso-8859-1",
     "cp1252",
-    "us-ascii",
 ];
 
 // Returns the label that has the letters and digits of this one.

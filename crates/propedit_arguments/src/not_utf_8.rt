@@ -3,7 +3,7 @@
 ghost use Rattle.std.specs.Prelude.{◌≡◌};
 ghost use Rattle.counted_io.specs.Streams.{IsSameSink};
 
-use crate::mistake::Mistake;
+use crate::mistake::{EscapedBytes, Mistake};
 use crate::parse::explain_mistake;
 use counted_io::CountedWrite;
 use properties_tools::propedit::{print_out_of_memory, print_usage_error};
@@ -36,8 +36,8 @@ pub fn explain_not_utf_8<R: Env, E: CountedWrite>(rt: &R, alloc: Global, errors:
 // What marks a word that is not UTF-8. No argument holds it.
 const MARK: char = '\0';
 
-/// Returns the words after the program's name. One that is not UTF-8 is marked, and its bytes stand as `escape_ascii`
-/// prints them.
+/// Returns the words after the program's name. One that is not UTF-8 is marked, and its bytes stand as messages print
+/// them.
 ///
 /// ```text
 /// let words = marked_words(&rt, alloc)?;
@@ -60,7 +60,7 @@ pub fn marked_words<R: Env>(rt: &R, alloc: Global) -> Result<Vec<String>, AllocE
 fn marked(alloc: Global, bytes: &[u8]) -> Result<String, AllocError> {
     match str::from_utf8(bytes) {
         Ok(word) => String::from_str(alloc, word),
-        Err(_) => format!(in alloc; "{MARK}{}", bytes.escape_ascii()),
+        Err(_) => format!(in alloc; "{MARK}{}", EscapedBytes(bytes)),
     }
 }
 

@@ -1,7 +1,9 @@
 // The options before a command.
 
-use crate::command_line::{CommandRow, OptionName, OptionRow, Usage, option_named, option_of};
-use crate::mistake::{Mistake, NoRequest};
+use crate::command_line::{
+    CommandRow, OptionName, TypedOption, command_named, option_named, option_of,
+};
+use crate::mistake::{Mistake, NoRequest, means_ascii};
 use java_properties::{Encoding, Spelling};
 use properties_tools::propedit::request::{Command, Job, Missing, Request, Source, Terminator};
 use std::alloc::Global;
@@ -18,7 +20,7 @@ pub struct Options<'a> {
 // An option, and its value, which is empty if it takes none.
 #[derive(Clone, Copy)]
 struct Given<'a> {
-    row: &'static OptionRow,
+    option: TypedOption,
     value: &'a str,
 }
 
@@ -35,8 +37,8 @@ pub fn options_in<'a>(
     let mut without_value = None;
     for (at, word) in words.iter().enumerate() {
         let word = word.as_str();
-        if let Some(row) = without_value {
-            options.add(row, word)?;
+        if let Some(option) = without_value {
+            options.add(option, word)?;
             without_value = None;
         } else if is_option(word) {
             without_value = options.add_word(word)?;
@@ -45,7 +47,7 @@ pub fn options_in<'a>(
         }
     }
     match without_value {
-        Some(row) => Err(NoRequest::Wrong(Mistake::NoOptionValue(row))),
+        Some(option) => Err(NoRequest::Wrong(Mistake::NoOptionValue(option))),
         None => Ok((options, &[])),
     }
 }
@@ -57,14 +59,14 @@ pub fn is_option(word: &str) -> bool {
 
 impl<'a> Options<'a> {
     // Adds the options of a word, and returns the last of them if its value is the next word.
-    fn add_word(&mut self, word: &'a str) -> Result<Option<&'static OptionRow>, NoRequest<'a>> {
+    fn add_word(&mut self, word: &'a str) -> Result<Option<TypedOption>, NoRequest<'a>> {
         match word.strip_prefix("--") {
             Some(long) => self.add_long(long),
             None => self.add_letters(word),
         }
     }
 
-    fn add_long(&mut self, long: &'a str) -> Result<Option<&'static OptionRow>, NoRequest<'a>> {
+    fn add_long(&mut self, long: &'a str) -> Result<Option<TypedOption>, NoRequest<'a>> {
         let (name, value) = match long.split_once('=') {
             Some((name, value)) => (name, Some(value)),
             None => (long, None),
@@ -72,55 +74,67 @@ impl<'a> Options<'a> {
         let Some(row) = option_named(name) else {
             return Err(NoRequest::Wrong(Mistake::UnknownOption(name)));
         };
+        let option = TypedOption { row, letter: None };
         match value {
-            Some(value) if row.takes_value() => self.add(row, value)?,
-            Some(_) => return Err(NoRequest::Wrong(Mistake::OptionValue(row))),
-            None if row.takes_value() => return Ok(Some(row)),
-            None => self.add(row, "")?,
+            Some(value) if row.takes_value() => self.add(option, value)?,
+            Some(_) => return Err(NoRequest::Wrong(Mistake::OptionValue(option))),
+            None if row.takes_value() => return Ok(Some(option)),
+            None => self.add(option, "")?,
         }
         Ok(None)
     }
 
-    fn add_letters(&mut self, word: &'a str) -> Result<Option<&'static OptionRow>, NoRequest<'a>> {
+    fn add_letters(&mut self, word: &'a str) -> Result<Option<TypedOption>, NoRequest<'a>> {
         for (at, letter) in word.char_indices().skip(1) {
             let Some(row) = option_of(letter) else {
                 return Err(NoRequest::Wrong(Mistake::UnknownLetter(word)));
             };
+            let option = TypedOption {
+                row,
+                letter: Some(letter),
+            };
             if !row.takes_value() {
-                self.add(row, "")?;
+                self.add(option, "")?;
                 continue;
             }
             let value = word.get(at.saturating_add(1)..).unwrap_or("");
             if value.is_empty() {
-                return Ok(Some(row));
+                return Ok(Some(option));
             }
-            self.add(row, value.strip_prefix('=').unwrap_or(value))?;
+            self.add(option, value.strip_prefix('=').unwrap_or(value))?;
             return Ok(None);
         }
         Ok(None)
     }
 
-    fn add(&mut self, row: &'static OptionRow, value: &'a str) -> Result<(), NoRequest<'a>> {
-        match row.option {
+    fn add(&mut self, option: TypedOption, value: &'a str) -> Result<(), NoRequest<'a>> {
+        match option.row.option {
             OptionName::Help => return Err(NoRequest::Help),
             OptionName::Version => return Err(NoRequest::Version),
             OptionName::File | OptionName::InPlace if value.is_empty() => {
-                return Err(NoRequest::Wrong(Mistake::NoOptionValue(row)));
+                return Err(NoRequest::Wrong(Mistake::NoOptionValue(option)));
             }
             _ => {}
         }
-        if self.has(row.option) {
-            return Err(NoRequest::Wrong(Mistake::Twice(row)));
+        if self.has(option.row.option) {
+            return Err(NoRequest::Wrong(Mistake::Twice(option)));
         }
-        self.given.push(Given { row, value })?;
+        self.given.push(Given { option, value })?;
         Ok(())
     }
 
     fn find(&self, option: OptionName) -> Option<Given<'a>> {
         self.given
             .iter()
-            .find(|given| given.row.option == option)
+            .find(|given| given.option.row.option == option)
             .copied()
+    }
+
+    /// Returns an option whose value is the name of a command, and that name: the command may be meant.
+    pub fn command_taken(&self) -> Option<(TypedOption, &'static CommandRow)> {
+        self.given
+            .iter()
+            .find_map(|given| Some((given.option, command_named(given.value)?)))
     }
 
     /// Returns whether an option is given.
@@ -136,31 +150,41 @@ impl<'a> Options<'a> {
     /// Fails if an option is given that the command has no use for, or two that can't be used together.
     pub fn refuse_useless(&self, command: &'static CommandRow) -> Result<(), Mistake<'a>> {
         for given in &self.given {
-            if !command.options.contains(&given.row.option) {
-                return Err(Mistake::NotWith(given.row, command));
+            if !command.options.contains(&given.option.row.option) {
+                return Err(Mistake::NotWith(given.option, command));
             }
         }
-        if self.has(OptionName::File) && self.has(OptionName::InPlace) {
-            return Err(Mistake::TwoFiles("-i FILE", Usage::Of(command)));
-        }
+        self.refuse_both(OptionName::File, OptionName::InPlace, command)?;
         if self.has(OptionName::Create) && !self.has(OptionName::InPlace) {
             return Err(Mistake::NothingToCreate(command));
         }
-        if self.has(OptionName::Existing) && self.has(OptionName::Create) {
-            return Err(Mistake::NothingExists(command));
+        self.refuse_both(OptionName::Existing, OptionName::Create, command)?;
+        match self.find(OptionName::InPlace) {
+            Some(given) if given.value == STANDARD_INPUT => {
+                Err(Mistake::NoFileInPlace(given.option, command))
+            }
+            _ => Ok(()),
         }
-        if self.value(OptionName::InPlace) == Some(STANDARD_INPUT) {
-            return Err(Mistake::NoFileInPlace(command));
+    }
+
+    fn refuse_both(
+        &self,
+        one: OptionName,
+        other: OptionName,
+        command: &'static CommandRow,
+    ) -> Result<(), Mistake<'a>> {
+        match (self.find(one), self.find(other)) {
+            (Some(one), Some(other)) => Err(Mistake::Both(one.option, other.option, command)),
+            _ => Ok(()),
         }
-        Ok(())
     }
 
     /// Fails if a file to read is given, for a check of files that are named after it.
     pub fn refuse_file(&self, command: &'static CommandRow) -> Result<(), Mistake<'a>> {
-        if self.has(OptionName::File) {
-            return Err(Mistake::TwoFiles("check FILE ..", Usage::Of(command)));
+        match self.find(OptionName::File) {
+            Some(given) => Err(Mistake::TwoFiles(given.option, command)),
+            None => Ok(()),
         }
-        Ok(())
     }
 
     /// Fails if an option is given that only `set` has a use for, for edits that set nothing.
@@ -169,14 +193,16 @@ impl<'a> Options<'a> {
             .find(OptionName::Ascii)
             .or(self.find(OptionName::Existing))
         {
-            Some(given) => Err(Mistake::NotWith(given.row, command)),
+            Some(given) => Err(Mistake::NotWith(given.option, command)),
             None => Ok(()),
         }
     }
 
-    /// Returns the encoding whose label is given, or UTF-8 if none is.
+    /// Returns the encoding whose label is given, or UTF-8 if none is. A label that means ASCII is refused: the standard
+    /// reads ASCII as windows-1252, which takes any bytes.
     pub fn encoding(&self, command: &'static CommandRow) -> Result<Encoding, Mistake<'a>> {
         match self.value(OptionName::Encoding) {
+            Some(label) if means_ascii(label) => Err(Mistake::AsciiEncoding(label, command)),
             Some(label) => match Encoding::for_label(label) {
                 Some(encoding) => Ok(encoding),
                 None => Err(Mistake::NoEncoding(label, command)),

@@ -4,10 +4,10 @@ ghost use Rattle.std.specs.Prelude.{◌≡◌};
 ghost use Rattle.counted_io.specs.Streams.{IsSameSink};
 
 use crate::command_line::{
-    CommandName, CommandRow, Help, OptionName, Version, command_named, target_named,
+    CommandName, CommandRow, Help, OptionName, Version, command_meant, command_named, target_named,
 };
 use crate::edits::edits_in;
-use crate::mistake::{Mistake, NoRequest};
+use crate::mistake::{Hint, Mistake, NoRequest};
 use crate::options::{Options, is_option, options_in};
 use counted_io::CountedWrite;
 use java_properties::Edit;
@@ -30,10 +30,11 @@ use std::alloc::{AllocError, Global};
 pub fn asked_for<'a>(alloc: Global, words: &'a [String]) -> Result<Request, NoRequest<'a>> {
     let (options, words) = options_in(alloc, words)?;
     let [name, rest @ ..] = words else {
-        return Err(NoRequest::Wrong(Mistake::NoCommand));
+        return Err(NoRequest::Wrong(no_command(&options)));
     };
     let Some(row) = command_named(name.as_str()) else {
-        return Err(NoRequest::Wrong(unknown(name.as_str(), rest)));
+        let meant = hint(&options, name.as_str(), rest);
+        return Err(NoRequest::Wrong(Mistake::UnknownCommand(name.as_str(), meant)));
     };
     if row.takes_plain_words() && asks_for_help(rest) {
         return Err(NoRequest::Help);
@@ -95,13 +96,42 @@ pub fn explain_mistake<E: CountedWrite>(alloc: Global, mistake: Mistake<'_>, err
     }
 }
 
-// Returns what is wrong with a word in the place of a command, before these words.
-fn unknown<'a>(name: &'a str, rest: &'a [String]) -> Mistake<'a> {
-    let next = match rest {
-        [next, ..] => command_named(next.as_str()),
-        [] => None,
+fn no_command<'a>(options: &Options<'a>) -> Mistake<'a> {
+    match options.command_taken() {
+        Some((option, row)) => Mistake::CommandTaken(option, row),
+        None => Mistake::NoCommand,
+    }
+}
+
+// Returns what may be meant by a word in the place of a command, after these options and before these words.
+fn hint(options: &Options<'_>, word: &str, rest: &[String]) -> Hint {
+    if let Some(row) = command_meant(word) {
+        return Hint::Command(row);
+    }
+    if let Some((option, row)) = options.command_taken() {
+        return Hint::Taken(option, row);
+    }
+    match OPTIONS_AS_COMMANDS
+        .iter()
+        .find(|long| word.eq_ignore_ascii_case(long))
+    {
+        Some(long) => Hint::Option(long),
+        None => file_hint(rest),
+    }
+}
+
+// Options that other programs have as commands.
+const OPTIONS_AS_COMMANDS: &[&str] = &["help", "version"];
+
+// Returns that a file may be meant by the word before these, if the first of them is a command.
+fn file_hint(rest: &[String]) -> Hint {
+    let [next, ..] = rest else {
+        return Hint::Nothing;
     };
-    Mistake::UnknownCommand(name, next)
+    match command_named(next.as_str()) {
+        Some(row) => Hint::File(row),
+        None => Hint::Nothing,
+    }
 }
 
 // Returns the words before a first `--`, and those after it.

@@ -1,33 +1,84 @@
 -- The edits that words ask for.
-use Rattle.std.specs.Prelude.{◌≡◌, ◌≢◌, ℕ, List, [], ◌∷◌, ◌++◌, Result, Ok, Err, codes, map, string_bytes}
+use Rattle.std.specs.Prelude.{◌≡◌, ◌≢◌, ◌==◌, Bool, false, ℕ, List, [], ◌∷◌, ◌++◌, Result, Ok, Err, codes, map, string_bytes}
 use Rattle.std.specs.Borrow.{Bor}
 use Rattle.std.specs.Global.{Vec}
+use Rattle.std.specs.List.{list_any}
 use Rattle.std.specs.Str.{chars}
 use Rattle.std.specs.declared.string.String.{String}
 use Rattle.properties_format.specs.Edits as format
+use Rattle.properties_format.specs.Text.{is_blank}
 use Rattle.java_properties.specs.Editing.{edits_in}
 use Rattle.properties_editing.specs.declared.edit.Edit as editor
 use Rattle.propedit_arguments.specs.declared.edits.BorrowedEdit.{BorrowedEdit}
 use Rattle.propedit_arguments.specs.declared.edits.BorrowedEdit.TheVariants as Borrowed
 use Rattle.propedit_arguments.specs.declared.mistake.Mistake.{Mistake}
-use Rattle.propedit_arguments.specs.declared.mistake.Mistake.TheVariants.{Memory}
+use Rattle.propedit_arguments.specs.declared.mistake.Mistake.TheVariants.{Memory, NoEdit, NoKey, NoValue, TwoAssignments}
 
 -- Words and texts are their UTF-8.
+
+-- ---- the words of an edit
 
 -- an edit that words ask for: a key to set and its value, or a key to remove
 pub data Edit : Type 0 where
   set : List ℕ → List ℕ → Edit
   remove : List ℕ → Edit
 
+abbrev pub command_of : Edit → List ℕ
+command_of (set key value) = codes "set"
+command_of (remove key) = codes "remove"
+
+abbrev pub texts_of : Edit → List (List ℕ)
+texts_of (set key value) = key ∷ (value ∷ [])
+texts_of (remove key) = key ∷ []
+
+-- how its texts are written: plainly, or after a `--`, which has them taken as they are
+pub data Form : Type 0 where
+  plain : Form
+  literal : Form
+
+-- the words for texts
+abbrev pub text_words : Form → List (List ℕ) → List (List ℕ)
+text_words plain texts = texts
+text_words literal texts = codes "--" ∷ texts
+
+-- Texts may begin in this form: plain ones don't with `--`.
+abbrev pub MayBegin : Form → List (List ℕ) → Type 0
+MayBegin literal texts = Unit {0}
+MayBegin plain texts = (others : List (List ℕ)) → texts ≡ codes "--" ∷ others → ⊥
+
 -- the words of an edit
-abbrev pub edit_words : Edit → List (List ℕ)
-edit_words (set key value) = codes "set" ∷ (key ∷ (value ∷ []))
-edit_words (remove key) = codes "remove" ∷ (key ∷ [])
+abbrev pub edit_words : Form → Edit → List (List ℕ)
+edit_words form edit = command_of edit ∷ text_words form (texts_of edit)
+
+-- whether a character is a `=`
+abbrev pub is_sign : ℕ → Bool
+is_sign c = c == 0x3D
+
+-- The text looks like NAME=TEXT: what stands before its first `=` is a name, which isn't empty and has no blank.
+pub record IsAssignment (text : List ℕ) : Type 0 where
+  pub name : List ℕ
+  pub value : List ℕ
+  pub is : text ≡ name ++ (0x3D ∷ value)
+  pub first : list_any is_sign name ≡ false
+  pub some : name ≢ []
+  pub whole : list_any is_blank name ≡ false
+
+-- An edit may be written so. Plainly, its key isn't `--`, and key and value don't both look like NAME=TEXT.
+abbrev pub MayBeWritten : Form → Edit → Type 0
+MayBeWritten literal edit = Unit {0}
+MayBeWritten plain (remove key) = key ≢ codes "--"
+MayBeWritten plain (set key value) = (key ≢ codes "--") × (IsAssignment key → IsAssignment value → ⊥)
+
+-- an edit as it is written
+pub record WrittenEdit : Type 0 where
+  pub edit : Edit
+  pub form : Form
+  pub may : MayBeWritten form edit
 
 -- the words of edits, one after another
-abbrev pub words_of : List Edit → List (List ℕ)
+abbrev pub words_of : List WrittenEdit → List (List ℕ)
 words_of [] = []
-words_of (edit ∷ edits) = edit_words edit ++ words_of edits
+words_of (w ∷ ws) = edit_words w.form w.edit ++ words_of ws
 
 -- What is made of it, with characters for its texts. Setting a key keeps the layout of its line.
 abbrev pub in_characters : Edit → format.Edit
@@ -36,14 +87,35 @@ in_characters (remove key) = format.remove (chars key)
 
 -- The words are those of edits, and these are made.
 pub record AreWordsOfEdits (words : List (List ℕ)) (edits : List format.Edit) : Type 0 where
-  pub asked : List Edit
+  pub asked : List WrittenEdit
   pub is : words ≡ words_of asked
-  pub made : edits ≡ map in_characters asked
+  pub made : edits ≡ map (λ w. in_characters w.edit) asked
 
--- What the words give: the edits that they ask for; or they ask for none, or memory ran out.
+-- ---- words that ask for no edit
+
+-- This is what is wrong at the front of words that begin with no edit: the first is no command that edits; a key or a
+-- value is missing; or a key and a value both look like NAME=TEXT.
+pub data IsMistakeAt (words : List (List ℕ)) (mistake : Mistake) : Type 0 where
+  no_edit : (word : Bor (List ℕ)) (others : List (List ℕ)) → words ≡ word.now ∷ others → word.now ≢ codes "set" → word.now ≢ codes "remove"
+      → mistake ≡ NoEdit word → IsMistakeAt words mistake
+  no_key : (command : Bor (List ℕ)) (edit : Edit) (form : Form) → command.now ≡ command_of edit → words ≡ command_of edit ∷ text_words form []
+      → mistake ≡ NoKey command → IsMistakeAt words mistake
+  no_value : (key : Bor (List ℕ)) (form : Form) → words ≡ codes "set" ∷ text_words form (key.now ∷ []) → MayBegin form (key.now ∷ [])
+      → mistake ≡ NoValue key → IsMistakeAt words mistake
+  assignments : (key value : Bor (List ℕ)) (others : List (List ℕ)) → words ≡ codes "set" ∷ (key.now ∷ (value.now ∷ others))
+      → IsAssignment key.now → IsAssignment value.now → mistake ≡ TwoAssignments key value → IsMistakeAt words mistake
+
+-- The words are those of edits up to some that begin with no edit, and this is what is wrong with those.
+pub record AreWrong (words : List (List ℕ)) (mistake : Mistake) : Type 0 where
+  pub before : List WrittenEdit
+  pub rest : List (List ℕ)
+  pub is : words ≡ words_of before ++ rest
+  pub wrong : IsMistakeAt rest mistake
+
+-- What the words give: the edits that they ask for; or they ask for none, and the mistake says why, or memory ran out.
 abbrev pub GivesEdits : List (List ℕ) → Result (Vec editor.Edit) Mistake → Type 0
 GivesEdits words (Ok edits) = AreWordsOfEdits words (edits_in edits.items)
-GivesEdits words (Err mistake) = mistake ≢ Memory → (edits : List Edit) → words ≡ words_of edits → ⊥
+GivesEdits words (Err mistake) = mistake ≢ Memory → AreWrong words mistake × ((edits : List WrittenEdit) → words ≡ words_of edits → ⊥)
 
 -- ---- what the code finds on the way
 
@@ -52,11 +124,17 @@ abbrev pub borrowed_edit : BorrowedEdit → Edit
 borrowed_edit (Borrowed.Set key value) = set (string_bytes key.now) (string_bytes value.now)
 borrowed_edit (Borrowed.Remove key) = remove (string_bytes key.now)
 
--- No edit begins the words.
-abbrev pub BeginNoEdit : List (List ℕ) → Type 0
-BeginNoEdit words = (edit : Edit) (others : List (List ℕ)) → words ≡ edit_words edit ++ others → ⊥
-
--- the edit that begins the words and the words after it, if one does
+-- the edit that begins the words and the words after it; or what is wrong with their front, if there are words
 abbrev pub TakesEdit : {Z : Type 0} → List (List ℕ) → Result (BorrowedEdit × Bor (List (String Z))) Mistake → Type 0
-TakesEdit words (Ok next) = words ≡ edit_words (borrowed_edit next.0) ++ map string_bytes next.1.now
-TakesEdit words (Err mistake) = BeginNoEdit words × (mistake ≢ Memory)
+TakesEdit words (Ok next) =
+    (form : Form) × MayBeWritten form (borrowed_edit next.0) × (words ≡ edit_words form (borrowed_edit next.0) ++ map string_bytes next.1.now)
+TakesEdit words (Err mistake) = words ≢ [] → IsMistakeAt words mistake
+
+-- The texts are written so by the words.
+abbrev pub AreAfterDashes : List (List ℕ) → List (List ℕ) → Type 0
+AreAfterDashes words texts = (form : Form) × (words ≡ text_words form texts) × MayBegin form texts
+
+-- No plain words begin with a key and a value that both look like NAME=TEXT; or the mistake names these.
+abbrev pub RefusesAssignments : List (List ℕ) → Result Unit Mistake → Type 0
+RefusesAssignments words (Ok _) = (key value : List ℕ) (others : List (List ℕ)) → words ≡ key ∷ (value ∷ others) → IsAssignment key → IsAssignment value → ⊥
+RefusesAssignments words (Err mistake) = IsMistakeAt (codes "set" ∷ words) mistake
