@@ -356,7 +356,7 @@ def _utf_8(text: str, key: Optional[str] = None) -> bytes:
     """Returns a text in UTF-8. An error names the key whose value it is, if that is known."""
     if not isinstance(text, str):
         what = f"the value of {key!r}" if key else "a key, a value or a comment"
-        raise TypeError(f"{what} is to be a str, not {type(text).__name__}")
+        raise TypeError(f"{what} has to be a str, not {type(text).__name__}")
     try:
         return text.encode("utf-8")
     except UnicodeEncodeError:
@@ -417,7 +417,7 @@ def _naming(path: Path) -> Iterator[None]:
         error.path = os.fspath(path)
         raise
     except OSError as error:
-        if error.filename == os.fspath(path):
+        if error.errno is None or error.filename == os.fspath(path):
             raise
         raise OSError(error.errno, error.strerror, os.fspath(path)) from error
 
