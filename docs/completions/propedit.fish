@@ -81,7 +81,7 @@ complete -c propedit -n '__propedit_wants COMMAND' -s e -l encoding -x -a 'utf-8
 complete -c propedit -n '__propedit_wants COMMAND' -s d -l default -x -d 'What get prints if no pair has a KEY, with status 0'
 complete -c propedit -n '__propedit_wants COMMAND' -s z -l null -d 'Ends each text of get and list with a zero byte'
 complete -c propedit -n '__propedit_wants COMMAND' -s v -l values -d 'Has list print KEY=VALUE; with -z, KEY and VALUE'
-complete -c propedit -n '__propedit_wants COMMAND' -s a -l ascii -d 'Has set put in ASCII-only text, right in every encoding'
+complete -c propedit -n '__propedit_wants COMMAND' -s a -l ascii -d 'Has set write only ASCII, and check report all else'
 complete -c propedit -n '__propedit_wants COMMAND' -s x -l existing -d 'Has set refuse a KEY that no pair has, with status 1'
 complete -c propedit -n '__propedit_wants COMMAND' -s r -l readable -d 'Has convert write characters in place of escapes'
 complete -c propedit -n '__propedit_wants COMMAND' -s h -l help -d 'Prints this'
