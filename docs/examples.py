@@ -37,12 +37,14 @@ use properties_tools::propedit::error::{Failure, print_failure};
 use properties_tools::propedit::hint::{possible_files, print_reading, refused_file};
 use properties_tools::propedit::in_place::{Target, edit_file};
 use properties_tools::propedit::ill_formed::ill_formed_lines;
+use properties_tools::propedit::same_file::refuse_output;
 use properties_tools::propedit::{self, change::change, check::report, exit_status, get::get, list::list, pairs::list_values, replacement};
 use properties_tools::propfilter;
 use single_lines::decode::decode_line;
 use single_lines::parse::{ParsedLine, parse_line};
 use std::collections::{BTreeMap, HashMap};
 use std::env;
+use std::fs::File;
 use std::io::{self, ErrorKind, Write};
 use std::test::Fail;
 
@@ -64,6 +66,7 @@ GIVEN = {
     "words": "let words: Vec<String> = Vec::new(alloc);",
     "job": "let job = Job { encoding: Encoding::UTF_8, source: Source::StandardInput, command: Command::Check(Allowed::All) };",
     "Target": 'std::fs::write(&rt, "app.properties", b"port = 80".as_slice())?;',
+    "File": 'std::fs::write(&rt, "app.properties", b"port = 80".as_slice())?;',
     "map": "let map: HashMap<String, String> = HashMap::new(alloc);",
     "name": 'let name = "my.properties";',
     "path": 'let path = "my.properties";',
