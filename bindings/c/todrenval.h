@@ -229,8 +229,8 @@ int todrenval_set_value(uint8_t const *source, size_t source_length, uint32_t en
                         uint8_t const *key, size_t key_length, uint8_t const *value, size_t value_length, uint8_t *out,
                         size_t room, size_t *length, size_t *line);
 
-/* Sets a key as todrenval_set_value does, but prints the pair anew as `key=value`, in the place of the last pair with
- * the key or at the end.
+/* Sets a key as todrenval_set_value does, but replaces the whole last pair with the key by `key=value`, or adds that
+ * pair at the end.
  *
  * Returns what todrenval_set_value returns. */
 int todrenval_set_key(uint8_t const *source, size_t source_length, uint32_t encoding, uint32_t flags,
