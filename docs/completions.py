@@ -15,7 +15,7 @@ TOP = pathlib.Path(__file__).resolve().parent.parent
 CODE = (TOP / "crates/propedit_arguments/src/command_line.rt").read_text()
 FOLDER = TOP / "docs/completions"
 # What a word or the value of an option may be called in the tables.
-KINDS = {"KEY", "PREFIX", "VALUE", "FILE", "ENCODING", "NAME"}
+KINDS = {"KEY", "PREFIX", "VALUE", "FILE", "ENCODING", "NAME", "TOPIC"}
 
 
 def rows(kind):
@@ -23,17 +23,21 @@ def rows(kind):
     for body in re.findall(rf"^    {kind} \{{\n(.*?)^    \}},\n", CODE, re.M | re.S):
         texts = dict(re.findall(r'^        (\w+): "(.*)",$', body, re.M))
         letter = re.search(r"short: Some\('(.)'\)", body)
-        yield {**texts, "short": letter[1] if letter else "", "is_edit": "EDIT_OPTIONS" in body}
+        is_edit = "EDIT_OPTIONS" in body
+        options = re.findall(r"OptionName::(\w+)", EDIT_OPTIONS if is_edit else body)
+        yield {**texts, "short": letter[1] if letter else "", "is_edit": is_edit, "options": options}
 
 
 def words_after(row):
-    """What comes after a command. Dots end a word that may come again, and EDIT stands for a command that edits."""
-    words = row["words"].strip("[]")
+    """What comes after a command. Dots end a word that may come again, EDIT stands for a command that edits, and TOPIC for
+    one that help is asked on."""
+    words = row["words"].strip("[]").replace("COMMAND", "TOPIC")
     if row["is_edit"]:
-        return words.replace("..", "EDIT")
+        return words + " EDIT"
     return words.replace(" ..", "..")
 
 
+EDIT_OPTIONS = re.search(r"const EDIT_OPTIONS.*?\];", CODE, re.S)[0]
 COMMANDS = list(rows("CommandRow"))
 OPTIONS = list(rows("OptionRow"))
 EDITS = " ".join(row["name"] for row in COMMANDS if row["is_edit"])
@@ -42,20 +46,25 @@ TARGETS = " ".join(re.findall(r'\("([\w-]+)", Repertoire::', CODE))
 FILTERED = "ascii"
 
 
-def names(kind=None):
-    """The options whose value is of this kind, or those of any value, or all: by letter and by name."""
+def is_of(option, command):
+    """Whether an option may come after a command."""
+    return option["options"][0] in command["options"] + ["Help", "Version"]
+
+
+def names(kind=None, command=None):
+    """The options whose value is of this kind, or those of any value, or all, or those of a command: by letter and by name."""
     for row in OPTIONS:
-        if kind is None or kind == row["value"] or kind == "ANY" and row["value"]:
+        if (kind is None or kind == row["value"] or kind == "ANY" and row["value"]) and (not command or is_of(row, command)):
             yield from ([f"-{row['short']}"] if row["short"] else []) + [f"--{row['long']}"]
 
 
 BASH = r"""# Completes propedit and propfilter in Bash. Made by docs/completions.py.
 
-# Sets `wanted` to the words that a command takes.
+# Sets `wanted` to the words that a command takes, and `own` to its options.
 _propedit_after() {
     case $1 in
 @AFTER@
-    *) wanted= ;;
+    *) wanted= own= ;;
     esac
 }
 
@@ -74,12 +83,14 @@ _propedit_keys() {
     file=${file/#\~\//$HOME/}
     [ -f "$file" ] && [[ $typed != *[\\\"\']* ]] || return
     while IFS= read -r -d '' key; do
-        COMPREPLY+=("$(printf %q "${key#"$head"}")")
+        [[ -n $open && $key == -* ]] || COMPREPLY+=("$(printf %q "${key#"$head"}")")
     done < <(propedit -z -f "$file" ${encoding:+-e "$encoding"} list -- "$typed" 2>/dev/null </dev/null)
 }
 
 _propedit() {
-    local wanted=COMMAND option= file= encoding= word before words=() at=-1
+    # Options may come before the first word after a command: then it is `open`. At its front, `--` is dropped.
+    local wanted=COMMAND own='@OPTIONS@' open=1 front=
+    local option= file= encoding= word before words=() at=-1
     # Bash splits words at equals signs and colons too. Here they are whole again, up to the cursor.
     local line=${COMP_LINE:0:COMP_POINT}
     for word in "${COMP_WORDS[@]:0:COMP_CWORD}" ''; do
@@ -94,9 +105,9 @@ _propedit() {
         if [ -n "$option" ]; then
             _propedit_option "$option" "$word"
             option=
-        elif [[ $wanted == COMMAND && $word == --*=* ]]; then
+        elif [[ -n $open && $word == --*=* ]]; then
             _propedit_option "${word%%=*}" "${word#*=}"
-        elif [[ $wanted == COMMAND && $word == -* ]]; then
+        elif [[ -n $open && $word == -?* && $word != -- ]]; then
             case $word in
             @VALUE_NAMES@) option=$word ;;
             --*) ;;
@@ -110,29 +121,36 @@ _propedit() {
                 fi
                 ;;
             esac
-        elif [[ $word != -- || $wanted != @(PREFIX|ENCODING) ]]; then
-            case $wanted in
-            COMMAND | EDIT) _propedit_after "$word" ;;
-            *..) ;;
-            *' '*) wanted=${wanted#* } ;;
+        elif [[ $wanted == @(COMMAND|EDIT) ]]; then
+            _propedit_after "$word"
+            front=1
+        else
+            open=
+            case $front$word/$wanted in
+            1--/* | */*..) ;;
+            */*' '*) wanted=${wanted#* } ;;
             *) wanted= ;;
             esac
+            front=
         fi
     done
     # Readline replaces what follows the last equals sign or colon alone.
     local head=${typed%"${typed##*["${COMP_WORDBREAKS//[!=:]/}"$'\n']}"}
-    local choices= prefix=
-    if [[ -z $option && $wanted == COMMAND && $typed == --*=* ]]; then
+    local choices= prefix= hidden=()
+    if [[ -z $option && -n $open && $typed == --*=* ]]; then
         option=${typed%%=*} typed=${typed#*=} prefix=$option=
     fi
     COMPREPLY=()
+    [[ -n $option || -z $open || $typed != -* ]] || choices=$own wanted=
     case $option in
     @FILE_NAMES@) wanted=FILE ;;
     @ENCODING_NAMES@) choices='@ENCODINGS@' wanted= ;;
     ?*) wanted= ;;
+    # A file that begins with a dash would be an option.
+    *) [ -z "$open" ] || hidden=(-X '-*') ;;
     esac
     case ${wanted%% *} in
-    COMMAND) [[ $typed == -* ]] && choices='@OPTIONS@' || choices='@COMMANDS@' ;;
+    COMMAND | TOPIC) choices='@COMMANDS@' ;;
     EDIT) choices='@EDITS@' ;;
     ENCODING) choices='@TARGETS@' ;;
     KEY | KEY.. | PREFIX)
@@ -141,7 +159,7 @@ _propedit() {
         ;;
     FILE | FILE..)
         compopt -o filenames 2>/dev/null
-        mapfile -t COMPREPLY < <(compgen -P "$prefix" -f -- "$typed")
+        mapfile -t COMPREPLY < <(compgen -P "$prefix" -f "${hidden[@]}" -- "$typed")
         ;;
     esac
     [ -z "$choices" ] || mapfile -t COMPREPLY < <(compgen -P "$prefix" -W "$choices" -- "$typed")
@@ -177,8 +195,8 @@ _propedit_keys() {
 
 _propedit_line() {
     local curcontext=$curcontext state state_descr line word
-    local -a commands wanted
-    local -A opt_args after
+    local -a commands options wanted
+    local -A opt_args after early
     commands=(
 @DESCRIBED@
     )
@@ -186,16 +204,23 @@ _propedit_line() {
     after=(
 @AFTER_PAIRS@
     )
-    _arguments -s -C -A '-*' \
+    options=(
 @ARGUMENTS@
-        '1:command:->command' \
-        '*::word:->word' && return
+    )
+    _arguments -s -C -A '-*' $options '1:command:->command' '*::word:->after' && return
     case $state in
     command) _describe command commands ;;
-    word)
+    after)
+        # Options may come after the command too, before its first word.
         wanted=(${=after[$words[1]]})
-        for word in "${(@)words[2,CURRENT-1]}"; do
-            [[ $word != -- || $wanted[1] != (PREFIX|ENCODING) ]] || continue
+        early=("${(@kv)opt_args}")
+        _arguments -s -S -C -A '-*' $options '*:::word:->word' && return
+        opt_args=("${(@kv)early}" "${(@kv)opt_args}")
+        ;;
+    esac
+    case $state in
+    word)
+        for word in "${(@)words[1,CURRENT-1]}"; do
             case $wanted[1] in
             EDIT) wanted=(${=after[$word]}) ;;
             *..) ;;
@@ -204,6 +229,7 @@ _propedit_line() {
         done
         case $wanted[1] in
         EDIT) compadd @EDITS@ ;;
+        TOPIC) _describe command commands ;;
         ENCODING) compadd @TARGETS@ ;;
         KEY | KEY.. | PREFIX) _propedit_keys ;;
         FILE | FILE..) _files ;;
@@ -229,9 +255,14 @@ function __propedit_after
     end
 end
 
-# Whether the next word is one of these. With no argument it prints the file and its encoding, a line each.
+# Whether the next word is one of these, or an OPTION of one of these commands. With no argument it prints the file and its
+# encoding, a line each.
 function __propedit_wants
     set -l wanted COMMAND
+    # Options may come before the first word after a command: then it is `open`. At its front, `--` is dropped.
+    set -l open 1
+    set -l front
+    set -l command
     set -l option
     set -l file ''
     set -l encoding utf-8
@@ -239,29 +270,33 @@ function __propedit_wants
         set -l value
         if set -q option[1]
             set value $word
-        else if test "$wanted" = COMMAND; and string match -q -- '--*=*' $word
+        else if test -n "$open"; and string match -q -- '--*=*' $word
             set option (string split -m 1 = -- $word)
             set value $option[2]
-        else if test "$wanted" = COMMAND; and contains -- $word @VALUE_WORDS@
+        else if test -n "$open"; and contains -- $word @VALUE_WORDS@
             set option $word
             continue
-        else if test "$wanted" = COMMAND; and string match -q -- '--*' $word
+        else if test -n "$open"; and string match -q -- '--?*' $word
             continue
-        else if test "$wanted" = COMMAND; and string match -q -- '-?*' $word
+        else if test -n "$open"; and test "$word" != --; and string match -q -- '-?*' $word
             set -l parts (string match -r -- '^-[^@VALUE_LETTERS@]*([@VALUE_LETTERS@])(.*)' $word)
             or continue
             set option -$parts[2]
             test -n "$parts[3]"; or continue
             set value $parts[3]
+        else if contains -- "$wanted[1]" COMMAND EDIT
+            test -n "$command"; or set command $word
+            set wanted (__propedit_after $word)
+            set front 1
+            continue
         else
-            test "$word" = --; and contains -- "$wanted" PREFIX ENCODING; and continue
-            switch "$wanted[1]"
-                case COMMAND EDIT
-                    set wanted (__propedit_after $word)
-                case '*..'
+            set open
+            switch "$front$word/$wanted[1]"
+                case '1--/*' '*..'
                 case '*'
                     set -e wanted[1]
             end
+            set front
             continue
         end
         switch $option[1]
@@ -272,7 +307,9 @@ function __propedit_wants
         end
         set -e option
     end
-    if set -q argv[1]
+    if test "$argv[1]" = OPTION
+        test -n "$open"; and contains -- "$command" '' $argv[2..]
+    else if set -q argv[1]
         contains -- "$wanted[1]" $argv
     else
         printf '%s\n' (string replace -r '^~/' ~/ -- $file) $encoding
@@ -287,6 +324,7 @@ end
 complete -c propedit -f
 @LINES@
 complete -c propedit -n '__propedit_wants EDIT' -a '@EDITS@'
+complete -c propedit -n '__propedit_wants TOPIC' -a '@COMMANDS@'
 complete -c propedit -n '__propedit_wants ENCODING' -a '@TARGETS@'
 complete -c propedit -n '__propedit_wants KEY KEY.. PREFIX' -a '(__propedit_keys)'
 complete -c propedit -n '__propedit_wants FILE FILE..' -F
@@ -308,7 +346,7 @@ def zsh_arguments():
         others += {"file": " -i --in-place", "in-place": " -f --file"}.get(long, "")
         said = re.sub(r"([\[\]:])", r"\\\1", row["help"]).replace("'", "'\\''")
         for name in ([f"-{short}" + "+" * takes] if short else []) + [f"--{long}" + "=" * takes]:
-            yield f"        '({others}){name}[{said}]{actions[row['value']]}' \\"
+            yield f"        '({others}){name}[{said}]{actions[row['value']]}'"
 
 
 def fish_lines():
@@ -316,7 +354,9 @@ def fish_lines():
     said = lambda row: row["help"].replace("\\", "\\\\").replace("'", "\\'")
     when = "complete -c propedit -n '__propedit_wants COMMAND'"
     for row in OPTIONS:
-        yield f"{when}{' -s ' * bool(row['short'])}{row['short']} -l {row['long']}{takes[row['value']]} -d '{said(row)}'"
+        commands = " ".join(command["name"] for command in COMMANDS if is_of(row, command))
+        when_open = f"complete -c propedit -n '__propedit_wants OPTION {commands}'"
+        yield f"{when_open}{' -s ' * bool(row['short'])}{row['short']} -l {row['long']}{takes[row['value']]} -d '{said(row)}'"
     for row in COMMANDS:
         yield f"{when} -a {row['name']} -d '{said(row)}'"
 
@@ -324,7 +364,7 @@ def fish_lines():
 def filled(template):
     shown = lambda row: row["help"].replace("'", "'\\''").replace(":", "\\:")
     parts = {
-        "AFTER": lines(f"    {row['name']}) wanted='{words_after(row)}' ;;" for row in COMMANDS),
+        "AFTER": lines(f"    {row['name']}) wanted='{words_after(row)}' own='{' '.join(names(None, row))}' ;;" for row in COMMANDS),
         "AFTER_PAIRS": lines(f"        {row['name']} '{words_after(row)}'" for row in COMMANDS),
         "CASES": lines(f"        case {row['name']}\n            string split ' ' '{words_after(row)}'" for row in COMMANDS),
         "DESCRIBED": lines(f"        '{row['name']}:{shown(row)}'" for row in COMMANDS),

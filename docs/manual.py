@@ -13,7 +13,7 @@ import sys
 
 TOP = pathlib.Path(__file__).resolve().parent.parent
 PAGES = {"PROPEDIT.md": "propedit", "PROPFILTER.md": "propfilter"}
-PLACEHOLDER = re.compile(r"\b(FILE|KEY|VALUE|NAME|PREFIX|ENCODING|OPTION)\b")
+PLACEHOLDER = re.compile(r"\b(FILE|KEY|VALUE|NAME|PREFIX|ENCODING|OPTION|COMMAND)\b")
 CODE = re.compile("(`[^`]+`)")
 TERM = re.compile("- ((?:`[^`]+`)(?:, `[^`]+`)*): (.*)")
 SENTENCE_END = re.compile(r"(?<=[\w)`]\.) (?=[A-Z`])")

@@ -83,10 +83,10 @@ leaves_nothing() {
 run --help
 gives 0 "$(cat ../output)\n" ''
 cp ../output ../usage
-for words in 'Usage: propedit [OPTION ..] COMMAND [ARGUMENT ..]' '  get KEY ..  ' '  list [PREFIX]  ' '  check [FILE ..]  ' \
-    '  set KEY VALUE ..  ' '  remove KEY ..  ' '  convert ENCODING  ' '-f, --file FILE' '-i, --in-place FILE' '--create' '-e, --encoding NAME' \
+for words in 'Usage: propedit COMMAND [OPTION ..] [ARGUMENT ..]' '  get KEY ..  ' '  list [PREFIX]  ' '  check [FILE ..]  ' \
+    '  set KEY VALUE  ' '  remove KEY  ' '  convert ENCODING  ' '  help [COMMAND]  ' '-f, --file FILE' '-i, --in-place FILE' '--create' '-e, --encoding NAME' \
     '-d, --default VALUE' '-z, --null' '-v, --values' '-a, --ascii' '-x, --existing' '-r, --readable' '-h, --help' '-V, --version' 'utf-8 (the default)' \
-    'Options come before the command' 'Arguments after get, list, set and remove are never options' 'standard input' \
+    'Options come before or after the command, but before its first argument' "comes after '--'" 'standard input' \
     'Status: 0'; do
     grep -qF -- "$words" ../usage || fail "the usage lacks: $words"
     count=$((count + 1))
@@ -95,15 +95,40 @@ is "$(awk 'length > 80' ../usage)" ''
 run -h
 gives 0 "$(cat ../usage)\n" ''
 run --version
-gives 0 'propedit 1.13.0\n' ''
+gives 0 'propedit 1.14.0\n' ''
 run -V
-gives 0 'propedit 1.13.0\n' ''
+gives 0 'propedit 1.14.0\n' ''
 run -f nowhere --help get
 gives 0 "$(cat ../usage)\n" ''
-for words in 'check --help' 'check a -h' 'convert --help' 'convert ascii -h'; do
-    run $words
-    gives 0 "$(cat ../usage)\n" ''
-done
+run help
+gives 0 "$(cat ../usage)\n" ''
+# The page of a command has the options that it has a use for.
+while read -r name options; do
+    run help "$name"
+    gives 0 "$(sed 's/\\/&&/g' ../output)\n" ''
+    cp ../output ../page
+    is "$(grep -o '^  \(-.,\|   \) --[a-z-]*' ../page | sed 's/.*--//' | tr '\n' ' ')" "$options help version "
+    is "$(grep -c "^  propedit $name" ../page) $(grep -c "^Usage: propedit $name " ../page) $(grep -c '^Status: 0 .*error\.$' ../page)" '2 1 1'
+    is "$(awk 'length > 80' ../page)" ''
+    for words in "$name --help" "$name -h" "-f nowhere $name --help a" "help -- $name"; do
+        run $words
+        gives 0 "$(sed 's/\\/&&/g' ../page)\n" ''
+    done
+done <<'end'
+get file encoding default null
+list file encoding null values
+check file encoding ascii
+set file in-place create encoding ascii existing
+remove file in-place create encoding ascii existing
+convert file in-place encoding readable
+end
+run help help
+gives 0 "$(cat ../output)\n" ''
+is "$(head -n 3 ../output)" $'Prints the commands, or the page of one of them\n\nUsage: propedit help [COMMAND]'
+run help remove
+is "$(tail -n 2 ../output)" $'Status: 0 done; 1 no pair has a KEY to set, and -x is given; 2 an error.\nThe options -a and -x require a \'set\'.'
+run get -V
+gives 0 'propedit 1.14.0\n' ''
 
 # Each option, short and long.
 
@@ -167,16 +192,22 @@ gives 0 '8080\n' ''
 run -f - get port
 gives 0 '8080\n' ''
 given '-d = 1\nget = 2\n-- = 3\n'
-run get -d
+run get -- -d
 gives 0 '1\n' ''
 run get -- --
 gives 0 '3\n' ''
 run -f app.properties get get
 gives 0 '2\n' ''
-run get --help
+run get -- --help
 gives 1 '' ''
 run get get absent -- -d get
 gives 1 '2\n1\n2\n' ''
+run get get absent -d get
+gives 1 '2\n1\n2\n' ''
+run get -d 7 -- --help
+gives 0 '7\n' ''
+run get -f app.properties -z -- -d
+gives 0 '1\0' ''
 run -z -d x get get absent
 gives 0 '2\0x\0' ''
 
@@ -212,9 +243,15 @@ gives 1 '' "propedit: no key begins with 'c'; a file is named by -f\n"
 command='propedit -z list | while read'
 is "$(../propedit -f app.properties -z list | while IFS= read -r -d '' key; do echo "($key)"; done)" $'(b)\n(a.x)\n(a.y)\n(no)'
 run list -z
-gives 1 '' "propedit: no key begins with '-z'; options come before the command\n"
-run -f app.properties list -v
-gives 1 '' "propedit: no key begins with '-v'; options come before the command\n"
+gives 0 'b\0a.x\0a.y\0no\0' ''
+run list -v
+gives 0 'b=4\na.x=6\na.y=5\nno=value\n' ''
+run -z list -f app.properties -v a.y
+gives 0 'a.y\00005\0' ''
+run list -- -v
+gives 1 '' "propedit: no key begins with '-v'; a file is named by -f\n"
+run -f app.properties list -v -- -v
+gives 1 '' ''
 given ''
 run list
 gives 1 '' ''
@@ -236,7 +273,7 @@ gives 1 '80\n' ''
 run -f - get port app.properties
 gives 1 '80\n' ''
 is_refused "the KEY 'app.properties' is the name of a file; '-f app.properties' reads it, and '-f -' standard input" \
-    'Usage: propedit [OPTION ..] get KEY ..' -d 8080 get port app.properties
+    'Usage: propedit get [OPTION ..] KEY ..' -d 8080 get port app.properties
 run -d 8080 get app.properties port
 gives 0 '8080\n80\n' ''
 run -d 8080 get port folder
@@ -367,12 +404,45 @@ gives 1 '' "propedit: app.properties: no pair has the key 'prot'\n"
 holds app.properties '# ports\r\nport : 80\r\n\r\n  host = a\r\n! end'
 run -x -i app.properties set port 80
 gives 0 '' ''
+run set -x -i app.properties port 8080
+gives 0 '' ''
+holds app.properties '# ports\r\nport : 8080\r\n\r\n  host = a\r\n! end'
+run remove --in-place=app.properties port set host b
+gives 0 '' ''
+holds app.properties '# ports\r\n\r\n  host = b\r\n! end'
+# Options after the command have their effect on files too.
+run set -x -i app.properties prot 1
+gives 1 '' "propedit: app.properties: no pair has the key 'prot'\n"
+run remove -x -i app.properties prot set prot 1
+gives 1 '' "propedit: app.properties: no pair has the key 'prot'\n"
+holds app.properties '# ports\r\n\r\n  host = b\r\n! end'
+run set -i new.properties a 1
+gives 2 '' 'propedit: new.properties: No such file or directory (os error 2)\n'
+run set --create -i new.properties a 1
+gives 0 '' ''
+holds new.properties 'a=1\n'
+run set -i new.properties -a a é
+gives 0 '' ''
+holds new.properties 'a=\\u00e9\n'
+run convert -r -i new.properties utf-8
+gives 0 '' ''
+holds new.properties 'a=é\n'
+run check new.properties
+gives 0 '' ''
+run check -a new.properties
+gives 1 'new.properties:1: has a non-ASCII character\n' ''
+run convert -e latin1 -i new.properties utf-8
+gives 0 '' ''
+holds new.properties 'a=Ã©\n'
+rm new.properties
 given 'a = 1\n'
-run set -f -i
+run set a -Xmx1g
+gives 0 'a = -Xmx1g\n' ''
+run set a 1 set -f -i
 gives 0 'a = 1\n-f = -i\n' ''
 run remove a
 gives 0 '' ''
-run set --file --help set -- -- -- remove --file
+run set -- --file --help set -- -- -- remove --file
 gives 0 'a = 1\n-- = --\n' ''
 run set -- -- 1
 gives 0 'a = 1\n-- = 1\n' ''
@@ -726,23 +796,17 @@ gives 2 '' 'propedit: standard input:2: not UTF-8; if it is in windows-1252 or L
 # Wrong arguments: the message names the word, and the usage is that of the command that was meant.
 
 given 'a = 1\n'
-usage='Usage: propedit [OPTION ..]'
-edits="$usage (set KEY VALUE | remove KEY) .."
-all="$usage get KEY ..
-       propedit [OPTION ..] list [PREFIX]
-       propedit [OPTION ..] check [FILE ..]
-       propedit [OPTION ..] set KEY VALUE ..
-       propedit [OPTION ..] remove KEY ..
-       propedit [OPTION ..] convert ENCODING"
+edits='Usage: propedit set [OPTION ..] KEY VALUE [set KEY VALUE | remove KEY] ..
+       propedit remove [OPTION ..] KEY [set KEY VALUE | remove KEY] ..'
+all='Usage: propedit get [OPTION ..] KEY ..
+       propedit list [OPTION ..] [PREFIX]
+       propedit check [OPTION ..] [FILE ..]
+       propedit set [OPTION ..] KEY VALUE [set KEY VALUE | remove KEY] ..
+       propedit remove [OPTION ..] KEY [set KEY VALUE | remove KEY] ..
+       propedit convert [OPTION ..] ENCODING
+       propedit help [COMMAND]'
 shape() {
-    case $1 in
-        get) echo "$usage get KEY .." ;;
-        list) echo "$usage list [PREFIX]" ;;
-        check) echo "$usage check [FILE ..]" ;;
-        set) echo "$usage set KEY VALUE .." ;;
-        remove) echo "$usage remove KEY .." ;;
-        convert) echo "$usage convert ENCODING" ;;
-    esac
+    echo "Usage: $(grep -o "propedit $1 .*" <<<"$all")"
 }
 is_refused "'convert' requires an ENCODING: utf-8, windows-1252 or ascii" "$(shape convert)" convert
 is_refused "cannot convert to 'utf-16le'; use utf-8, windows-1252 or ascii" "$(shape convert)" convert utf-16le
@@ -766,9 +830,10 @@ is_refused "unknown command 'GET'; did you mean 'get'?" "$(shape get)" GET a
 for word in edit replace change; do
     is_refused "unknown command '$word'; did you mean 'set'?" "$(shape set)" $word a 1
 done
-is_refused "unknown command 'help'; did you mean '--help'?" "$all" help
-is_refused "unknown command 'help'; did you mean '--help'?" "$all" help get
-is_refused "unknown command 'HELP'; did you mean '--help'?" "$all" HELP
+is_refused "unknown command 'HELP'; did you mean 'help'?" "$(shape help)" HELP
+is_refused "unknown command 'gett'; did you mean 'get'?" "$(shape get)" help gett
+is_refused "unexpected 'set': 'help' takes one argument" "$(shape help)" help get set
+is_refused "the option '-f FILE' cannot be used with 'help'" "$(shape help)" -f app.properties help
 is_refused "unknown command 'gett'; did you mean 'get'?" "$(shape get)" -d list gett a
 is_refused "unknown command 'version'; did you mean '--version'?" "$all" version
 for option in '-e NAME' '-d VALUE' '--file FILE'; do
@@ -788,15 +853,44 @@ for word in delete del rm unset; do
     is_refused "unknown edit '$word'; did you mean 'remove'?" "$edits" set a 1 $word b
 done
 is_refused "'get' requires a KEY" "$(shape get)" get
-surplus="takes one argument; '-f FILE' before it names a file"
-is_refused "unexpected 'b': 'list' $surplus" "$(shape list)" list a b
-first='options come before the command'
-is_refused "unexpected '-z' after 'get': $first" "$(shape get)" get k -z
-is_refused "unexpected '-z' after 'get': $first" "$(shape get)" get -z k -- -x
-is_refused "unexpected '-f' after 'get': $first" "$(shape get)" get -f a k
-is_refused "unexpected '-f' after 'list': $first" "$(shape list)" list -f a
-is_refused "unexpected '-z' after 'check': $first" "$(shape check)" check a -z
-is_refused "unexpected '-q' after 'check': $first" "$(shape check)" -f app.properties check -q
+is_refused "unexpected 'b': 'list' takes one argument; '-f FILE' names a file" "$(shape list)" list a b
+first='options come before the first KEY'
+dashes='that begins with a dash comes after '"'--'"
+for option in -x -v -1 -Xmx1g --create ---; do
+    is_refused "unknown option '$option' of 'get'; a key $dashes" "$(shape get)" get $option k
+done
+for words in 'set a 1' 'remove a'; do
+    is_refused "unknown option '-z' of '${words%% *}'; a key $dashes" "$(shape ${words%% *})" ${words%% *} -z ${words#* }
+done
+for option in -zq -zx -z=1; do
+    is_refused "unknown option in '$option' of 'get'; a key $dashes" "$(shape get)" get $option k
+done
+is_refused "unknown option '--fil' of 'get'; a key $dashes; did you mean '--file'?" "$(shape get)" get --fil=x k
+is_refused "unknown option '--val' of 'get'; a key $dashes" "$(shape get)" get --val k
+is_refused "unknown option '-i' of 'get'; a key $dashes; '-f FILE' reads a file" "$(shape get)" get -i app.properties k
+is_refused "unknown option '-a' of 'list'; a prefix $dashes" "$(shape list)" list -a
+is_refused "unknown option '-q' of 'check'; a file $dashes" "$(shape check)" -f app.properties check -q
+is_refused "unknown option '-a' of 'convert'" "$(shape convert)" convert -a utf-8
+is_refused "unknown option '-q' of 'help'" "$(shape help)" help -q
+is_refused "unexpected '-v': options of 'list' come before its argument" "$(shape list)" list a -v
+is_refused "unexpected '-i': options of 'convert' come before its argument" "$(shape convert)" convert ascii -i app.properties
+is_refused "the option '-z' is given twice" "$(shape get)" -z get -z k
+is_refused "the option '--file FILE' is given twice" "$(shape get)" -f a get --file b k
+is_refused "'get' requires a KEY; a key $dashes" "$(shape get)" get -d k
+is_refused "'set' requires a KEY; a key $dashes" "$(shape set)" set -i app.properties
+is_refused "'set a' requires a VALUE; a key $dashes" "$(shape set)" set -i app.properties a
+is_refused "'set a' requires a VALUE" "$(shape set)" set -i app.properties -- a
+is_refused "'set -x=1' requires a VALUE; did you mean 'set -- -x 1'?" "$(shape set)" set -- -x=1
+is_refused "unknown command '--'" "$all" help -- --
+is_refused "unexpected '-h': 'help' takes one argument" "$(shape help)" help get -h
+is_refused "'set a=1 b=2': did you mean 'set a 1 set b 2'? For the key 'a=1', write 'set -- a=1 b=2'" "$(shape set)" \
+    set -i app.properties a=1 b=2
+run get k -z
+gives 1 '' ''
+run check app.properties -z
+gives 2 '' 'propedit: -z: No such file or directory (os error 2)\n'
+run check -- -z
+gives 2 '' 'propedit: -z: No such file or directory (os error 2)\n'
 for words in set 'set --'; do
     is_refused "'set' requires a KEY" "$(shape set)" $words
 done
@@ -816,6 +910,8 @@ done
 is_refused "'set a= b=1 2': did you mean 'set a \"\" set b \"1 2\"'? For the key 'a=', write 'set -- a= \"b=1 2\"'" "$(shape set)" set a= 'b=1 2'
 is_refused "'set a=' requires a VALUE; did you mean 'set a \"\"'?" "$(shape set)" set a=
 run set -- a=1 b=2
+gives 0 'a = 1\na\\=1 = b=2\n' ''
+run set -f app.properties -- a=1 b=2
 gives 0 'a = 1\na\\=1 = b=2\n' ''
 run set a=1 b set a '=2' set '=c' b=2 set 'd e=' b=2
 gives 0 'a = =2\na\\=1 = b\n\\=c = b=2\nd\\ e\\= = b=2\n' ''
@@ -1002,7 +1098,7 @@ run -i app.properties set port 8080 remove host
 gives 0 '' ''
 holds app.properties '# ports\nport = 8080\n'
 leaves_nothing
-run -e windows-1252 -i app.properties set -i ó
+run -e windows-1252 -i app.properties set -- -i ó
 gives 0 '' ''
 holds app.properties '# ports\nport = 8080\n-i = \xf3\n'
 for mode in 600 640 664 4755; do
@@ -1222,13 +1318,18 @@ made.properties.propedit may be left\n"
     gives 2 '' 'propedit: made.properties: is made; made.properties.propedit may be left\n'
     holds made.properties 'a=1\n'
     rm made.properties made.properties.propedit
-    for last in 8 9; do
+    while read -r first words; do
         given 'a = 1\n'
-        traced statx:error=EIO:when=$last+ -i app.properties set a 2
-        grep -q '^propedit: app.properties: cannot .*; app.properties.propedit may be left$' ../errors || fail "$(cat ../errors)"
-        is "$status $(cat app.properties)" '2 a = 1'
+        traced statx:error=EIO:when=$first+ -i app.properties set a 2
+        gives 2 '' "propedit: app.properties: $words: Input/output error (os error 5); app.properties.propedit may be left\n"
+        holds app.properties 'a = 1\n'
         rm app.properties.propedit
-    done
+    done <<'end'
+7 cannot keep the mode
+8 cannot be read again
+9 cannot be read again
+10 cannot access app.properties.propedit
+end
 
     given 'a = 1\n'
     traced rename,unlink:error=EIO -i app.properties set a 2

@@ -1,15 +1,16 @@
 # Completes propedit and propfilter in Bash. Made by docs/completions.py.
 
-# Sets `wanted` to the words that a command takes.
+# Sets `wanted` to the words that a command takes, and `own` to its options.
 _propedit_after() {
     case $1 in
-    get) wanted='KEY..' ;;
-    list) wanted='PREFIX' ;;
-    check) wanted='FILE..' ;;
-    set) wanted='KEY VALUE EDIT' ;;
-    remove) wanted='KEY EDIT' ;;
-    convert) wanted='ENCODING' ;;
-    *) wanted= ;;
+    get) wanted='KEY..' own='-f --file -e --encoding -d --default -z --null -h --help -V --version' ;;
+    list) wanted='PREFIX' own='-f --file -e --encoding -z --null -v --values -h --help -V --version' ;;
+    check) wanted='FILE..' own='-f --file -e --encoding -a --ascii -h --help -V --version' ;;
+    set) wanted='KEY VALUE EDIT' own='-f --file -i --in-place --create -e --encoding -a --ascii -x --existing -h --help -V --version' ;;
+    remove) wanted='KEY EDIT' own='-f --file -i --in-place --create -e --encoding -a --ascii -x --existing -h --help -V --version' ;;
+    convert) wanted='ENCODING' own='-f --file -i --in-place -e --encoding -r --readable -h --help -V --version' ;;
+    help) wanted='TOPIC' own='-h --help -V --version' ;;
+    *) wanted= own= ;;
     esac
 }
 
@@ -28,12 +29,14 @@ _propedit_keys() {
     file=${file/#\~\//$HOME/}
     [ -f "$file" ] && [[ $typed != *[\\\"\']* ]] || return
     while IFS= read -r -d '' key; do
-        COMPREPLY+=("$(printf %q "${key#"$head"}")")
+        [[ -n $open && $key == -* ]] || COMPREPLY+=("$(printf %q "${key#"$head"}")")
     done < <(propedit -z -f "$file" ${encoding:+-e "$encoding"} list -- "$typed" 2>/dev/null </dev/null)
 }
 
 _propedit() {
-    local wanted=COMMAND option= file= encoding= word before words=() at=-1
+    # Options may come before the first word after a command: then it is `open`. At its front, `--` is dropped.
+    local wanted=COMMAND own='-f --file -i --in-place --create -e --encoding -d --default -z --null -v --values -a --ascii -x --existing -r --readable -h --help -V --version' open=1 front=
+    local option= file= encoding= word before words=() at=-1
     # Bash splits words at equals signs and colons too. Here they are whole again, up to the cursor.
     local line=${COMP_LINE:0:COMP_POINT}
     for word in "${COMP_WORDS[@]:0:COMP_CWORD}" ''; do
@@ -48,9 +51,9 @@ _propedit() {
         if [ -n "$option" ]; then
             _propedit_option "$option" "$word"
             option=
-        elif [[ $wanted == COMMAND && $word == --*=* ]]; then
+        elif [[ -n $open && $word == --*=* ]]; then
             _propedit_option "${word%%=*}" "${word#*=}"
-        elif [[ $wanted == COMMAND && $word == -* ]]; then
+        elif [[ -n $open && $word == -?* && $word != -- ]]; then
             case $word in
             -f | --file | -i | --in-place | -e | --encoding | -d | --default) option=$word ;;
             --*) ;;
@@ -64,29 +67,36 @@ _propedit() {
                 fi
                 ;;
             esac
-        elif [[ $word != -- || $wanted != @(PREFIX|ENCODING) ]]; then
-            case $wanted in
-            COMMAND | EDIT) _propedit_after "$word" ;;
-            *..) ;;
-            *' '*) wanted=${wanted#* } ;;
+        elif [[ $wanted == @(COMMAND|EDIT) ]]; then
+            _propedit_after "$word"
+            front=1
+        else
+            open=
+            case $front$word/$wanted in
+            1--/* | */*..) ;;
+            */*' '*) wanted=${wanted#* } ;;
             *) wanted= ;;
             esac
+            front=
         fi
     done
     # Readline replaces what follows the last equals sign or colon alone.
     local head=${typed%"${typed##*["${COMP_WORDBREAKS//[!=:]/}"$'\n']}"}
-    local choices= prefix=
-    if [[ -z $option && $wanted == COMMAND && $typed == --*=* ]]; then
+    local choices= prefix= hidden=()
+    if [[ -z $option && -n $open && $typed == --*=* ]]; then
         option=${typed%%=*} typed=${typed#*=} prefix=$option=
     fi
     COMPREPLY=()
+    [[ -n $option || -z $open || $typed != -* ]] || choices=$own wanted=
     case $option in
     -f | --file | -i | --in-place) wanted=FILE ;;
     -e | --encoding) choices='utf-8 windows-1252 utf-16le utf-16be' wanted= ;;
     ?*) wanted= ;;
+    # A file that begins with a dash would be an option.
+    *) [ -z "$open" ] || hidden=(-X '-*') ;;
     esac
     case ${wanted%% *} in
-    COMMAND) [[ $typed == -* ]] && choices='-f --file -i --in-place --create -e --encoding -d --default -z --null -v --values -a --ascii -x --existing -r --readable -h --help -V --version' || choices='get list check set remove convert' ;;
+    COMMAND | TOPIC) choices='get list check set remove convert help' ;;
     EDIT) choices='set remove' ;;
     ENCODING) choices='utf-8 windows-1252 ascii' ;;
     KEY | KEY.. | PREFIX)
@@ -95,7 +105,7 @@ _propedit() {
         ;;
     FILE | FILE..)
         compopt -o filenames 2>/dev/null
-        mapfile -t COMPREPLY < <(compgen -P "$prefix" -f -- "$typed")
+        mapfile -t COMPREPLY < <(compgen -P "$prefix" -f "${hidden[@]}" -- "$typed")
         ;;
     esac
     [ -z "$choices" ] || mapfile -t COMPREPLY < <(compgen -P "$prefix" -W "$choices" -- "$typed")

@@ -15,12 +15,19 @@ function __propedit_after
             string split ' ' 'KEY EDIT'
         case convert
             string split ' ' 'ENCODING'
+        case help
+            string split ' ' 'TOPIC'
     end
 end
 
-# Whether the next word is one of these. With no argument it prints the file and its encoding, a line each.
+# Whether the next word is one of these, or an OPTION of one of these commands. With no argument it prints the file and its
+# encoding, a line each.
 function __propedit_wants
     set -l wanted COMMAND
+    # Options may come before the first word after a command: then it is `open`. At its front, `--` is dropped.
+    set -l open 1
+    set -l front
+    set -l command
     set -l option
     set -l file ''
     set -l encoding utf-8
@@ -28,29 +35,33 @@ function __propedit_wants
         set -l value
         if set -q option[1]
             set value $word
-        else if test "$wanted" = COMMAND; and string match -q -- '--*=*' $word
+        else if test -n "$open"; and string match -q -- '--*=*' $word
             set option (string split -m 1 = -- $word)
             set value $option[2]
-        else if test "$wanted" = COMMAND; and contains -- $word -f --file -i --in-place -e --encoding -d --default
+        else if test -n "$open"; and contains -- $word -f --file -i --in-place -e --encoding -d --default
             set option $word
             continue
-        else if test "$wanted" = COMMAND; and string match -q -- '--*' $word
+        else if test -n "$open"; and string match -q -- '--?*' $word
             continue
-        else if test "$wanted" = COMMAND; and string match -q -- '-?*' $word
+        else if test -n "$open"; and test "$word" != --; and string match -q -- '-?*' $word
             set -l parts (string match -r -- '^-[^fied]*([fied])(.*)' $word)
             or continue
             set option -$parts[2]
             test -n "$parts[3]"; or continue
             set value $parts[3]
+        else if contains -- "$wanted[1]" COMMAND EDIT
+            test -n "$command"; or set command $word
+            set wanted (__propedit_after $word)
+            set front 1
+            continue
         else
-            test "$word" = --; and contains -- "$wanted" PREFIX ENCODING; and continue
-            switch "$wanted[1]"
-                case COMMAND EDIT
-                    set wanted (__propedit_after $word)
-                case '*..'
+            set open
+            switch "$front$word/$wanted[1]"
+                case '1--/*' '*..'
                 case '*'
                     set -e wanted[1]
             end
+            set front
             continue
         end
         switch $option[1]
@@ -61,7 +72,9 @@ function __propedit_wants
         end
         set -e option
     end
-    if set -q argv[1]
+    if test "$argv[1]" = OPTION
+        test -n "$open"; and contains -- "$command" '' $argv[2..]
+    else if set -q argv[1]
         contains -- "$wanted[1]" $argv
     else
         printf '%s\n' (string replace -r '^~/' ~/ -- $file) $encoding
@@ -74,25 +87,27 @@ function __propedit_keys
 end
 
 complete -c propedit -f
-complete -c propedit -n '__propedit_wants COMMAND' -s f -l file -r -F -d 'Reads FILE instead of standard input'
-complete -c propedit -n '__propedit_wants COMMAND' -s i -l in-place -r -F -d 'Changes FILE in place (set, remove and convert)'
-complete -c propedit -n '__propedit_wants COMMAND' -l create -d 'Makes the FILE of -i if it is missing'
-complete -c propedit -n '__propedit_wants COMMAND' -s e -l encoding -x -a 'utf-8 windows-1252 utf-16le utf-16be' -d 'utf-8 (the default), windows-1252, utf-16le or utf-16be'
-complete -c propedit -n '__propedit_wants COMMAND' -s d -l default -x -d 'What get prints if no pair has a KEY, with status 0'
-complete -c propedit -n '__propedit_wants COMMAND' -s z -l null -d 'Ends each text of get and list with a zero byte'
-complete -c propedit -n '__propedit_wants COMMAND' -s v -l values -d 'Has list print KEY=VALUE; with -z, KEY and VALUE'
-complete -c propedit -n '__propedit_wants COMMAND' -s a -l ascii -d 'Has set write only ASCII, and check report all else'
-complete -c propedit -n '__propedit_wants COMMAND' -s x -l existing -d 'Has set refuse a KEY that no pair has, with status 1'
-complete -c propedit -n '__propedit_wants COMMAND' -s r -l readable -d 'Has convert write characters in place of escapes'
-complete -c propedit -n '__propedit_wants COMMAND' -s h -l help -d 'Prints this'
-complete -c propedit -n '__propedit_wants COMMAND' -s V -l version -d 'Prints the version'
+complete -c propedit -n '__propedit_wants OPTION get list check set remove convert' -s f -l file -r -F -d 'Reads FILE instead of standard input'
+complete -c propedit -n '__propedit_wants OPTION set remove convert' -s i -l in-place -r -F -d 'Changes FILE in place (set, remove and convert)'
+complete -c propedit -n '__propedit_wants OPTION set remove' -l create -d 'Makes the FILE of -i if it is missing'
+complete -c propedit -n '__propedit_wants OPTION get list check set remove convert' -s e -l encoding -x -a 'utf-8 windows-1252 utf-16le utf-16be' -d 'utf-8 (the default), windows-1252, utf-16le or utf-16be'
+complete -c propedit -n '__propedit_wants OPTION get' -s d -l default -x -d 'What get prints if no pair has a KEY, with status 0'
+complete -c propedit -n '__propedit_wants OPTION get list' -s z -l null -d 'Ends each text of get and list with a zero byte'
+complete -c propedit -n '__propedit_wants OPTION list' -s v -l values -d 'Has list print KEY=VALUE; with -z, KEY and VALUE'
+complete -c propedit -n '__propedit_wants OPTION check set remove' -s a -l ascii -d 'Has set write only ASCII, and check report all else'
+complete -c propedit -n '__propedit_wants OPTION set remove' -s x -l existing -d 'Has set refuse a KEY that no pair has, with status 1'
+complete -c propedit -n '__propedit_wants OPTION convert' -s r -l readable -d 'Has convert write characters in place of escapes'
+complete -c propedit -n '__propedit_wants OPTION get list check set remove convert help' -s h -l help -d 'Prints this'
+complete -c propedit -n '__propedit_wants OPTION get list check set remove convert help' -s V -l version -d 'Prints the version'
 complete -c propedit -n '__propedit_wants COMMAND' -a get -d 'Prints the value of each key'
 complete -c propedit -n '__propedit_wants COMMAND' -a list -d 'Prints each key once, or those that begin with PREFIX'
 complete -c propedit -n '__propedit_wants COMMAND' -a check -d 'Reports ill-formed lines, bad escapes, repeated keys'
 complete -c propedit -n '__propedit_wants COMMAND' -a set -d 'Sets a value, keeps its line\'s layout; edits may follow'
 complete -c propedit -n '__propedit_wants COMMAND' -a remove -d 'Removes a key; edits may follow'
 complete -c propedit -n '__propedit_wants COMMAND' -a convert -d 'Changes the encoding to utf-8, windows-1252 or ascii'
+complete -c propedit -n '__propedit_wants COMMAND' -a help -d 'Prints the commands, or the page of one of them'
 complete -c propedit -n '__propedit_wants EDIT' -a 'set remove'
+complete -c propedit -n '__propedit_wants TOPIC' -a 'get list check set remove convert help'
 complete -c propedit -n '__propedit_wants ENCODING' -a 'utf-8 windows-1252 ascii'
 complete -c propedit -n '__propedit_wants KEY KEY.. PREFIX' -a '(__propedit_keys)'
 complete -c propedit -n '__propedit_wants FILE FILE..' -F

@@ -18,7 +18,7 @@ const EDITS: &[Row] = &[
         0,
         b"# a\nport=1\nhost : \xc5\xbc\r\n",
     ),
-    // Words after `set` and `remove` are keys and values, whatever they are.
+    // Words after the first KEY are keys and values, whatever they are.
     (
         "set a -1 remove -x set set remove",
         b"a=0\n-x=1\nset=2\n",

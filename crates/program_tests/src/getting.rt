@@ -9,7 +9,7 @@ const VALUES: &[u8] = b"b = 1\n# b\nb = caf\xe9\nc";
 const GET: &[Row] = &[
     ("get a", b"a=1\nb=2\na = 3", 0, b"3\n"),
     ("get c", b"a=1", 1, b""),
-    ("get -f", b"-f=1", 0, b"1\n"),
+    ("get -- -f", b"-f=1", 0, b"1\n"),
     ("get -- --", b"--=1", 0, b"1\n"),
     ("--default=x --null get b", b"a=1", 0, b"x\0"),
     ("-zdx get b", b"a=1", 0, b"x\0"),
@@ -50,7 +50,7 @@ const GET_SEVERAL: &[Row] = &[
     ("get '' a", b"a=1\n=2", 0, b"2\n1\n"),
     ("-d x get a c d", b"a=1\nb=2", 0, b"1\nx\nx\n"),
     ("-z get a c b", b"a=1\\n2\nb=\n", 1, b"1\n2\0\0"),
-    // Those that begin with a dash come after `--`, of which the first is dropped.
+    // A first `--` is dropped, wherever it stands.
     ("get a -- -z", b"a=1\n-z=2", 0, b"1\n2\n"),
     ("get -- -z --", b"--=1\n-z=2", 0, b"2\n1\n"),
     ("-e windows-1252 get c b", VALUES, 0, b"\ncaf\xc3\xa9\n"),

@@ -100,29 +100,25 @@ const LIST: &[Run<'static>] = &[
         b"",
         "propedit: no key begins with 'a.z\\u{85}'; a file is named by -f\n",
     ),
+    // One that begins with a dash comes after `--`.
     (
-        "list -v",
+        "list -- -v",
         b"v=80",
         1,
         b"",
-        "propedit: no key begins with '-v'; options come before the command\n",
+        "propedit: no key begins with '-v'; a file is named by -f\n",
     ),
     (
-        "-v -f x list --null",
+        "list -",
         b"v=80",
         1,
         b"",
-        "propedit: no key begins with '--null'; options come before the command\n",
+        "propedit: no key begins with '-'; a file is named by -f\n",
     ),
-    (
-        "-f - list -",
-        b"v=80",
-        1,
-        b"",
-        "propedit: no key begins with '-'; options come before the command\n",
-    ),
+    ("-v -f x list -- --null", b"v=80", 1, b"", ""),
+    ("-f - list -", b"v=80", 1, b"", ""),
     // A PREFIX of keys, none, and a source that is named.
-    ("list -v", b"-v=80", 0, b"-v\n", ""),
+    ("list -- -v", b"-v=80", 0, b"-v\n", ""),
     ("list", b"", 1, b"", ""),
     ("-v list ''", b"", 1, b"", ""),
     ("-f x list app.properties", b"", 1, b"", ""),
@@ -136,7 +132,7 @@ fn a_prefix_that_no_key_has_is_named(rt: HostRuntime) -> Result<(), Fail> {
 
 const REFUSED: &str = "propedit: the KEY 'app.properties' is the name of a file; \
     '-f app.properties' reads it, and '-f -' standard input\n\n\
-    Usage: propedit [OPTION ..] get KEY ..\n\
+    Usage: propedit get [OPTION ..] KEY ..\n\
     For more information, try 'propedit --help'.\n";
 
 const WITH_A_DEFAULT: &[Run<'static>] = &[

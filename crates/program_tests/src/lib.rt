@@ -14,6 +14,8 @@ mod filtering;
 #[cfg(test)]
 mod getting;
 #[cfg(test)]
+mod grammar;
+#[cfg(test)]
 mod hints;
 #[cfg(test)]
 mod in_place;

@@ -9,7 +9,7 @@ const LIST: &[Row] = &[
     ("list", b"a=1\nb=2\na = 3", 0, b"a\nb\n"),
     ("list --", b"a=1", 0, b"a\n"),
     ("list -- --", b"--=1\na=2", 0, b"--\n"),
-    ("list --help", b"--help=1\na=2", 0, b"--help\n"),
+    ("list -- --help", b"--help=1\na=2", 0, b"--help\n"),
     ("-z list a", b"a=1", 0, b"a\0"),
     ("-e utf-16le list", b"a\0=\01\0", 0, b"a\n"),
     ("list", KEYS, 0, b"b.x\nb.y\na\nb\n"),

@@ -42,8 +42,29 @@ const OTHER_WORDS: &[Refusal] = &[
     ("GET a", "unknown command 'GET'; did you mean 'get'?"),
     ("edit a 1", "unknown command 'edit'; did you mean 'set'?"),
     ("port", "unknown command 'port'"),
+    ("HELP", "unknown command 'HELP'; did you mean 'help'?"),
+    ("help gett", "unknown command 'gett'; did you mean 'get'?"),
+    ("help port", "unknown command 'port'"),
+    ("help -- --", "unknown command '--'"),
+    ("help get -h", "unexpected '-h': 'help' takes one argument"),
+    ("app.properties help", "unknown command 'app.properties'"),
+    (
+        "list a -9",
+        "unexpected '-9': 'list' takes one argument; '-f FILE' names a file",
+    ),
+    (
+        "convert ascii -a",
+        "unexpected '-a': 'convert' takes one argument; '-f FILE' names a file",
+    ),
+    (
+        "help get set",
+        "unexpected 'set': 'help' takes one argument",
+    ),
     // An option instead of a command, and a command that an option took.
-    ("help get", "unknown command 'help'; did you mean '--help'?"),
+    (
+        "Version",
+        "unknown command 'Version'; did you mean '--version'?",
+    ),
     (
         "-e get k",
         "unknown command 'k'; the option '-e NAME' took 'get' as its value",
@@ -80,7 +101,7 @@ const OTHER_WORDS: &[Refusal] = &[
     ("get --", "'get' requires a KEY"),
     (
         "list a b",
-        "unexpected 'b': 'list' takes one argument; '-f FILE' before it names a file",
+        "unexpected 'b': 'list' takes one argument; '-f FILE' names a file",
     ),
     (
         "convert",
@@ -88,7 +109,7 @@ const OTHER_WORDS: &[Refusal] = &[
     ),
     (
         "convert utf-8 x",
-        "unexpected 'x': 'convert' takes one argument; '-f FILE' before it names a file",
+        "unexpected 'x': 'convert' takes one argument; '-f FILE' names a file",
     ),
 ];
 
@@ -110,6 +131,40 @@ const EDITS: &[Refusal] = &[
     ("remove", "'remove' requires a KEY"),
     ("set a 1 remove --", "'remove' requires a KEY"),
     ("set a 1 set b", "'set b' requires a VALUE"),
+    // A KEY may be meant by an option.
+    (
+        "remove -x",
+        "'remove' requires a KEY; a key that begins with a dash comes after '--'",
+    ),
+    (
+        "set -i x",
+        "'set' requires a KEY; a key that begins with a dash comes after '--'",
+    ),
+    (
+        "set -x 5",
+        "'set 5' requires a VALUE; a key that begins with a dash comes after '--'",
+    ),
+    (
+        "set -x port=1",
+        "'set port=1' requires a VALUE; did you mean 'set port 1'?",
+    ),
+    ("set -x --", "'set' requires a KEY"),
+    ("set -x -- 5", "'set 5' requires a VALUE"),
+    ("set -x a 1 remove", "'remove' requires a KEY"),
+    ("set -x a 1 set b", "'set b' requires a VALUE"),
+    // A KEY that begins with a dash.
+    (
+        "set -- -x=1",
+        "'set -x=1' requires a VALUE; did you mean 'set -- -x 1'?",
+    ),
+    (
+        "set a 1 set -x=1 -y=",
+        "'set -x=1 -y=': did you mean 'set -- -x 1 set -- -y \"\"'? For the key '-x=1', write 'set -- -x=1 -y='",
+    ),
+    (
+        "set a 1 set -i x y",
+        "unknown edit 'y': each edit begins with set or remove, and options come before the first KEY",
+    ),
     // A KEY and a VALUE that both look like NAME=TEXT.
     (
         "set a=1 b=2",
@@ -121,15 +176,15 @@ const EDITS: &[Refusal] = &[
     ),
     (
         "set a 1 -i x",
-        "unknown edit '-i': each edit begins with set or remove, and options come before the command",
+        "unknown edit '-i': each edit begins with set or remove, and options come before the first KEY",
     ),
     (
         "set port=8080 -i x",
-        "unknown edit 'x': each edit begins with set or remove, and options come before the command",
+        "unknown edit 'x': each edit begins with set or remove, and options come before the first KEY",
     ),
     (
         "-i x set port 1 host 2",
-        "unknown edit 'host': each edit begins with set or remove, and options come before the command",
+        "unknown edit 'host': each edit begins with set or remove, and options come before the first KEY",
     ),
     (
         "set a 1 delete b",
@@ -164,6 +219,13 @@ const OPTIONS: &[Refusal] = &[
         "the option '-i FILE' requires a FILE",
     ),
     ("-d", "the option '-d VALUE' requires a VALUE"),
+    ("get -f", "the option '-f FILE' requires a FILE"),
+    (
+        "check --encoding",
+        "the option '--encoding NAME' requires a NAME",
+    ),
+    ("set -i '' a 1", "the option '-i FILE' requires a FILE"),
+    ("list --values=1", "the option '--values' takes no value"),
     ("-ze", "the option '-e NAME' requires a NAME"),
     ("--null=1 list", "the option '--null' takes no value"),
     // Twice the same option.
@@ -174,6 +236,30 @@ const OPTIONS: &[Refusal] = &[
         "-f x --file=y list",
         "the option '--file FILE' is given twice",
     ),
+    ("get -z -z a", "the option '-z' is given twice"),
+    ("-z get --null a", "the option '--null' is given twice"),
+    (
+        "-i x set --in-place=y a 1",
+        "the option '--in-place FILE' is given twice",
+    ),
+    // The value of an option is the next word, whatever that is.
+    (
+        "get -d port",
+        "'get' requires a KEY; a key that begins with a dash comes after '--'",
+    ),
+    (
+        "get -d --",
+        "'get' requires a KEY; a key that begins with a dash comes after '--'",
+    ),
+    (
+        "get -z",
+        "'get' requires a KEY; a key that begins with a dash comes after '--'",
+    ),
+    ("get -z --", "'get' requires a KEY"),
+    (
+        "set -e -i x a 1",
+        "unknown edit '1': each edit begins with set or remove, and options come before the first KEY",
+    ),
     // Standard input can't be changed in place.
     ("-i - set k v", REQUIRES_A_FILE),
     ("-i- convert ascii", REQUIRES_A_FILE),
@@ -181,6 +267,8 @@ const OPTIONS: &[Refusal] = &[
     ("--create set a 1", REQUIRES_IN_PLACE),
     ("--create -f a set k v", REQUIRES_IN_PLACE),
     ("--create remove k", REQUIRES_IN_PLACE),
+    ("remove --create k", REQUIRES_IN_PLACE),
+    ("set -i - k v", REQUIRES_A_FILE),
 ];
 
 #[test]
@@ -207,19 +295,136 @@ fn check_filled<R: Abort + AllocGlobal>(
     Ok(())
 }
 
-const LATE_OPTIONS: &[Filled] = &[
-    ("get k -z", "-z", "get"),
-    ("get -z k -- -x", "-z", "get"),
-    ("get -f a k", "-f", "get"),
-    ("list -f a", "-f", "list"),
-    ("check -q", "-q", "check"),
-    ("check a -z", "-z", "check"),
-    ("convert -r", "-r", "convert"),
+// Options after a command that aren't its own.
+const OTHER_OPTIONS: &[Filled] = &[
+    (
+        "get -x k",
+        "-x",
+        "get'; a key that begins with a dash comes after '--'",
+    ),
+    (
+        "get -1",
+        "-1",
+        "get'; a key that begins with a dash comes after '--'",
+    ),
+    (
+        "get -Xmx1g",
+        "-Xmx1g",
+        "get'; a key that begins with a dash comes after '--'",
+    ),
+    (
+        "get -xyz k",
+        "-xyz",
+        "get'; a key that begins with a dash comes after '--'",
+    ),
+    (
+        "get --val port",
+        "--val",
+        "get'; a key that begins with a dash comes after '--'",
+    ),
+    (
+        "get --create k",
+        "--create",
+        "get'; a key that begins with a dash comes after '--'",
+    ),
+    (
+        "get -i x k",
+        "-i",
+        "get'; a key that begins with a dash comes after '--'; '-f FILE' reads a file",
+    ),
+    (
+        "get --- k",
+        "---",
+        "get'; a key that begins with a dash comes after '--'",
+    ),
+    (
+        "set -z a 1",
+        "-z",
+        "set'; a key that begins with a dash comes after '--'",
+    ),
+    (
+        "set -5 a",
+        "-5",
+        "set'; a key that begins with a dash comes after '--'",
+    ),
+    (
+        "set --default=1 a 2",
+        "--default",
+        "set'; a key that begins with a dash comes after '--'",
+    ),
+    (
+        "remove -v a",
+        "-v",
+        "remove'; a key that begins with a dash comes after '--'",
+    ),
+    (
+        "remove --key",
+        "--key",
+        "remove'; a key that begins with a dash comes after '--'",
+    ),
+    (
+        "list -x",
+        "-x",
+        "list'; a prefix that begins with a dash comes after '--'",
+    ),
+    (
+        "list --value",
+        "--value",
+        "list'; a prefix that begins with a dash comes after '--'; did you mean '--values'?",
+    ),
+    (
+        "check -z a",
+        "-z",
+        "check'; a file that begins with a dash comes after '--'",
+    ),
+    (
+        "check --fil x",
+        "--fil",
+        "check'; a file that begins with a dash comes after '--'; did you mean '--file'?",
+    ),
+    (
+        "check --in-place=x",
+        "--in-place",
+        "check'; a file that begins with a dash comes after '--'; '-f FILE' reads a file",
+    ),
+    ("convert -a utf-8", "-a", "convert'"),
+    ("convert -7", "-7", "convert'"),
+    ("help -f x", "-f", "help'"),
+    ("help -i", "-i", "help'"),
+];
+
+// Words with options of a command and others.
+const MIXED_LETTERS: &[Filled] = &[
+    ("get -zq k", "-zq", "get"),
+    ("get -zx k", "-zx", "get"),
+    ("get -z=1 port", "-z=1", "get"),
+    ("set -xyz 1", "-xyz", "set"),
+    ("remove -aq k", "-aq", "remove"),
 ];
 
 #[test]
-fn options_after_the_command_are_named(rt: HostRuntime) -> Result<(), Fail> {
-    let pattern = "unexpected '*' after '*': options come before the command";
+fn letters_of_other_commands_are_named(rt: HostRuntime) -> Result<(), Fail> {
+    let pattern = "unknown option in '*' of '*'; a key that begins with a dash comes after '--'";
+    check_filled(&rt, pattern, MIXED_LETTERS)
+}
+
+#[test]
+fn options_of_other_commands_are_named(rt: HostRuntime) -> Result<(), Fail> {
+    check_filled(&rt, "unknown option '*' of '*", OTHER_OPTIONS)
+}
+
+const LATE_OPTIONS: &[Filled] = &[
+    ("list a -v", "-v", "list"),
+    ("list -z -- -a -v", "-v", "list"),
+    ("convert utf-8 -r", "-r", "convert"),
+    ("convert utf-8 --help", "--help", "convert"),
+    ("list a --file=x", "--file=x", "list"),
+    ("convert ascii -ix", "-ix", "convert"),
+];
+
+#[test]
+fn options_after_an_argument_are_named(rt: HostRuntime) -> Result<(), Fail> {
+    let pattern = "unexpected '*': options of '*' come before its argument";
     check_filled(&rt, pattern, LATE_OPTIONS)
 }
 
@@ -267,6 +472,7 @@ const TARGETS: &[Filled] = &[
         "utf-16le",
         "use utf-8, windows-1252 or ascii",
     ),
+    ("convert -- -r", "-r", "use utf-8, windows-1252 or ascii"),
     ("convert UTF8", "UTF8", "did you mean 'utf-8'?"),
     ("convert us-ascii", "us-ascii", "did you mean 'ascii'?"),
     ("convert latin1", "latin1", FOR_LATIN_1),
@@ -296,6 +502,12 @@ const USELESS_OPTIONS: &[Filled] = &[
     ("--values set a 1", "--values", "set"),
     ("-x get a", "-x", "get"),
     ("-x remove a remove b", "-x", "remove"),
+    ("remove -a a", "-a", "remove"),
+    ("remove -x -- -a", "-x", "remove"),
+    ("set -f x -i x a 1", "-f FILE", "-i FILE"),
+    ("check -f x y", "-f FILE", "check FILE .."),
+    ("-z help", "-z", "help"),
+    ("-i x help get", "-i FILE", "help"),
     ("-x --create -i a set k v", "-x", "--create"),
     ("-r get a", "-r", "get"),
     ("-r list", "-r", "list"),
@@ -328,12 +540,13 @@ fn commands_that_read_name_the_option_for_a_file(rt: HostRuntime) -> Result<(), 
     check_filled(&rt, pattern, EDITED_FILES)
 }
 
-const COMMANDS: &str = "get KEY ..\n       \
-    propedit [OPTION ..] list [PREFIX]\n       \
-    propedit [OPTION ..] check [FILE ..]\n       \
-    propedit [OPTION ..] set KEY VALUE ..\n       \
-    propedit [OPTION ..] remove KEY ..\n       \
-    propedit [OPTION ..] convert ENCODING";
+const COMMANDS: &str = "get [OPTION ..] KEY ..\n       \
+    propedit list [OPTION ..] [PREFIX]\n       \
+    propedit check [OPTION ..] [FILE ..]\n       \
+    propedit set [OPTION ..] KEY VALUE [set KEY VALUE | remove KEY] ..\n       \
+    propedit remove [OPTION ..] KEY [set KEY VALUE | remove KEY] ..\n       \
+    propedit convert [OPTION ..] ENCODING\n       \
+    propedit help [COMMAND]";
 
 // The words, what is wrong, and the usage of the command that was meant.
 const USAGES: &[(&str, &str, &str)] = &[
@@ -341,18 +554,59 @@ const USAGES: &[(&str, &str, &str)] = &[
     (
         "-f x delete a",
         "unknown command 'delete'; did you mean 'remove'?",
-        "remove KEY ..",
+        "remove [OPTION ..] KEY [set KEY VALUE | remove KEY] ..",
     ),
     (
         "-a get a",
         "the option '-a' cannot be used with 'get'",
-        "get KEY ..",
+        "get [OPTION ..] KEY ..",
     ),
-    ("set a", "'set a' requires a VALUE", "set KEY VALUE .."),
+    (
+        "get -1",
+        "unknown option '-1' of 'get'; a key that begins with a dash comes after '--'",
+        "get [OPTION ..] KEY ..",
+    ),
+    (
+        "list --prefix a",
+        "unknown option '--prefix' of 'list'; a prefix that begins with a dash comes after '--'",
+        "list [OPTION ..] [PREFIX]",
+    ),
+    (
+        "set a",
+        "'set a' requires a VALUE",
+        "set [OPTION ..] KEY VALUE [set KEY VALUE | remove KEY] ..",
+    ),
     (
         "set a 1 b",
-        "unknown edit 'b': each edit begins with set or remove, and options come before the command",
-        "(set KEY VALUE | remove KEY) ..",
+        "unknown edit 'b': each edit begins with set or remove, and options come before the first KEY",
+        "set [OPTION ..] KEY VALUE [set KEY VALUE | remove KEY] ..\n       \
+        propedit remove [OPTION ..] KEY [set KEY VALUE | remove KEY] ..",
+    ),
+    // An option after the command tells which command is meant.
+    (
+        "-z get -z a",
+        "the option '-z' is given twice",
+        "get [OPTION ..] KEY ..",
+    ),
+    (
+        "list -e",
+        "the option '-e NAME' requires a NAME",
+        "list [OPTION ..] [PREFIX]",
+    ),
+    (
+        "check --file=",
+        "the option '--file FILE' requires a FILE",
+        "check [OPTION ..] [FILE ..]",
+    ),
+    (
+        "convert --readable=1 ascii",
+        "the option '--readable' takes no value",
+        "convert [OPTION ..] ENCODING",
+    ),
+    (
+        "app.properties help",
+        "unknown command 'app.properties'",
+        COMMANDS,
     ),
 ];
 
@@ -361,7 +615,7 @@ fn the_usage_is_that_of_the_command(rt: HostRuntime) -> Result<(), Fail> {
     for (number, (words, wrong, usage)) in (1usize..).zip(USAGES) {
         let errors = format!(in rt.alloc();
             "propedit: {wrong}\n\n\
-            Usage: propedit [OPTION ..] {usage}\n\
+            Usage: propedit {usage}\n\
             For more information, try 'propedit --help'.\n"
         )?;
         let errors = errors.as_str();

@@ -76,7 +76,7 @@ module _ {Z : Type 0} where
   first-two (a ∷ b ∷ texts) text next other another some is at = (texts, ap (λ v. v ∷ (b ∷ texts)) (sym is) ∙ ap (λ v. text ∷ (v ∷ texts)) (sym at))
 
 -- some texts, by a test
-some-words : {Z : Type 0} (texts : List (String Z)) → (length texts == 0) ≡ false → map string_bytes texts ≢ []
+pub some-words : {Z : Type 0} (texts : List (String Z)) → (length texts == 0) ≡ false → map string_bytes texts ≢ []
 some-words [] h e = cc
 some-words (a ∷ texts) h e = cc
 
@@ -161,10 +161,10 @@ no-edits words mistake h all is = left (rest-of h.before all h.rest (sym is ∙ 
     ] o.1
 
 -- An error that says what is wrong behind some edits is what the words give.
-pub refused : {Z : Type 0} (words : List (List ℕ)) (edits : List format.Edit) (texts : List (String Z)) (mistake : Mistake)
-    → HasMade words edits (map string_bytes texts) → (length texts == 0) ≡ false → (map string_bytes texts ≢ [] → IsMistakeAt (map string_bytes texts) mistake)
+pub refused : (words : List (List ℕ)) (edits : List format.Edit) (rest : List (List ℕ)) (mistake : Mistake)
+    → HasMade words edits rest → rest ≢ [] → (rest ≢ [] → IsMistakeAt rest mistake)
     → AreWrong words mistake × ((all : List WrittenEdit) → words ≡ words_of all → ⊥)
-refused words edits texts mistake h some wrong = (w, no-edits words mistake w)
+refused words edits rest mistake h some wrong = (w, no-edits words mistake w)
   where
     w : AreWrong words mistake
-    w = record { before = h.done; rest = map string_bytes texts; is = h.is; wrong = wrong (some-words texts some) }
+    w = record { before = h.done; rest = rest; is = h.is; wrong = wrong some }

@@ -3,7 +3,7 @@
 use java_properties::Repertoire;
 use std::fmt;
 
-const VERSION: &str = "1.13.0";
+const VERSION: &str = "1.14.0";
 
 /// A command.
 #[derive(Clone, Copy, Debug, PartialEq, Eq)]
@@ -14,6 +14,7 @@ pub enum CommandName {
     Set,
     Remove,
     Convert,
+    Help,
 }
 
 /// A row of the table of commands.
@@ -28,6 +29,10 @@ pub struct CommandRow {
     pub options: &'static [OptionName],
     /// What people write for its name.
     pub other_names: &'static [&'static str],
+    /// Two examples, as its page shows them.
+    pub examples: &'static str,
+    /// What its exit statuses mean.
+    pub statuses: &'static str,
 }
 
 /// An option.
@@ -71,6 +76,9 @@ pub const COMMANDS: &[CommandRow] = &[
             OptionName::Null,
         ],
         other_names: &["show", "print", "read"],
+        examples: "propedit get -f app.properties port\n  \
+            propedit get -d 80 -- \"$key\" < app.properties",
+        statuses: "0 each KEY was found, or -d is given; 1 one was not; 2 an error",
     },
     CommandRow {
         command: CommandName::List,
@@ -84,6 +92,9 @@ pub const COMMANDS: &[CommandRow] = &[
             OptionName::Values,
         ],
         other_names: &["ls", "keys"],
+        examples: "propedit list -f app.properties server.\n  \
+            propedit list -v < app.properties",
+        statuses: "0 a key was found; 1 none was; 2 an error",
     },
     CommandRow {
         command: CommandName::Check,
@@ -92,22 +103,32 @@ pub const COMMANDS: &[CommandRow] = &[
         help: "Reports ill-formed lines, bad escapes, repeated keys",
         options: &[OptionName::File, OptionName::Encoding, OptionName::Ascii],
         other_names: &["lint", "validate", "verify"],
+        examples: "propedit check app.properties\n  \
+            propedit check -a -- *.properties",
+        statuses: "0 nothing was found; 1 something was; 2 an error",
     },
     CommandRow {
         command: CommandName::Set,
         name: "set",
-        words: "KEY VALUE ..",
+        words: "KEY VALUE",
         help: "Sets a value, keeps its line's layout; edits may follow",
         options: EDIT_OPTIONS,
         other_names: &["put", "add", "edit", "change", "update", "replace"],
+        examples: "propedit set -i app.properties port 8080\n  \
+            propedit set -x -i app.properties -- \"$key\" \"$value\"",
+        statuses: "0 done; 1 no pair has a KEY to set, and -x is given; 2 an error",
     },
     CommandRow {
         command: CommandName::Remove,
         name: "remove",
-        words: "KEY ..",
+        words: "KEY",
         help: "Removes a key; edits may follow",
         options: EDIT_OPTIONS,
         other_names: &["delete", "del", "rm", "unset"],
+        examples: "propedit remove -i app.properties port\n  \
+            propedit remove port set server.port 8080 < app.properties",
+        statuses: "0 done; 1 no pair has a KEY to set, and -x is given; 2 an error.\n\
+            The options -a and -x require a 'set'",
     },
     CommandRow {
         command: CommandName::Convert,
@@ -121,6 +142,19 @@ pub const COMMANDS: &[CommandRow] = &[
             OptionName::Readable,
         ],
         other_names: &["recode", "encode", "native2ascii"],
+        examples: "propedit convert -i app.properties ascii\n  \
+            propedit convert -e latin1 utf-8 < old.properties",
+        statuses: "0 done; 2 an error",
+    },
+    CommandRow {
+        command: CommandName::Help,
+        name: "help",
+        words: "[COMMAND]",
+        help: "Prints the commands, or the page of one of them",
+        options: &[],
+        other_names: &["man", "usage"],
+        examples: "propedit help\n  propedit help set",
+        statuses: "0 printed; 2 an error",
     },
 ];
 
@@ -222,8 +256,8 @@ const OPTIONS: &[OptionRow] = &[
 
 const ABOUT: &str = "Reads, checks, edits and converts Java properties files";
 
-const NOTES: &str = "Options come before the command, and each may be given once.\n\
-    Arguments after get, list, set and remove are never options, not even --help.\n\
+const NOTES: &str = "Options come before or after the command, but before its first argument.\n\
+    A first argument that begins with a dash comes after '--', as in 'get -- -Xmx'.\n\
     A byte order mark overrides -e, which also takes other labels, such as latin1.\n\
     Reads standard input and prints on standard output, unless -f or -i is given.\n\
     Status: 0 done or found, 1 not found or check found something, 2 an error.\n";
@@ -243,19 +277,47 @@ pub fn command_meant(word: &str) -> Option<&'static CommandRow> {
     })
 }
 
-/// Returns the row of the option with this long name.
-pub fn option_named(long: &str) -> Option<&'static OptionRow> {
-    OPTIONS.iter().find(|row| row.long == long)
-}
-
 /// Returns the row of the option with this letter.
 pub fn option_of(letter: char) -> Option<&'static OptionRow> {
     OPTIONS.iter().find(|row| row.short == Some(letter))
 }
 
-/// Returns the row of the option that may be meant by a long name that none has.
-pub fn option_meant(long: &str) -> Option<&'static OptionRow> {
-    OPTIONS.iter().find(|row| is_continued(row.long, long))
+/// Returns the row of the option that a word begins with.
+pub fn option_in(word: &str) -> Option<&'static OptionRow> {
+    match word.strip_prefix("--") {
+        Some(long) => OPTIONS.iter().find(|row| row.long == name_in(long)),
+        None => option_of(word.strip_prefix('-')?.chars().next()?),
+    }
+}
+
+/// Returns what stands before a first `=`.
+pub fn name_in(word: &str) -> &str {
+    match word.split_once('=') {
+        Some((name, _)) => name,
+        None => word,
+    }
+}
+
+/// Returns the row of the option that may be meant by a long name that none has. After a command it is one that this
+/// command takes.
+pub fn option_meant(
+    word: &str,
+    command: Option<&'static CommandRow>,
+) -> Option<&'static OptionRow> {
+    let long = name_in(word.strip_prefix("--")?);
+    let meant = OPTIONS.iter().find(|row| is_continued(row.long, long));
+    allowed(meant, command)
+}
+
+/// Returns a row, unless it is that of an option after a command that doesn't take it.
+pub fn allowed(
+    row: Option<&'static OptionRow>,
+    command: Option<&'static CommandRow>,
+) -> Option<&'static OptionRow> {
+    match (row, command) {
+        (Some(row), Some(command)) if !command.takes(row.option) => None,
+        _ => row,
+    }
 }
 
 const TARGETS: &[(&str, Repertoire)] = &[
@@ -280,9 +342,22 @@ fn is_continued(name: &str, word: &str) -> bool {
 }
 
 impl CommandRow {
-    /// Returns whether the words after it are files or an encoding, so that one that begins with a dash is an option.
-    pub(crate) fn takes_plain_words(&self) -> bool {
-        self.command == CommandName::Check || self.command == CommandName::Convert
+    /// Returns whether an option may stand after it.
+    pub(crate) fn takes(&self, option: OptionName) -> bool {
+        match option {
+            OptionName::Help | OptionName::Version => true,
+            _ => self.options.contains(&option),
+        }
+    }
+
+    /// Returns what its first argument is, if it may begin with a dash.
+    pub(crate) fn first_argument(&self) -> Option<&'static str> {
+        match self.command {
+            CommandName::Get | CommandName::Set | CommandName::Remove => Some("key"),
+            CommandName::List => Some("prefix"),
+            CommandName::Check => Some("file"),
+            CommandName::Convert | CommandName::Help => None,
+        }
     }
 
     /// Returns whether it edits.
@@ -327,29 +402,23 @@ pub enum Usage {
     All,
     /// A command with its words.
     Of(&'static CommandRow),
-    /// Edits, of which there may be several.
+    /// The commands that edit.
     Edits,
 }
 
 impl fmt::Display for Usage {
     fn fmt<W: fmt::Write>(&self, f: &mut fmt::Formatter<W>) -> fmt::Result {
         match self {
-            Usage::Of(row) => write!(
+            Usage::Of(row) => show_usage(f, "Usage:", row),
+            Usage::Edits => write!(
                 f,
-                "Usage: propedit [OPTION ..] {} {}\n",
-                row.name, row.words
+                "Usage: propedit set [OPTION ..] KEY VALUE{MORE_EDITS}\n       \
+                propedit remove [OPTION ..] KEY{MORE_EDITS}\n"
             ),
-            Usage::Edits => {
-                f.write_str("Usage: propedit [OPTION ..] (set KEY VALUE | remove KEY) ..\n")
-            }
             Usage::All => {
                 let mut title = "Usage:";
                 for row in COMMANDS {
-                    write!(
-                        f,
-                        "{title} propedit [OPTION ..] {} {}\n",
-                        row.name, row.words
-                    )?;
+                    show_usage(f, title, row)?;
                     title = "      ";
                 }
                 Ok(())
@@ -357,6 +426,27 @@ impl fmt::Display for Usage {
         }
     }
 }
+
+// Prints after this title how a command is written.
+fn show_usage<W: fmt::Write>(
+    f: &mut fmt::Formatter<W>,
+    title: &str,
+    row: &CommandRow,
+) -> fmt::Result {
+    let options = if row.options.is_empty() {
+        ""
+    } else {
+        "[OPTION ..] "
+    };
+    let more = if row.is_edit() { MORE_EDITS } else { "" };
+    write!(
+        f,
+        "{title} propedit {} {options}{}{more}\n",
+        row.name, row.words
+    )
+}
+
+const MORE_EDITS: &str = " [set KEY VALUE | remove KEY] ..";
 
 /// What `--help` prints.
 #[derive(Clone, Copy)]
@@ -369,7 +459,7 @@ impl fmt::Display for Help {
     fn fmt<W: fmt::Write>(&self, f: &mut fmt::Formatter<W>) -> fmt::Result {
         write!(
             f,
-            "{ABOUT}\n\nUsage: propedit [OPTION ..] COMMAND [ARGUMENT ..]\n\nCommands:\n"
+            "{ABOUT}\n\nUsage: propedit COMMAND [OPTION ..] [ARGUMENT ..]\n\nCommands:\n"
         )?;
         for row in COMMANDS {
             write!(f, "  {} {}", row.name, row.words)?;
@@ -378,16 +468,41 @@ impl fmt::Display for Help {
         }
         f.write_str("\nOptions:\n")?;
         for row in OPTIONS {
-            match row.short {
-                Some(letter) => write!(f, "  -{letter}, ")?,
-                None => f.write_str("      ")?,
-            }
-            write!(f, "--{} {}", row.long, row.value)?;
-            let width = row.long.len().saturating_add(row.value.len());
-            show_help(f, width.saturating_add(9), row.help)?;
+            show_option(f, row)?;
         }
         write!(f, "\n{NOTES}")
     }
+}
+
+/// What `help` prints of a command: its page.
+#[derive(Clone, Copy)]
+pub struct HelpOf(pub &'static CommandRow);
+
+impl fmt::Display for HelpOf {
+    fn fmt<W: fmt::Write>(&self, f: &mut fmt::Formatter<W>) -> fmt::Result {
+        let command = self.0;
+        write!(f, "{}\n\n{}\nOptions:\n", command.help, Usage::Of(command))?;
+        for row in OPTIONS {
+            if command.takes(row.option) {
+                show_option(f, row)?;
+            }
+        }
+        write!(
+            f,
+            "\nExamples:\n  {}\n\nStatus: {}.\n",
+            command.examples, command.statuses
+        )
+    }
+}
+
+fn show_option<W: fmt::Write>(f: &mut fmt::Formatter<W>, row: &OptionRow) -> fmt::Result {
+    match row.short {
+        Some(letter) => write!(f, "  -{letter}, ")?,
+        None => f.write_str("      ")?,
+    }
+    write!(f, "--{} {}", row.long, row.value)?;
+    let width = row.long.len().saturating_add(row.value.len());
+    show_help(f, width.saturating_add(9), row.help)
 }
 
 // Prints the help of a row in the second column, after so many characters.

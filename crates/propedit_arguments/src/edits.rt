@@ -11,12 +11,18 @@ use crate::mistake::Mistake;
 use java_properties::Edit;
 use std::alloc::{AllocError, Global};
 
-/// Returns the edits that the words are, in order. If they are no edits, the mistake names the wrong word.
-pub fn edits_in<'a>(alloc: Global, words: &'a [String]) -> Result<Vec<Edit>, Mistake<'a>>
-    ensures { GivesEdits (map string_bytes words.now) result }
+/// Returns the edits that a command and the words after its options are, in order. If they are no edits, the mistake
+/// names the wrong word.
+pub fn edits_in<'a>(
+    alloc: Global,
+    command: &'a str,
+    words: &'a [String],
+) -> Result<Vec<Edit>, Mistake<'a>>
+    ensures { GivesEdits (command.now ∷ map string_bytes words.now) result }
 {
     let mut edits = Vec::new(alloc);
-    let mut rest = words;
+    let (first, mut rest) = edit_of(command, words)?;
+    edits.push(first.into_edit()?)?;
     while !rest.is_empty() {
         let (edit, others) = next_edit(rest)?;
         edits.push(edit.into_edit()?)?;
@@ -47,12 +53,22 @@ impl BorrowedEdit<'_> {
 fn next_edit<'a>(words: &'a [String]) -> Result<(BorrowedEdit<'a>, &'a [String]), Mistake<'a>>
     ensures { TakesEdit (map string_bytes words.now) result }
 {
-    let [word, others @ ..] = words else {
-        return Err(Mistake::NoCommand);
-    };
-    match word.as_str() {
-        "set" => next_set(others),
-        "remove" => next_removal(others),
+    match words {
+        [word, others @ ..] => edit_of(word.as_str(), others),
+        [] => Err(Mistake::NoCommand),
+    }
+}
+
+// Returns the edit of a command whose texts the words begin with, and the words after it.
+fn edit_of<'a>(
+    command: &'a str,
+    words: &'a [String],
+) -> Result<(BorrowedEdit<'a>, &'a [String]), Mistake<'a>>
+    ensures { TakesEdit (command.now ∷ map string_bytes words.now) result }
+{
+    match command {
+        "set" => next_set(words),
+        "remove" => next_removal(words),
         other => Err(Mistake::NoEdit(other)),
     }
 }

@@ -1,7 +1,8 @@
 // Why words ask for nothing.
 
 use crate::command_line::{
-    CommandRow, OptionName, TypedOption, Usage, command_meant, command_named, option_meant,
+    CommandRow, OptionName, TypedOption, Usage, allowed, command_meant, command_named, name_in,
+    option_in, option_meant,
 };
 use properties_tools::messages::Escaped;
 use std::alloc::{AllocError, AllocFailed};
@@ -10,8 +11,8 @@ use std::fmt;
 /// Why words ask for nothing.
 #[derive(Clone, Copy, Debug)]
 pub enum NoRequest<'a> {
-    /// They ask for help.
-    Help,
+    /// They ask for help, or for that on a command.
+    Help(Option<&'static CommandRow>),
     /// They ask for the version.
     Version,
     Wrong(Mistake<'a>),
@@ -56,18 +57,18 @@ pub enum Mistake<'a> {
     NoCommand,
     /// There is no command but this one, which this option took as its value.
     CommandTaken(TypedOption, &'static CommandRow),
+    /// There is no command before `--`.
+    DashesFirst(Hint),
     /// No command has this name.
     UnknownCommand(&'a str, Hint),
-    /// No option has this long name.
-    UnknownOption(&'a str),
-    /// No option has a letter of this word.
-    UnknownLetter(&'a str),
-    /// This option requires a value.
-    NoOptionValue(TypedOption),
-    /// This option has a value, and takes none.
-    OptionValue(TypedOption),
-    /// This option is given twice.
-    Twice(TypedOption),
+    /// This word is no option, or none of the command before it.
+    UnknownOption(&'a str, Option<&'static CommandRow>),
+    /// This option, which may stand after this command, requires a value.
+    NoOptionValue(TypedOption, Option<&'static CommandRow>),
+    /// This option, which may stand after this command, has a value, and takes none.
+    OptionValue(TypedOption, Option<&'static CommandRow>),
+    /// This option, which may stand after this command, is given twice.
+    Twice(TypedOption, Option<&'static CommandRow>),
     /// This command has no use for this option.
     NotWith(TypedOption, &'static CommandRow),
     /// These two options exclude each other.
@@ -86,7 +87,7 @@ pub enum Mistake<'a> {
     NoTarget(&'a str, &'static CommandRow),
     /// This command requires an encoding to convert to.
     NoWord(&'static CommandRow),
-    /// After this command comes an option, or what looks like one.
+    /// After the argument of this command comes what looks like an option.
     OptionAfter(&'a str, &'static CommandRow),
     /// This command has no use for this word.
     Surplus(&'a str, &'static CommandRow),
@@ -96,6 +97,10 @@ pub enum Mistake<'a> {
     NoKey(&'static str),
     /// The setting of this key has no value.
     NoValue(&'a str),
+    /// This command has options and no key, which may be meant by an option.
+    OptionForKey(&'static CommandRow),
+    /// The setting of this key has options and no value: the key may be meant by an option.
+    OptionForKeyOf(&'a str, &'static CommandRow),
     /// This key of `get` is the name of a file, and a default would hide it.
     FileAsKey(&'a str),
     /// The key and the value of a setting both look like NAME=TEXT.
@@ -108,8 +113,14 @@ impl Mistake<'_> {
     /// Returns the usage to print under it: that of the command that was meant, if it tells.
     pub(crate) fn usage(self) -> Usage {
         match self {
-            Mistake::UnknownCommand(_, hint) => hint.usage(),
+            Mistake::UnknownCommand(_, hint) | Mistake::DashesFirst(hint) => hint.usage(),
             Mistake::CommandTaken(_, row)
+            | Mistake::UnknownOption(_, Some(row))
+            | Mistake::NoOptionValue(_, Some(row))
+            | Mistake::OptionValue(_, Some(row))
+            | Mistake::Twice(_, Some(row))
+            | Mistake::OptionForKey(row)
+            | Mistake::OptionForKeyOf(_, row)
             | Mistake::NotWith(_, row)
             | Mistake::Both(_, _, row)
             | Mistake::TwoFiles(_, row)
@@ -185,7 +196,7 @@ impl fmt::Display for EscapedBytes<'_> {
     }
 }
 
-const OPTIONS_FIRST: &str = "options come before the command";
+const OPTIONS_FIRST: &str = "options come before the first KEY";
 
 const TARGETS: &str = "utf-8, windows-1252 or ascii";
 
@@ -201,15 +212,15 @@ impl fmt::Display for Mistake<'_> {
                 show_taken(f, option, row.name)
             }
             Mistake::UnknownCommand(word, hint) => show_unknown_command(f, word, hint),
-            Mistake::UnknownOption(long) => show_unknown_option(f, long),
-            Mistake::UnknownLetter(word) => write!(f, "unknown option in '{}'", Escaped(word)),
-            Mistake::NoOptionValue(option) => {
+            Mistake::DashesFirst(_) => f.write_str("unexpected '--' before the command"),
+            Mistake::UnknownOption(word, command) => show_unknown_option(f, word, command),
+            Mistake::NoOptionValue(option, _) => {
                 let value = option.row.value;
                 write!(f, "the option '{option}' requires a {value}")
             }
-            Mistake::OptionValue(option) => write!(f, "the option '{option}' takes no value"),
-            Mistake::Twice(option) => write!(f, "the option '{option}' is given twice"),
-            Mistake::NotWith(option, row) => show_not_with(f, option, row.name),
+            Mistake::OptionValue(option, _) => write!(f, "the option '{option}' takes no value"),
+            Mistake::Twice(option, _) => write!(f, "the option '{option}' is given twice"),
+            Mistake::NotWith(option, row) => show_not_with(f, option, row),
             Mistake::Both(one, other, _) => {
                 write!(f, "the option '{one}' cannot be used with '{other}'")
             }
@@ -234,22 +245,23 @@ impl fmt::Display for Mistake<'_> {
             Mistake::OptionAfter(word, row) => {
                 write!(
                     f,
-                    "unexpected '{}' after '{}': {OPTIONS_FIRST}",
+                    "unexpected '{}': options of '{}' come before its argument",
                     Escaped(word),
                     row.name
                 )
             }
-            Mistake::Surplus(word, row) => {
-                write!(
-                    f,
-                    "unexpected '{}': '{}' takes one argument; '-f FILE' before it names a file",
-                    Escaped(word),
-                    row.name
-                )
-            }
+            Mistake::Surplus(word, row) => show_surplus(f, word, row),
             Mistake::NoEdit(word) => show_no_edit(f, word),
             Mistake::NoKey(name) => write!(f, "'{name}' requires a KEY"),
             Mistake::NoValue(key) => show_no_value(f, key),
+            Mistake::OptionForKey(row) => {
+                write!(f, "'{}' requires a KEY", row.name)?;
+                show_dashes(f, row)
+            }
+            Mistake::OptionForKeyOf(key, row) => {
+                write!(f, "'set {}' requires a VALUE", Escaped(key))?;
+                show_dashes(f, row)
+            }
             Mistake::FileAsKey(name) => {
                 let name = Escaped(name);
                 write!(
@@ -269,9 +281,6 @@ fn show_unknown_command<W: fmt::Write>(
     word: &str,
     hint: Hint,
 ) -> fmt::Result {
-    if word == "--" {
-        return f.write_str("unexpected '--' before the command");
-    }
     let shown = Escaped(word);
     write!(f, "unknown command '{shown}'")?;
     match hint {
@@ -300,11 +309,35 @@ fn show_taken<W: fmt::Write>(
     write!(f, "; the option '{option}' took '{command}' as its value")
 }
 
-// Prints that no option has this long name, and which one may be meant.
-fn show_unknown_option<W: fmt::Write>(f: &mut fmt::Formatter<W>, long: &str) -> fmt::Result {
-    write!(f, "unknown option '--{}'", Escaped(long))?;
-    match option_meant(long) {
+// Prints that a word is no option, or none of this command, and what may be meant.
+fn show_unknown_option<W: fmt::Write>(
+    f: &mut fmt::Formatter<W>,
+    word: &str,
+    command: Option<&'static CommandRow>,
+) -> fmt::Result {
+    let option = option_in(word);
+    match (word.starts_with("--"), command, allowed(option, command)) {
+        (true, _, _) => write!(f, "unknown option '{}'", Escaped(name_in(word)))?,
+        (false, Some(_), None) => write!(f, "unknown option '{}'", Escaped(word))?,
+        _ => write!(f, "unknown option in '{}'", Escaped(word))?,
+    }
+    if let Some(row) = command {
+        write!(f, " of '{}'", row.name)?;
+        show_dashes(f, row)?;
+        if let Some(option) = option {
+            show_reading(f, option.option, row)?;
+        }
+    }
+    match option_meant(word, command) {
         Some(row) => show_meant(f, "--", row.long),
+        None => Ok(()),
+    }
+}
+
+// Prints how the first argument of a command is given if it looks like an option.
+fn show_dashes<W: fmt::Write>(f: &mut fmt::Formatter<W>, row: &'static CommandRow) -> fmt::Result {
+    match row.first_argument() {
+        Some(what) => write!(f, "; a {what} that begins with a dash comes after '--'"),
         None => Ok(()),
     }
 }
@@ -313,13 +346,44 @@ fn show_unknown_option<W: fmt::Write>(f: &mut fmt::Formatter<W>, long: &str) -> 
 fn show_not_with<W: fmt::Write>(
     f: &mut fmt::Formatter<W>,
     option: TypedOption,
-    command: &str,
+    row: &'static CommandRow,
 ) -> fmt::Result {
-    write!(f, "the option '{option}' cannot be used with '{command}'")?;
-    match option.row.option {
-        OptionName::InPlace => f.write_str("; '-f FILE' reads a file"),
-        _ => Ok(()),
+    write!(
+        f,
+        "the option '{option}' cannot be used with '{}'",
+        row.name
+    )?;
+    show_reading(f, option.row.option, row)
+}
+
+// Prints that a command has no use for a word, and how a file is named.
+fn show_surplus<W: fmt::Write>(
+    f: &mut fmt::Formatter<W>,
+    word: &str,
+    row: &'static CommandRow,
+) -> fmt::Result {
+    write!(
+        f,
+        "unexpected '{}': '{}' takes one argument",
+        Escaped(word),
+        row.name
+    )?;
+    if row.options.contains(&OptionName::File) {
+        f.write_str("; '-f FILE' names a file")?;
     }
+    Ok(())
+}
+
+// Prints how a command reads a file that this option would edit.
+fn show_reading<W: fmt::Write>(
+    f: &mut fmt::Formatter<W>,
+    option: OptionName,
+    row: &'static CommandRow,
+) -> fmt::Result {
+    if option == OptionName::InPlace && row.options.contains(&OptionName::File) {
+        return f.write_str("; '-f FILE' reads a file");
+    }
+    Ok(())
 }
 
 // Prints that a word is no edit, and which one may be meant, or what comes after an edit.
@@ -376,7 +440,11 @@ fn show_assignment<W: fmt::Write>(f: &mut fmt::Formatter<W>, text: &str) -> fmt:
 }
 
 fn show_setting<W: fmt::Write>(f: &mut fmt::Formatter<W>, key: &str, value: &str) -> fmt::Result {
-    f.write_str("set ")?;
+    f.write_str(if key.starts_with('-') {
+        "set -- "
+    } else {
+        "set "
+    })?;
     show_argument(f, key)?;
     f.write_str(" ")?;
     show_argument(f, value)

@@ -1,7 +1,7 @@
-// The options before a command.
+// The options before a command, and those after it.
 
 use crate::command_line::{
-    CommandRow, OptionName, TypedOption, command_named, option_named, option_of,
+    CommandRow, OptionName, TypedOption, allowed, command_named, option_in, option_of,
 };
 use crate::mistake::{Mistake, NoRequest, means_ascii};
 use java_properties::{Encoding, Spelling};
@@ -15,6 +15,8 @@ pub const STANDARD_INPUT: &str = "-";
 #[derive(Drop)]
 pub struct Options<'a> {
     given: Vec<Given<'a>>,
+    // The command, once it is read.
+    command: Option<&'static CommandRow>,
 }
 
 // An option, and its value, which is empty if it takes none.
@@ -25,59 +27,75 @@ struct Given<'a> {
 }
 
 /// Returns the options that the words begin with, and the words after them.
-///
-/// An option that takes a value has what follows in its word, or else the whole next word, whatever that is.
 pub fn options_in<'a>(
     alloc: Global,
     words: &'a [String],
 ) -> Result<(Options<'a>, &'a [String]), NoRequest<'a>> {
     let mut options = Options {
         given: Vec::new(alloc),
+        command: None,
     };
-    let mut without_value = None;
-    for (at, word) in words.iter().enumerate() {
-        let word = word.as_str();
-        if let Some(option) = without_value {
-            options.add(option, word)?;
-            without_value = None;
-        } else if is_option(word) {
-            without_value = options.add_word(word)?;
-        } else {
-            return Ok((options, words.get(at..).unwrap_or(&[])));
-        }
-    }
-    match without_value {
-        Some(option) => Err(NoRequest::Wrong(Mistake::NoOptionValue(option))),
-        None => Ok((options, &[])),
-    }
+    let others = options.add_all(words)?;
+    Ok((options, others))
 }
 
-/// Returns whether a word before the command is an option: it begins with a dash, and is neither `-` nor `--`.
-pub fn is_option(word: &str) -> bool {
+// Returns whether a word is an option where one may stand: it begins with a dash, and is neither `-` nor `--`.
+fn is_option(word: &str) -> bool {
     word.starts_with('-') && word != "-" && word != "--"
 }
 
 impl<'a> Options<'a> {
-    // Adds the options of a word, and returns the last of them if its value is the next word.
-    fn add_word(&mut self, word: &'a str) -> Result<Option<TypedOption>, NoRequest<'a>> {
-        match word.strip_prefix("--") {
-            Some(long) => self.add_long(long),
-            None => self.add_letters(word),
+    /// Adds the options that the words after a command begin with, and returns the words after them. One that the command
+    /// doesn't take is refused, since it may be meant as its first argument.
+    pub fn add_after(
+        &mut self,
+        command: &'static CommandRow,
+        words: &'a [String],
+    ) -> Result<&'a [String], NoRequest<'a>> {
+        self.command = Some(command);
+        self.add_all(words)
+    }
+
+    // Adds the options that the words begin with, and returns the words after them. An option that takes a value has
+    // what follows in its word, or else the whole next word, whatever that is.
+    fn add_all(&mut self, words: &'a [String]) -> Result<&'a [String], NoRequest<'a>> {
+        let mut without_value = None;
+        for (at, word) in words.iter().enumerate() {
+            let word = word.as_str();
+            if let Some(option) = without_value {
+                self.add(option, word)?;
+                without_value = None;
+            } else if is_option(word) {
+                without_value = self.add_word(word)?;
+            } else {
+                return Ok(words.get(at..).unwrap_or(&[]));
+            }
+        }
+        match without_value {
+            Some(option) => Err(NoRequest::Wrong(Mistake::NoOptionValue(option, self.command))),
+            None => Ok(&[]),
         }
     }
 
-    fn add_long(&mut self, long: &'a str) -> Result<Option<TypedOption>, NoRequest<'a>> {
-        let (name, value) = match long.split_once('=') {
-            Some((name, value)) => (name, Some(value)),
-            None => (long, None),
-        };
-        let Some(row) = option_named(name) else {
-            return Err(NoRequest::Wrong(Mistake::UnknownOption(name)));
+    // Adds the options of a word, and returns the last of them if its value is the next word.
+    fn add_word(&mut self, word: &'a str) -> Result<Option<TypedOption>, NoRequest<'a>> {
+        if word.starts_with("--") {
+            self.add_long(word)
+        } else {
+            self.add_letters(word)
+        }
+    }
+
+    fn add_long(&mut self, word: &'a str) -> Result<Option<TypedOption>, NoRequest<'a>> {
+        let Some(row) = allowed(option_in(word), self.command) else {
+            return Err(NoRequest::Wrong(Mistake::UnknownOption(word, self.command)));
         };
         let option = TypedOption { row, letter: None };
-        match value {
-            Some(value) if row.takes_value() => self.add(option, value)?,
-            Some(_) => return Err(NoRequest::Wrong(Mistake::OptionValue(option))),
+        match word.split_once('=') {
+            Some((_, value)) if row.takes_value() => self.add(option, value)?,
+            Some(_) => {
+                return Err(NoRequest::Wrong(Mistake::OptionValue(option, self.command)));
+            }
             None if row.takes_value() => return Ok(Some(option)),
             None => self.add(option, "")?,
         }
@@ -86,8 +104,8 @@ impl<'a> Options<'a> {
 
     fn add_letters(&mut self, word: &'a str) -> Result<Option<TypedOption>, NoRequest<'a>> {
         for (at, letter) in word.char_indices().skip(1) {
-            let Some(row) = option_of(letter) else {
-                return Err(NoRequest::Wrong(Mistake::UnknownLetter(word)));
+            let Some(row) = allowed(option_of(letter), self.command) else {
+                return Err(NoRequest::Wrong(Mistake::UnknownOption(word, self.command)));
             };
             let option = TypedOption {
                 row,
@@ -109,15 +127,15 @@ impl<'a> Options<'a> {
 
     fn add(&mut self, option: TypedOption, value: &'a str) -> Result<(), NoRequest<'a>> {
         match option.row.option {
-            OptionName::Help => return Err(NoRequest::Help),
+            OptionName::Help => return Err(NoRequest::Help(self.command)),
             OptionName::Version => return Err(NoRequest::Version),
             OptionName::File | OptionName::InPlace if value.is_empty() => {
-                return Err(NoRequest::Wrong(Mistake::NoOptionValue(option)));
+                return Err(NoRequest::Wrong(Mistake::NoOptionValue(option, self.command)));
             }
             _ => {}
         }
         if self.has(option.row.option) {
-            return Err(NoRequest::Wrong(Mistake::Twice(option)));
+            return Err(NoRequest::Wrong(Mistake::Twice(option, self.command)));
         }
         self.given.push(Given { option, value })?;
         Ok(())

@@ -4,11 +4,12 @@ ghost use Rattle.std.specs.Prelude.{◌≡◌};
 ghost use Rattle.counted_io.specs.Streams.{IsSameSink};
 
 use crate::command_line::{
-    CommandName, CommandRow, Help, OptionName, Version, command_meant, command_named, target_named,
+    CommandName, CommandRow, Help, HelpOf, OptionName, Version, command_meant, command_named,
+    option_in, target_named,
 };
 use crate::edits::edits_in;
 use crate::mistake::{Hint, Mistake, NoRequest};
-use crate::options::{Options, is_option, options_in};
+use crate::options::{Options, options_in};
 use counted_io::CountedWrite;
 use java_properties::Edit;
 use properties_tools::propedit::request::{
@@ -28,26 +29,46 @@ use std::alloc::{AllocError, Global};
 /// }
 /// ```
 pub fn asked_for<'a>(alloc: Global, words: &'a [String]) -> Result<Request, NoRequest<'a>> {
-    let (options, words) = options_in(alloc, words)?;
-    let [name, rest @ ..] = words else {
+    let (mut options, words) = options_in(alloc, words)?;
+    let [name, words_after @ ..] = words else {
         return Err(NoRequest::Wrong(no_command(&options)));
     };
     let Some(row) = command_named(name.as_str()) else {
-        let meant = hint(&options, name.as_str(), rest);
-        return Err(NoRequest::Wrong(Mistake::UnknownCommand(name.as_str(), meant)));
+        let meant = hint(&options, name.as_str(), words_after);
+        return Err(NoRequest::Wrong(match name.as_str() {
+            "--" => Mistake::DashesFirst(meant),
+            word => Mistake::UnknownCommand(word, meant),
+        }));
     };
-    if row.takes_plain_words() && asks_for_help(rest) {
-        return Err(NoRequest::Help);
-    }
+    let rest = options.add_after(row, words_after)?;
     options.refuse_useless(row)?;
+    if rest.len() < words_after.len() {
+        refuse_option_for_key(row, rest)?;
+    }
     match row.command {
         CommandName::Get => Ok(get(alloc, row, &options, rest)?),
         CommandName::List => Ok(list(alloc, row, &options, rest)?),
         CommandName::Check => Ok(check(alloc, row, &options, rest)?),
         CommandName::Set | CommandName::Remove => {
-            Ok(edit(alloc, row, &options, edits_in(alloc, words)?)?)
+            Ok(edit(alloc, row, &options, edits_in(alloc, row.name, rest)?)?)
         }
         CommandName::Convert => Ok(convert(alloc, row, &options, rest)?),
+        CommandName::Help => Err(help(row, &options, rest)),
+    }
+}
+
+// Fails if a command has options and no key, or `set` no value after them: one of the options may be meant as the key.
+fn refuse_option_for_key<'a>(
+    row: &'static CommandRow,
+    words: &'a [String],
+) -> Result<(), Mistake<'a>> {
+    match (row.first_argument(), words) {
+        (Some("key"), []) => Err(Mistake::OptionForKey(row)),
+        (_, [key])
+            if row.command == CommandName::Set && !key.contains('=') && key.as_str() != "--" => {
+            Err(Mistake::OptionForKeyOf(key.as_str(), row))
+        }
+        _ => Ok(()),
     }
 }
 
@@ -69,7 +90,8 @@ pub fn explain<W: CountedWrite, E: CountedWrite>(
     ensures same_error_sink { IsSameSink E.CountedWrite errors.old errors.new }
 {
     let text = match error {
-        NoRequest::Help => format!(in alloc; "{Help}"),
+        NoRequest::Help(None) => format!(in alloc; "{Help}"),
+        NoRequest::Help(Some(row)) => format!(in alloc; "{}", HelpOf(row)),
         NoRequest::Version => format!(in alloc; "{Version}"),
         NoRequest::Wrong(mistake) => return explain_mistake(alloc, mistake, errors),
     };
@@ -111,17 +133,11 @@ fn hint(options: &Options<'_>, word: &str, rest: &[String]) -> Hint {
     if let Some((option, row)) = options.command_taken() {
         return Hint::Taken(option, row);
     }
-    match OPTIONS_AS_COMMANDS
-        .iter()
-        .find(|long| word.eq_ignore_ascii_case(long))
-    {
-        Some(long) => Hint::Option(long),
-        None => file_hint(rest),
+    if word.eq_ignore_ascii_case("version") {
+        return Hint::Option("version");
     }
+    file_hint(rest)
 }
-
-// Options that other programs have as commands.
-const OPTIONS_AS_COMMANDS: &[&str] = &["help", "version"];
 
 // Returns that a file may be meant by the word before these, if the first of them is a command.
 fn file_hint(rest: &[String]) -> Hint {
@@ -129,8 +145,8 @@ fn file_hint(rest: &[String]) -> Hint {
         return Hint::Nothing;
     };
     match command_named(next.as_str()) {
-        Some(row) => Hint::File(row),
-        None => Hint::Nothing,
+        Some(row) if row.options.contains(&OptionName::File) => Hint::File(row),
+        _ => Hint::Nothing,
     }
 }
 
@@ -143,19 +159,6 @@ fn around_dashes(words: &[String]) -> (&[String], &[String]) {
         ),
         None => (words, &[]),
     }
-}
-
-fn asks_for_help(words: &[String]) -> bool {
-    let (before, _) = around_dashes(words);
-    before
-        .iter()
-        .any(|word| word.as_str() == "--help" || word.as_str() == "-h")
-}
-
-// Returns the first of the words that looks like an option.
-fn option_among(words: &[String]) -> Option<&str> {
-    let found = words.iter().find(|word| is_option(word.as_str()))?;
-    Some(found.as_str())
 }
 
 fn copies(alloc: Global, before: &[String], after: &[String]) -> Result<Vec<String>, AllocError> {
@@ -172,7 +175,8 @@ fn get<'a>(
     options: &Options<'a>,
     words: &'a [String],
 ) -> Result<Request, Mistake<'a>> {
-    let keys = keys_in(alloc, row, words)?;
+    let (before, after) = around_dashes(words);
+    let keys = copies(alloc, before, after)?;
     if keys.is_empty() {
         return Err(Mistake::NoKey(row.name));
     }
@@ -181,21 +185,6 @@ fn get<'a>(
         None => None,
     };
     options.job(alloc, row, Command::Get(keys, default, options.end()))
-}
-
-// Returns the keys that words are. A first `--` is dropped. Among several words, those that look like options come
-// after it, so that none is taken for a key that was meant as an option.
-fn keys_in<'a>(
-    alloc: Global,
-    row: &'static CommandRow,
-    words: &'a [String],
-) -> Result<Vec<String>, Mistake<'a>> {
-    let (before, after) = around_dashes(words);
-    let keys = copies(alloc, before, after)?;
-    match option_among(before) {
-        Some(word) if keys.len() > 1 => Err(Mistake::OptionAfter(word, row)),
-        _ => Ok(keys),
-    }
 }
 
 fn list<'a>(
@@ -226,9 +215,18 @@ fn only_word<'a>(
     let first = first.as_str();
     match given.next() {
         None => Ok(Some(first)),
-        Some(_) if is_option(first) => Err(Mistake::OptionAfter(first, row)),
-        Some(word) if is_option(word.as_str()) => { Err(Mistake::OptionAfter(word.as_str(), row)) }
+        Some(word) if is_option_of(word.as_str(), row) => {
+            Err(Mistake::OptionAfter(word.as_str(), row))
+        }
         Some(word) => Err(Mistake::Surplus(word.as_str(), row)),
+    }
+}
+
+// Returns whether a word would be an option of a command that has some.
+fn is_option_of(word: &str, row: &'static CommandRow) -> bool {
+    match option_in(word) {
+        Some(option) => !row.options.is_empty() && row.takes(option.option),
+        None => false,
     }
 }
 
@@ -239,9 +237,6 @@ fn check<'a>(
     words: &'a [String],
 ) -> Result<Request, Mistake<'a>> {
     let (before, after) = around_dashes(words);
-    if let Some(word) = option_among(before) {
-        return Err(Mistake::OptionAfter(word, row));
-    }
     let paths = copies(alloc, before, after)?;
     let allowed = if options.has(OptionName::Ascii) {
         Allowed::Ascii
@@ -292,9 +287,6 @@ fn convert<'a>(
     let Some(word) = only_word(row, words)? else {
         return Err(Mistake::NoWord(row));
     };
-    if is_option(word) {
-        return Err(Mistake::OptionAfter(word, row));
-    }
     let Some(target) = target_named(word) else {
         return Err(Mistake::NoTarget(word, row));
     };
@@ -303,6 +295,18 @@ fn convert<'a>(
         spelling: options.spelling(),
     };
     change(alloc, row, options, Change::Conversion(conversion))
+}
+
+// Returns the request for help on the command that words name, or for all help, or what is wrong with the words.
+fn help<'a>(row: &'static CommandRow, options: &Options<'a>, words: &'a [String]) -> NoRequest<'a> {
+    match only_word(row, words) {
+        Ok(None) => NoRequest::Help(None),
+        Ok(Some(name)) => match command_named(name) {
+            Some(row) => NoRequest::Help(Some(row)),
+            None => NoRequest::Wrong(Mistake::UnknownCommand(name, hint(options, name, &[]))),
+        },
+        Err(mistake) => NoRequest::Wrong(mistake),
+    }
 }
 
 // Returns the request for a change of the source that the options name, or of the file to change in place.

@@ -113,6 +113,8 @@ pub record AreWrong (words : List (List ℕ)) (mistake : Mistake) : Type 0 where
   pub wrong : IsMistakeAt rest mistake
 
 -- What the words give: the edits that they ask for; or they ask for none, and the mistake says why, or memory ran out.
+-- The words are the first command and what stands after its options. A later command has none: a word there that begins
+-- with a dash is a key.
 abbrev pub GivesEdits : List (List ℕ) → Result (Vec editor.Edit) Mistake → Type 0
 GivesEdits words (Ok edits) = AreWordsOfEdits words (edits_in edits.items)
 GivesEdits words (Err mistake) = mistake ≢ Memory → AreWrong words mistake × ((edits : List WrittenEdit) → words ≡ words_of edits → ⊥)

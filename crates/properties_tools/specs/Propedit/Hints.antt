@@ -1,5 +1,5 @@
 -- What is said of words that may have been meant otherwise.
-use Rattle.std.specs.Prelude.{◌≡◌, ◌==◌, ℕ, Bool, true, false, if◌then◌else◌, List, [], ◌∷◌, ◌++◌, Option, Some, None, codes, string_bytes}
+use Rattle.std.specs.Prelude.{◌≡◌, ◌==◌, ℕ, Bool, true, false, List, [], ◌∷◌, ◌++◌, Option, Some, None, codes, string_bytes}
 use Rattle.std.specs.Borrow.{Bor}
 use Rattle.std.specs.Global.{Global}
 use Rattle.std.specs.Option.{option_map}
@@ -51,29 +51,18 @@ refused_file command files = None
 abbrev pub is_a_file : List ℕ
 is_a_file = codes "a file is named by -f"
 
-abbrev pub is_an_option : List ℕ
-is_an_option = codes "options come before the command"
-
 -- the line of a KEY that no pair has
 abbrev pub key_line : List ℕ → List ℕ
 key_line key = codes "propedit: no pair has the key '" ++ (escaped key ++ (codes "'; " ++ printed_line is_a_file))
 
 -- the line of a PREFIX that no key begins with
-abbrev pub prefix_line : List ℕ → List ℕ → List ℕ
-prefix_line prefix advice = codes "propedit: no key begins with '" ++ (escaped prefix ++ (codes "'; " ++ printed_line advice))
+abbrev pub prefix_line : List ℕ → List ℕ
+prefix_line prefix = codes "propedit: no key begins with '" ++ (escaped prefix ++ (codes "'; " ++ printed_line is_a_file))
 
--- a file would be named, where none is
-abbrev pub file_advice : Source → Option (List ℕ)
-file_advice StandardInput = Some is_a_file
-file_advice source = None
-
--- What a PREFIX may have been meant as: an option, if it begins with a dash, or else a file.
-abbrev pub prefix_advice : Source → List ℕ → Option (List ℕ)
-prefix_advice source [] = None
-prefix_advice source (byte ∷ bytes) = if byte == 45 then Some is_an_option else file_advice source
-
+-- what is said of a PREFIX, where no file is named
 abbrev pub prefix_hint : Source → List ℕ → Option (List ℕ)
-prefix_hint source prefix = option_map (prefix_line prefix) (prefix_advice source prefix)
+prefix_hint StandardInput (byte ∷ bytes) = Some (prefix_line (byte ∷ bytes))
+prefix_hint source prefix = None
 
 -- The line is that of the first of these files that no pair of the source has as its key.
 pub record NamesFile (e : Encoding) (source : List ℕ) (files : List (List ℕ)) (line : List ℕ) : Type 0 where

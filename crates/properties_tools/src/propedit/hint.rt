@@ -7,7 +7,7 @@ ghost use Rattle.java_properties.specs.Maps.{characters};
 ghost use Rattle.properties_text.specs.Encoding.{encoding_of};
 ghost use Rattle.properties_tools.specs.Messages.{HasPrintedLine};
 ghost use Rattle.properties_tools.specs.Private.Hinting.{FindsFileHint, FindsHint};
-ghost use Rattle.properties_tools.specs.Propedit.Hints.{borrowed_bytes, hint_bytes, key_line, possible_files, prefix_advice, prefix_hint, prefix_line, reading_line, refused_file, without_first, PrintsHint};
+ghost use Rattle.properties_tools.specs.Propedit.Hints.{borrowed_bytes, hint_bytes, key_line, possible_files, prefix_hint, prefix_line, reading_line, refused_file, without_first, PrintsHint};
 
 use crate::messages::{Escaped, print_line};
 use crate::propedit::change::first_absent;
@@ -18,8 +18,6 @@ use java_properties::Encoding;
 use std::alloc::{AllocError, Global};
 
 const IS_A_FILE: &str = "a file is named by -f";
-
-const IS_AN_OPTION: &str = "options come before the command";
 
 const READING: &str = "propedit: reading standard input; '-f FILE' reads a file\n";
 
@@ -82,8 +80,8 @@ pub fn print_reading<E: CountedWrite>(errors: &mut E)
     print_line(errors, READING);
 }
 
-/// Returns the line that says of an answer with this status what a word may have been meant as: a PREFIX that no key
-/// begins with an option or a file, or a KEY that no pair has a file, if it is one of the `files`.
+/// Returns the line that says, of an answer with this status, which word may have been meant as a file: a PREFIX that no
+/// key begins with, if no file is named, or a KEY that no pair has, if it is one of the `files`.
 pub(crate) fn hint(
     alloc: Global,
     job: &Job,
@@ -138,30 +136,19 @@ fn key_line(alloc: Global, key: &str) -> Result<String, AllocError>
     format!(in alloc; "propedit: no pair has the key '{key}'; {IS_A_FILE}\n")
 }
 
+// Returns what is said of a PREFIX: that a file is named otherwise, where none is.
 fn prefix_hint(alloc: Global, source: &Source, prefix: &str) -> Result<Option<String>, AllocError>
     ensures { IfOk result (λ hint. hint_bytes hint ≡ prefix_hint source.now prefix.now) }
 {
-    match prefix_advice(source, prefix) {
-        Some(advice) => Ok(Some(prefix_line(alloc, prefix, advice)?)),
-        None => Ok(None),
+    match (prefix.as_bytes(), source) {
+        ([_, ..], Source::StandardInput) => Ok(Some(prefix_line(alloc, prefix)?)),
+        _ => Ok(None),
     }
 }
 
-fn prefix_line(alloc: Global, prefix: &str, advice: &str) -> Result<String, AllocError>
-    ensures { IfOk result (λ line. string_bytes line ≡ prefix_line prefix.now advice.now) }
+fn prefix_line(alloc: Global, prefix: &str) -> Result<String, AllocError>
+    ensures { IfOk result (λ line. string_bytes line ≡ prefix_line prefix.now) }
 {
     let prefix = Escaped(prefix);
-    format!(in alloc; "propedit: no key begins with '{prefix}'; {advice}\n")
-}
-
-// Returns what is said of a PREFIX: that it looks like an option, or that a file would be named otherwise.
-fn prefix_advice(source: &Source, prefix: &str) -> Option<&'static str>
-    ensures { option_map borrowed_bytes result ≡ prefix_advice source.now prefix.now }
-{
-    match (prefix.as_bytes(), source) {
-        ([], _) => None,
-        ([b'-', ..], _) => Some(IS_AN_OPTION),
-        (_, Source::StandardInput) => Some(IS_A_FILE),
-        _ => None,
-    }
+    format!(in alloc; "propedit: no key begins with '{prefix}'; {IS_A_FILE}\n")
 }

@@ -16,7 +16,7 @@ pub enum Request {
 /// A command, and what it is done to.
 #[derive(Drop)]
 pub struct Job {
-    /// The encoding of the source. A byte order mark overrules it.
+    /// The encoding of the source. A byte order mark overrides it.
     pub encoding: Encoding,
     pub source: Source,
     pub command: Command,
@@ -25,7 +25,7 @@ pub struct Job {
 /// Files that are checked one after another.
 #[derive(Drop)]
 pub struct CheckedFiles {
-    /// The encoding of each. A byte order mark overrules it.
+    /// The encoding of each. A byte order mark overrides it.
     pub encoding: Encoding,
     pub allowed: Allowed,
     /// Their names. There is one at least.
@@ -36,7 +36,7 @@ pub struct CheckedFiles {
 #[derive(Drop)]
 pub struct FileChange {
     pub path: String,
-    /// The encoding of the file. A byte order mark overrules it.
+    /// The encoding of the file. A byte order mark overrides it.
     pub encoding: Encoding,
     pub change: Change,
     /// What is done if there is no such file.
@@ -112,7 +112,7 @@ pub enum Command {
 pub enum Allowed {
     /// Those of any text.
     All,
-    /// ASCII alone, in comments too.
+    /// Only ASCII, in comments too.
     Ascii,
 }
 
