@@ -1,6 +1,9 @@
 // Editors that change settings in a file's bytes, and keep its comments.
 
-use java_properties::{Edit, Encoding, PropertiesError, edit_all, set_key, set_value};
+use java_properties::{
+    Comments, Edit, Encoding, PropertiesError, SourceOptions, edit_all, edit_with, set_key,
+    set_value,
+};
 use std::alloc::{AllocError, Global};
 use std::collections::BTreeMap;
 
@@ -23,6 +26,21 @@ pub fn set_all(
 ) -> Result<Vec<u8>, PropertiesError> {
     let edits = edits_from(alloc, settings)?;
     edit_all(alloc, file, Encoding::UTF_8, edits.as_slice())
+}
+
+/// The same for a file that Java reads by `load` of an `InputStream`: new texts are ASCII, and a comment may hold a `\`.
+pub fn set_for_java(
+    alloc: Global,
+    file: &[u8],
+    settings: &BTreeMap<String, String>,
+) -> Result<Vec<u8>, PropertiesError> {
+    let options = SourceOptions {
+        ascii_only: true,
+        comments: Comments::PassedOver,
+        ..SourceOptions::new(Encoding::WINDOWS_1252)
+    };
+    let edits = edits_from(alloc, settings)?;
+    edit_with(alloc, file, options, edits.as_slice())
 }
 
 fn edits_from(alloc: Global, settings: &BTreeMap<String, String>) -> Result<Vec<Edit>, AllocError> {
@@ -58,6 +76,18 @@ mod tests {
         let file = b"# both\nhost = a\n! and\nport = 80".as_slice();
         let edited = set_all(rt.alloc(), file, &settings)?;
         let wanted = b"# both\nhost=b\n! and\nport=8080\ndoor=d\nuser=c\n".as_slice();
+        same(&rt, edited.as_slice(), wanted);
+        Ok(())
+    }
+
+    #[test]
+    fn sets_for_java(rt: HostRuntime) -> Result<(), Fail> {
+        let mut settings = BTreeMap::new(rt.alloc());
+        let owner = String::from_str(rt.alloc(), "J\u{fc}rgen")?;
+        settings.insert(String::from_str(rt.alloc(), "owner")?, owner)?;
+        let file = b"# C:\\users\nowner=\n".as_slice();
+        let edited = set_for_java(rt.alloc(), file, &settings)?;
+        let wanted = b"# C:\\users\nowner=J\\u00fcrgen\n".as_slice();
         same(&rt, edited.as_slice(), wanted);
         Ok(())
     }

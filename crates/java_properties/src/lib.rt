@@ -2,7 +2,7 @@
 //!
 //! [`PropertiesIter`] reads the comments and pairs of a file, each with its line number. [`PropertiesWriter`] writes
 //! comments and pairs. [`set_key`], [`set_value`], [`remove_key`], [`edit_all`] and [`Document`] edit the pairs of a
-//! file, and so does [`edit_pairs`], which passes over comments. [`convert`] changes its encoding.
+//! file, and so does [`edit_with`], with [`SourceOptions`]. [`convert`] changes its encoding.
 //!
 //! ```text
 //! for item in PropertiesIter::new(alloc, &mut input)? {
@@ -32,7 +32,7 @@ pub use iter::{
 };
 pub use maps::{read, read_sorted, write, write_sorted};
 pub use properties_editing::{
-    Document, Edit, edit_all, edit_all_ascii, edit_pairs, remove_key, set_key, set_value,
+    Comments, Document, Edit, SourceOptions, edit_all, edit_with, remove_key, set_key, set_value,
 };
 pub use properties_items::borrowed::{ContentRef, LineRef};
 pub use properties_items::error::{At, Cause, ErrorKind, PropertiesError, Reason};

@@ -179,8 +179,8 @@ impl<T: Drop> From<AllocFailed<T>> for Mistake<'_> {
     }
 }
 
-/// Bytes in a message that are not UTF-8: those that are no text are printed as in `\xff`, and all others as an `Escaped`
-/// text.
+/// Bytes in a message that are not UTF-8: those that are no text are printed as in `\xff`, and all others as an
+/// `Escaped` text.
 #[derive(Clone, Copy)]
 pub(crate) struct EscapedBytes<'a>(pub &'a [u8]);
 

@@ -45,8 +45,8 @@ fn is_option(word: &str) -> bool {
 }
 
 impl<'a> Options<'a> {
-    /// Adds the options that the words after a command begin with, and returns the words after them. One that the command
-    /// doesn't take is refused, since it may be meant as its first argument.
+    /// Adds the options that the words after a command begin with, and returns the words after them. One that the
+    /// command doesn't take is refused, since it may be meant as its first argument.
     pub fn add_after(
         &mut self,
         command: &'static CommandRow,
@@ -216,8 +216,8 @@ impl<'a> Options<'a> {
         }
     }
 
-    /// Returns the encoding whose label is given, or UTF-8 if none is. A label that means ASCII is refused: the standard
-    /// reads ASCII as windows-1252, which takes any bytes.
+    /// Returns the encoding whose label is given, or UTF-8 if none is. A label that means ASCII is refused: the
+    /// standard reads ASCII as windows-1252, which takes any bytes.
     pub fn encoding(&self, command: &'static CommandRow) -> Result<Encoding, Mistake<'a>> {
         match self.value(OptionName::Encoding) {
             Some(label) if means_ascii(label) => Err(Mistake::AsciiEncoding(label, command)),

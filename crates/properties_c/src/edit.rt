@@ -11,7 +11,7 @@ use crate::encoding::{FOR_EDITS, FOR_KEYS, Flags, encoding_numbered, flags_numbe
 use crate::lists::edits_of;
 use crate::out::{refuse, write_result};
 use crate::status::Status;
-use java_properties::{Edit, Encoding, PropertiesError, edit_all, edit_all_ascii, edit_pairs};
+use java_properties::{Comments, Edit, Encoding, PropertiesError, SourceOptions, edit_with};
 use std::alloc::Global;
 
 /// Gives the source with the value of a key set, and the layout of its line kept.
@@ -206,12 +206,15 @@ fn with_edits(
 ) -> Result<Vec<u8>, PropertiesError>
     ensures { MakesAll flags (encoding_of encoding) source.now (edits_in edits.now) result }
 {
-    if !flags.read_comments {
-        return edit_pairs(alloc, source, encoding, flags.ascii_only, edits);
-    }
-    if flags.ascii_only {
-        edit_all_ascii(alloc, source, encoding, edits)
+    let comments = if flags.read_comments {
+        Comments::Read
     } else {
-        edit_all(alloc, source, encoding, edits)
-    }
+        Comments::PassedOver
+    };
+    let options = SourceOptions {
+        encoding,
+        ascii_only: flags.ascii_only,
+        comments,
+    };
+    edit_with(alloc, source, options, edits)
 }

@@ -1,8 +1,8 @@
 -- How the value of a key is set in a body that is held in memory.
-use Rattle.std.proofs.Common.{◌≡◌, ◌<◌, ◌≤◌, ℕ, zero, suc, ◌+◌, ◌-◌, Bool, true, false, List, [], ◌∷◌, ◌++◌, length, take, drop, get_or, refl, inl, inr, ap, ap₂, sym, ◌∙◌, subst, arith, append-nil, append_assoc, length-append, take-add}
+use Rattle.std.proofs.Common.{◌≡◌, ◌<◌, ◌≤◌, ℕ, zero, suc, ◌+◌, ◌-◌, Bool, true, false, List, [], ◌∷◌, ◌++◌, length, take, drop, get_or, refl, inl, inr, ap, ap₂, sym, ◌∙◌, subst, arith, append-nil, append_assoc, length-append}
 use Rattle.std.specs.Prelude.{if◌then◌else◌, nat_lt, Some, None, bytes_eq, nat_le}
 use Rattle.std.proofs.lemmas.Bool.{cases_Bool, cond-true, cond-false}
-use Rattle.std.proofs.lemmas.List.{drop_more, take_more, drop_all, length-drop, length-take-le, length-take, take_rest, take-append-drop, take-take}
+use Rattle.std.proofs.lemmas.List.{drop_more, take_more, drop_all, length-take-le, take_rest, take-append-drop}
 use Rattle.std.proofs.lemmas.Str.{chars-nil, chars-append, IsUtf8-take, IsUtf8-between}
 use Rattle.properties_editing.specs.Private.BodyGroups.{TakesGroup, IsFirstGroup, IsWithin, TakesLine, text_of}
 use Rattle.properties_editing.specs.declared.groups.Group.{Group}
@@ -13,7 +13,7 @@ use Rattle.properties_format.specs.Body.{HeldLine, as_lines, held_in, ending_byt
 use Rattle.properties_format.specs.Edited.{is_editable}
 use Rattle.properties_format.specs.Computed.Cut.{decoded_line}
 use Rattle.properties_format.specs.Computed.Body.{held_of, held_lines_of, held_groups_of, unended_bytes}
-use Rattle.properties_format.specs.Computed.Valued.{added_by, without_indent, front_in, front_of, last_between, between_of, is_pair_to, has_value, ascii_count, after_ascii, after_key, written_value, between_in, before_value, between_if_pair, without_end}
+use Rattle.properties_format.specs.Computed.Valued.{added_by, without_indent, front_in, front_of, last_between, between_of, is_pair_to, ascii_count, after_ascii, after_key, written_value, between_in, before_value, between_if_pair, without_end}
 use Rattle.properties_format.proofs.Body.Groups.{held_groups_of-meets, held_of-only, held-body}
 use Rattle.properties_format.proofs.Cut.Only.{cut_of-only}
 use Rattle.properties_format.proofs.Valued.Fronts.{AreDecoded, indented, joined_by, open_backslash, shut-whole, split-longer, front_of-meets}
@@ -34,8 +34,7 @@ use Rattle.properties_format.specs.Computed.Edited.{IsSound}
 use Rattle.properties_format.proofs.Escapes.Unique.{means-only, meaning_of-only}
 use Rattle.properties_format.proofs.InTurn.Lines.{bytes-unended}
 use Rattle.properties_format.proofs.Valued.Read.{front-unended}
-use Rattle.properties_editing.specs.Private.BodyValues.{IsBeforeValue, IsFrontSize, IsPairAlone, IsNewValue, IsGroupAlone, revalued_in, IsBetweenAt}
-use Rattle.properties_editing.specs.declared.new_value.NewValue.{NewValue}
+use Rattle.properties_editing.specs.Private.BodyValues.{IsBeforeValue, IsFrontSize, IsPairAlone, IsNewValue, IsGroupAlone, IsBetweenAt}
 use Rattle.std.specs.Str.{IsUtf8, chars}
 use Rattle.properties_text.specs.declared.encoding.line_encoding.LineEncoding.TheVariants.{Utf8}
 use Rattle.properties_lines.proofs.LineTexts.{joins-alike}
@@ -491,17 +490,3 @@ alone-between line is f a =
     let one : f.held ≡ a.0 = let q = sym f.groups ∙ a.1 in cc in
     let text : chars line ≡ joined (as_lines a.0) = ap chars is ∙ f.text ∙ ap (λ g. joined (as_lines g)) one in
     ap last_between a.1 ∙ ap (λ x. between_if_pair (split_of x) x) (sym text)
-
--- A source with a value for a pair, from what stays of the pair and what follows it.
-pub revalued-made : (r : Repertoire) (source : List ℕ) (start end : ℕ) (value bytes : List ℕ) (new : NewValue) (n : IsNewValue r (take (end - start) (drop start source)) value new)
-    → bytes ≡ take (start + new.front_size) source ++ (new.bytes ++ drop end source) → bytes ≡ revalued_in r source start end value n.group
-revalued-made r source start end value bytes new n made =
-    let part = drop start source in
-    let sized : length (take (end - start) part) ≤ end - start = (let l = length-take (end - start) part in omega arith) in
-    let short : take new.front_size part ≡ front_of r.encoding n.group =
-    sym (take-take new.front_size (end - start) part (omega arith)) ∙ n.front in
-    let front : take (start + new.front_size) source ≡ take start source ++ front_of r.encoding n.group = take-add start new.front_size source ∙ ap (λ v. take start source ++ v) short in
-    made
-    ∙ ap₂ (λ v w. v ++ (w ++ drop end source)) front n.bytes_are
-    ∙ append_assoc (take start source) (front_of r.encoding n.group) (encoded_text r.encoding (value_text r (between_of n.group) value) ++ drop end source)
-    ∙ sym (cond-false (has_value value n.group) source _ n.other)

@@ -1,45 +1,40 @@
 -- What an edit of a source comes to.
-use Rattle.std.proofs.Common.{◌≡◌, ◌==◌, ℕ, ◌+◌, ◌-◌, ◌≤◌, List, [], ◌∷◌, ◌++◌, All, length, take, drop, refl, ap, ap₂, sym, ◌∙◌, subst, inl, inr, append-nil, append_assoc, length-append, length-drop, arith, lit<, take-add, ◌<◌, get_or}
-use Rattle.std.specs.Prelude.{Bool, true, false, if◌then◌else◌, Some, None, Result, Ok, Err, IsErrAnd, not, ◌&&◌, unwrap_or}
+use Rattle.std.proofs.Common.{◌≡◌, ◌==◌, ℕ, ◌+◌, ◌-◌, List, [], ◌∷◌, ◌++◌, All, length, take, drop, refl, ap, ap₂, sym, ◌∙◌, subst, inl, inr, append-nil, length-append, length-drop, arith, lit<, ◌<◌, get_or}
+use Rattle.std.specs.Prelude.{Bool, true, false, Result, Ok, Err, IsErrAnd, not, unwrap_or}
 use Rattle.std.specs.Global.{Vec}
 use Rattle.std.proofs.Math.Seq.{drop-append_seam, take-append_seam}
-use Rattle.std.proofs.lemmas.List.{length-take-le, drop-drop, take_rest, take_more, map-append}
+use Rattle.std.proofs.lemmas.List.{length-take-le, take_rest, take_more, map-append}
 use Rattle.std.proofs.lemmas.Result.{err_from_is_err_and}
 use Rattle.std.proofs.lemmas.Bool.{cases_Bool}
-use Rattle.properties_format.specs.Text.{LineEnding, lf, cr, crlf, line_ending_text, scalar, line_feed, equals_sign, is_empty}
+use Rattle.properties_format.specs.Text.{scalar, equals_sign, is_empty}
 use Rattle.properties_format.specs.Printing.{in_key_or_value, printed_key, printed_characters, encoded_text}
 use Rattle.properties_format.proofs.Printing.Characters.{encoded-ascii, encoded_text-append}
-use Rattle.properties_format.specs.Encoding.{Encoding, InForce, byte_order_mark, begins_with, begins_like_bom, utf_8_bom, utf_16be_bom, utf_16le_bom, Repertoire, repertoire, in_encoding}
-use Rattle.properties_format.specs.Body.{ending_bytes, groups_bytes, held_in, last_ending}
-use Rattle.properties_format.specs.Edited.{bom_of, pair_bytes, added_ending, is_editable, edited, IsKeySet, IsKeyRemoved, IsSetKeyResult, IsRemoveKeyResult}
+use Rattle.properties_format.specs.Encoding.{Encoding, InForce, byte_order_mark, begins_with, begins_like_bom, utf_8_bom, utf_16be_bom, utf_16le_bom, windows_1252, utf_8, utf_16le, utf_16be, Repertoire, repertoire, in_encoding, all_of}
+use Rattle.properties_format.specs.Body.{held_in}
+use Rattle.properties_format.specs.Edited.{bom_of, pair_bytes, is_editable, edited, IsKeySet, IsKeyRemoved, IsSetKeyResult, IsRemoveKeyResult}
 use Rattle.properties_format.specs.Computed.Body.{held_groups_of}
-use Rattle.properties_format.specs.Computed.Edited.{without, last_place}
-use Rattle.properties_editing.specs.Private.Sound.{AreSoundFor, IsResult, Returns}
+use Rattle.properties_editing.specs.Private.Sound.{AreSoundFor, IsResult, Returns, IsErrorOfGroups}
 use Rattle.properties_editing.specs.declared.source.Comments.{Comments}
 use Rattle.properties_editing.specs.declared.source.Comments.TheVariants.{Read}
-use Rattle.properties_editing.proofs.Comments.{from-after, from-fault, from-sound, result_for, result_from, result-groups, result_for-meets}
-use Rattle.properties_format.proofs.Body.Groups.{held_groups_of-meets, held-body}
+use Rattle.properties_editing.proofs.PassedOver.{from-after, from-fault, from-sound, result_for, result_from, result-groups, result_for-meets}
 use Rattle.properties_format.proofs.Edited.ByteOrderMarks.{source-whole}
-use Rattle.properties_format.proofs.Edited.Results.{set_key_result-only, remove_key_result-only}
-use Rattle.properties_format.proofs.Edited.Made.{key_set-meets, key_removed-meets, key_removed, key_removed_in, key_set, key_set_in, set_at}
-use Rattle.properties_format.proofs.Changed.Read.{set_key-reads, remove_key-reads}
-use Rattle.properties_format.proofs.Edits.InAscii.{set_key-in_ascii}
-use Rattle.properties_format.specs.Edits.{AreScalarEdits}
+use Rattle.properties_format.proofs.Edits.Results.{edit_result}
+use Rattle.properties_format.proofs.Changed.Read.{edit-reads}
+use Rattle.properties_format.proofs.Edits.InAscii.{edit-in_ascii}
+use Rattle.properties_format.specs.Edits.{put, remove, set_value, AreScalarEdits}
 use Rattle.properties_items.proofs.Scalars.{string-scalars}
 use Rattle.properties_editing.specs.declared.edit.Edit as edit
 use Rattle.properties_editing.specs.declared.edit.Edit.TheVariants as variant
-use Rattle.properties_editing.specs.Editing.{edit_in, edits_in, IsRefusal, IsSet, IsRemoved, MakesSet, RemovesKey}
+use Rattle.properties_editing.specs.Editing.{edit_in, edits_in, IsRefusal, IsSet, IsRemoved, MakesSet, RemovesKey, HasValueSet, MakesValueSet}
 use Rattle.properties_format.proofs.Changed.Occur.{key_set-keeps, key_removed-keeps}
 use Rattle.properties_format.proofs.Edited.Pair.{editable-own}
 use Rattle.properties_text.specs.Encoding.{encoding_of}
-use Rattle.properties_editing.specs.Private.BodyKeys.{IsErrorOfGroups, IsPlaceOf, IsPlace, IsKeyFound, AreOthersFound, left_bytes, closing_bytes}
 use Rattle.properties_editing.specs.Private.Sources.{IsInForce, printed_in, used_in}
-use Rattle.properties_editing.proofs.BodyGroups.{no-bytes}
-use Rattle.properties_editing.proofs.LastPairs.{IsPartAt, part-at}
-use Rattle.properties_editing.specs.declared.find.BodySpan.{BodySpan}
-use Rattle.properties_editing.specs.declared.find.PairPlaces.{PairPlaces}
 use Rattle.properties_editing.specs.declared.source.BodyStart.{BodyStart}
 use Rattle.properties_items.specs.declared.error.PropertiesError.{PropertiesError}
+use Rattle.properties_lines.specs.LineSearch.{unit_size}
+use Rattle.properties_format.specs.Valued.{IsSetValueResult, IsValueSet}
+use Rattle.properties_format.proofs.Valued.Read.{value_set-keeps, value_set-keeps_front}
 
 -- ---- a source that is open
 
@@ -56,6 +51,20 @@ bom-front {source} {r} {opened} h =
 -- a source that is edited is in an encoding that is edited
 pub editable : {source : List ℕ} {r : Repertoire} {opened : BodyStart} → IsInForce source r opened → is_editable (byte_order_mark r.encoding source).encoding ≡ true
 editable h = ap (λ v. let w : InForce = v in is_editable w.encoding) h.in_force ∙ h.editable
+
+-- An encoding whose units are one byte long is edited,
+pub editable-bytes : (e : Encoding) → unit_size e ≡ 1 → is_editable e ≡ true
+editable-bytes windows_1252 h = refl
+editable-bytes utf_8 h = refl
+editable-bytes utf_16le h = absurd (omega arith)
+editable-bytes utf_16be h = absurd (omega arith)
+
+-- and the units of one that is edited are one byte long.
+pub editable-unit : (e : Encoding) → is_editable e ≡ true → unit_size e ≡ 1
+editable-unit windows_1252 h = refl
+editable-unit utf_8 h = refl
+editable-unit utf_16le h = absurd (cc)
+editable-unit utf_16be h = absurd (cc)
 
 -- what may stand unescaped in it, and in what is printed for it, is what was requested
 pub used-own : {source : List ℕ} {r : Repertoire} {opened : BodyStart} → IsInForce source r opened → used_in opened ≡ in_encoding r (encoding_of opened.encoding)
@@ -128,11 +137,11 @@ pub set-edits : {r : Repertoire} {source key value bytes : List ℕ} → All sca
 set-edits {r} {source} {key} {value} {bytes} k v meets = record {
   edit = record {
     result = meets;
-    only = λ other h. set_key_result-only r source key value other h ∙ sym (set_key_result-only r source key value (edited bytes) meets);
-    reads = set_key-reads r source key value bytes k v meets;
+    only = λ other h. let one = edit_result r source (put key value) in one.only other h ∙ sym (one.only (edited bytes) meets);
+    reads = edit-reads r source (put key value) bytes (k, v) meets;
   };
   keeps = key_set-keeps r source key value bytes meets.2;
-  ascii = λ on. set_key-in_ascii r.encoding source key value bytes (subst (λ b. IsSetKeyResult (repertoire r.encoding b) source key value (edited bytes)) on meets);
+  ascii = λ on. edit-in_ascii r.encoding source (put key value) bytes (subst (λ b. IsSetKeyResult (repertoire r.encoding b) source key value (edited bytes)) on meets);
 }
 
 pub returns-set : (r : Repertoire) (source key value : List ℕ) → All scalar key → All scalar value → (result : Result (Vec ℕ) PropertiesError)
@@ -160,102 +169,6 @@ pub not_first : (x y : List ℕ) → false ≡ is_empty y → false ≡ is_empty
 not_first [] y h = h
 not_first (c ∷ x) y h = refl
 
--- what separates a new pair has bytes, unless it is nothing
-pub one-ending : (by : LineEnding) → false ≡ is_empty (line_ending_text by)
-one-ending lf = refl
-one-ending cr = refl
-one-ending crlf = refl
-
-pub two-endings : (by : LineEnding) → false ≡ is_empty (line_ending_text by ++ line_ending_text by)
-two-endings lf = refl
-two-endings cr = refl
-two-endings crlf = refl
-
--- a pair at the end is printed after what separates it, and ended
-pub appended : (source start separation closed pair printed ending ended all : List ℕ) → start ≡ [] → closed ≡ start ++ separation → printed ≡ closed ++ pair
-    → ended ≡ printed ++ ending → all ≡ source ++ (ended ++ []) → all ≡ source ++ (separation ++ (pair ++ ending))
-appended source start separation closed pair printed ending ended all h i j k m =
-    m ∙ ap (λ v. source ++ v) (append-nil ended ∙ k ∙ ap (λ v. v ++ ending) (j ∙ ap (λ v. v ++ pair) (i ∙ ap (λ v. v ++ separation) h))
-    ∙ append_assoc separation pair ending)
-
--- ---- a pair is replaced
-
--- where it is
-pub place-split : (e : Encoding) (body key : List ℕ) (pair : BodySpan) → is_editable e ≡ true → (k : IsPlaceOf key (held_groups_of e body) pair)
-    → IsPartAt body k.place.before k.place.group k.place.after pair.start pair.end
-place-split e body key pair ok k = part-at e body k.place.before k.place.group k.place.after pair.start pair.end ok k.division k.starts k.ends
-
-start-first : (body : List ℕ) (start : ℕ) → start ≤ length body → (start == 0) ≡ is_empty (take start body)
-start-first body start h = ap (λ n. n == 0) (sym (length-take-le start body h)) ∙ no-bytes (take start body)
-
--- The source with the pair replaced has the key set.
-pub replaced-result : {source : List ℕ} {r : Repertoire} {opened : BodyStart} {found : PairPlaces} (key value bytes : List ℕ) (pair : BodySpan) → IsInForce source r opened
-    → IsKeyFound (encoding_of opened.encoding) (drop opened.start source) key found → found.pair ≡ Some pair
-    → bytes ≡ take (opened.start + pair.start) source
-    ++ (pair_bytes (printed_in opened) (pair.start == 0) key value ++ drop (opened.start + pair.end) source)
-    → IsKeySet r source key value bytes
-replaced-result {source} {r} {opened} {found} key value bytes pair h k is made =
-    let f = encoding_of opened.encoding in
-    let body = drop opened.start source in
-    let gs = held_groups_of f body in
-    let place : IsPlaceOf key gs pair = subst (IsPlace key gs) is k.pair in
-    let at = place-split f body key pair h.editable place in
-    let before = groups_bytes place.place.before in
-    let first : (pair.start == 0) ≡ is_empty before = start-first body pair.start (omega arith) ∙ ap is_empty at.front in
-    let printed : pair_bytes (printed_in opened) (pair.start == 0) key value ≡ pair_bytes (in_encoding r f) (is_empty before) key value =
-    ap₂ (λ t b. pair_bytes t b key value) (printed-own h) first in
-    let front : take (opened.start + pair.start) source ≡ bom_of source ++ before =
-    take-add opened.start pair.start source ∙ ap₂ (λ v w. v ++ w) (sym (bom-front h)) at.front in
-    let back : drop (opened.start + pair.end) source ≡ ending_bytes (last_ending place.place.group) ++ groups_bytes place.place.after =
-    sym (drop-drop pair.end opened.start source) ∙ at.back in
-    let set : key_set r source key value ≡ bytes =
-    ap (λ v. key_set_in v r source key value) h.in_force
-    ∙ ap (λ v. bom_of source ++ set_at (in_encoding r f) source gs key value v) place.is
-    ∙ sym (append_assoc (bom_of source) before (pair_bytes (in_encoding r f) (is_empty before) key value ++ (ending_bytes (last_ending place.place.group) ++ groups_bytes place.place.after)))
-    ∙ sym (made ∙ ap₂ (λ v w. v ++ w) front (ap₂ (λ v w. v ++ w) printed back)) in
-    subst (IsKeySet r source key value) set (key_set-meets r source key value)
-
--- ---- a pair is appended
-
--- The source with the pair at its end has the key set.
-pub appended-result : {source : List ℕ} {r : Repertoire} {opened : BodyStart} {found : PairPlaces} (key value bytes : List ℕ) → IsInForce source r opened
-    → IsKeyFound (encoding_of opened.encoding) (drop opened.start source) key found → found.pair ≡ None
-    → let separation = closing_bytes (added_ending source) found.closing in
-    bytes ≡ source ++ (separation ++ (pair_bytes (printed_in opened) (is_empty (drop opened.start source ++ separation)) key value ++ line_feed ∷ []))
-    → IsKeySet r source key value bytes
-appended-result {source} {r} {opened} {found} key value bytes h k none made =
-    let f = encoding_of opened.encoding in
-    let body = drop opened.start source in
-    let gs = held_groups_of f body in
-    let last : last_place key gs ≡ None = subst (IsPlace key gs) none k.pair in
-    let all : groups_bytes gs ≡ body = held-body f body gs h.editable (held_groups_of-meets f body) in
-    let parts = k.closing (added_ending source) in
-    let by = closing_bytes (added_ending source) found.closing in
-    let pair = pair_bytes (in_encoding r f) (is_empty (body ++ by)) key value ++ line_feed ∷ [] in
-    let whole : source ≡ bom_of source ++ body = source-whole r.encoding source ∙ ap (λ v. let w : InForce = v in bom_of source ++ w.body) h.in_force in
-    let set : key_set r source key value ≡ bytes =
-    ap (λ v. key_set_in v r source key value) h.in_force
-    ∙ ap (λ v. bom_of source ++ set_at (in_encoding r f) source gs key value v) last
-    ∙ ap₂ (λ v w. bom_of source ++ ((v ++ w) ++ (pair_bytes (in_encoding r f) (is_empty (v ++ w)) key value ++ line_feed ∷ []))) all parts
-    ∙ ap (λ v. bom_of source ++ v) (append_assoc body by pair)
-    ∙ sym (append_assoc (bom_of source) body (by ++ pair))
-    ∙ ap (λ v. v ++ (by ++ pair)) (sym whole)
-    ∙ sym (made ∙ ap (λ t. source ++ (by ++ (pair_bytes t (is_empty (body ++ by)) key value ++ line_feed ∷ []))) (printed-own h)) in
-    subst (IsKeySet r source key value) set (key_set-meets r source key value)
-
--- ---- the law of the source
-
--- a pair of a body is within the source
-pub span-within : {source : List ℕ} {r : Repertoire} {opened : BodyStart} {found : PairPlaces} {key : List ℕ} (pair : BodySpan) → IsInForce source r opened
-    → IsKeyFound (encoding_of opened.encoding) (drop opened.start source) key found → found.pair ≡ Some pair
-    → opened.start + pair.end ≤ length source
-span-within {source} {r} {opened} {found} {key} pair h k is =
-    let f = encoding_of opened.encoding in
-    let body = drop opened.start source in
-    let at = place-split f body key pair h.editable (subst (IsPlace key (held_groups_of f body)) is k.pair) in
-    let left : length body ≡ length source - opened.start = length-drop opened.start source in
-    omega arith
-
 -- ---- a byte order mark at the front
 
 no_bom-begins : (b : List ℕ) → (length (bom_of b) == 0) ≡ not (begins_like_bom b)
@@ -279,8 +192,8 @@ pub removed-edits : {e : Encoding} {source key bytes : List ℕ} → IsRemoveKey
 removed-edits {e} {source} {key} {bytes} meets = record {
   edit = record {
     result = meets;
-    only = λ other h. remove_key_result-only e source key other h ∙ sym (remove_key_result-only e source key (edited bytes) meets);
-    reads = remove_key-reads e source key bytes meets;
+    only = λ other h. let one = edit_result (all_of e) source (remove key) in one.only other h ∙ sym (one.only (edited bytes) meets);
+    reads = edit-reads (all_of e) source (remove key) bytes tt meets;
   };
   keeps = key_removed-keeps e source key bytes meets.2;
 }
@@ -289,26 +202,6 @@ pub returns-removed : (e : Encoding) (source key : List ℕ) (result : Result (V
     → RemovesKey e source key result
 returns-removed e source key (Ok bytes) h = removed-edits h
 returns-removed e source key (Err error) h = h
-
--- The source with what is left of its body has the key removed.
-pub removed-bytes : {source : List ℕ} {r : Repertoire} {opened : BodyStart} (key bytes : List ℕ) → IsInForce source r opened
-    → (let rest = without key (held_groups_of (encoding_of opened.encoding) (drop opened.start source)) in
-    bytes ≡ take opened.start source ++ ((if opened.start == 0 && begins_like_bom rest then line_feed ∷ [] else []) ++ rest))
-    → IsKeyRemoved r.encoding source key bytes
-removed-bytes {source} {r} {opened} key bytes h made =
-    let rest = without key (held_groups_of (encoding_of opened.encoding) (drop opened.start source)) in
-    let set : key_removed r.encoding source key ≡ bytes =
-    ap (λ v. key_removed_in v source key) h.in_force
-    ∙ sym (made ∙ ap₂ (λ v b. v ++ ((if b && begins_like_bom rest then line_feed ∷ [] else []) ++ rest)) (sym (bom-front h)) (unmarked h)) in
-    subst (IsKeyRemoved r.encoding source key) set (key_removed-meets r.encoding source key)
-
--- The source with the parts that are left has the key removed.
-pub removed-result : {source : List ℕ} {r : Repertoire} {opened : BodyStart} (key bytes : List ℕ) (others : List BodySpan) → IsInForce source r opened
-    → AreOthersFound (encoding_of opened.encoding) (drop opened.start source) key others
-    → bytes ≡ left_bytes source opened.start others → IsKeyRemoved r.encoding source key bytes
-removed-result {source} {r} {opened} key bytes others h k made =
-    removed-bytes key bytes h
-    (made ∙ ap (λ v. take opened.start source ++ ((if opened.start == 0 && begins_like_bom v then line_feed ∷ [] else []) ++ v)) k.bytes)
 
 -- ---- edits in turn
 
@@ -322,3 +215,24 @@ edits-scalars (variant.SetValue key value ∷ edits) = ((string-scalars key, str
 pub edits_in-more : (edits : List edit.Edit) (i : ℕ) (d : edit.Edit) → i < length edits
     → edits_in (take (i + 1) edits) ≡ edits_in (take i edits) ++ edit_in (get_or edits i d) ∷ []
 edits_in-more edits i d h = ap edits_in (take_more edits i d h) ∙ map-append edit_in (take i edits) (get_or edits i d ∷ [])
+
+-- ---- a value is set
+
+-- What the result is, how it reads, and what it keeps.
+pub value-edits : {r : Repertoire} {source key value bytes : List ℕ} → All scalar key → All scalar value → IsSetValueResult r source key value (edited bytes)
+    → HasValueSet r source key value bytes
+value-edits {r} {source} {key} {value} {bytes} k v meets = record {
+  edit = record {
+    result = meets;
+    only = λ other h. let one = edit_result r source (set_value key value) in one.only other h ∙ sym (one.only (edited bytes) meets);
+    reads = edit-reads r source (set_value key value) bytes (k, v) meets;
+  };
+  keeps = value_set-keeps r source key value bytes meets.2;
+  keeps_front = value_set-keeps_front r source key value bytes meets.0 meets.2;
+  ascii = λ on. edit-in_ascii r.encoding source (set_value key value) bytes (subst (λ b. IsSetValueResult (repertoire r.encoding b) source key value (edited bytes)) on meets);
+}
+
+pub returns-value : (r : Repertoire) (source key value : List ℕ) → All scalar key → All scalar value → (result : Result (Vec ℕ) PropertiesError)
+    → Returns Read r.encoding source (IsValueSet r source key value) result → MakesValueSet r source key value result
+returns-value r source key value k v (Ok bytes) h = value-edits k v h
+returns-value r source key value k v (Err error) h = h

@@ -1,14 +1,14 @@
--- The last pair of a body, whatever its key, and its last line ending.
-use Rattle.std.proofs.Common.{inl, inr, ◌≡◌, ◌<◌, ◌≤◌, ℕ, ◌+◌, ◌-◌, Bool, true, false, List, [], ◌∷◌, ◌++◌, length, take, drop, get_or, refl, ap, ap₂, sym, ◌∙◌, subst, arith, append_assoc, length-append}
-use Rattle.std.specs.Prelude.{Option, Some, None, if◌then◌else◌, unwrap_or}
+-- What separates key and value in the last pair of a body, and its last line ending.
+use Rattle.std.proofs.Common.{inl, inr, ◌≡◌, ◌<◌, ◌≤◌, ℕ, ◌+◌, ◌-◌, true, false, List, [], ◌∷◌, ◌++◌, length, take, drop, get_or, refl, ap, ap₂, sym, ◌∙◌, subst, arith, append_assoc, length-append}
+use Rattle.std.specs.Prelude.{Option, Some, None, unwrap_or}
 use Rattle.std.specs.Option.{option_map, is_some}
 use Rattle.std.proofs.lemmas.List.{drop_more, take-append-drop}
 use borrow.Author.Tests.{eqb-true}
 use Rattle.properties_format.specs.Text as text
-use Rattle.properties_format.specs.Text.{line_feed, carriage_return, line_ending_text, equals_sign}
-use Rattle.properties_format.specs.Lines.{HoldsNoLineEnding, Ended, Lines, joined}
+use Rattle.properties_format.specs.Text.{carriage_return, line_ending_text, equals_sign}
+use Rattle.properties_format.specs.Lines.{HoldsNoLineEnding, Ended, Lines}
 use Rattle.properties_format.specs.Computed.Lines.{ends_in_cr, lines_of}
-use Rattle.properties_format.specs.Body.{held_in, ending_bytes, last_ending, AreGroupsOf, HeldLine, as_lines, groups_bytes}
+use Rattle.properties_format.specs.Body.{held_in, ending_bytes, last_ending, AreGroupsOf, HeldLine, groups_bytes}
 use Rattle.properties_format.specs.Valued.{ending_among, separator_after}
 use Rattle.properties_format.proofs.Lines.Plain.{last-plain, plain-no_lf}
 use Rattle.properties_format.proofs.Lines.Steps.{lines_of-line}
@@ -19,19 +19,18 @@ use Rattle.properties_format.proofs.Body.Groups.{held_of-only, held-body, held_g
 use Rattle.properties_format.proofs.Valued.Lined.{last_by, last_by-append}
 use Rattle.properties_format.proofs.Valued.Added.{ending-held}
 use Rattle.properties_items.specs.Line.{ending_of}
-use Rattle.properties_editing.specs.Private.BodyValues.{IsLastEnding, IsLastPairOf, IsGroupAlone, IsLastPair}
+use Rattle.properties_editing.specs.Private.BodyValues.{IsLastEnding}
 use Rattle.properties_items.specs.declared.line.LineEnding.{LineEnding}
-use Rattle.properties_items.specs.declared.line.LineEnding.TheVariants.{CR, LF, CRLF}
+use Rattle.properties_items.specs.declared.line.LineEnding.TheVariants.{LF}
 use Rattle.std.proofs.Math.Seq.{take-append_seam, drop-append_seam}
 use Rattle.properties_format.specs.Settings.{IsGoodSeparator}
 use Rattle.properties_format.specs.Edited.{is_editable}
 use Rattle.properties_format.specs.Computed.Settings.{is_good_separator}
-use Rattle.properties_format.specs.Computed.Valued.{separator_by, between_if_pair, between_in, last_between, or_else}
+use Rattle.properties_format.specs.Computed.Valued.{separator_by, between_if_pair, between_in, last_between}
 use Rattle.properties_format.proofs.Settings.Tests.{is_good_separator-from}
 use Rattle.properties_format.proofs.InTurn.Lines.{bytes-unended}
-use Rattle.properties_format.proofs.Valued.Made.{new_separator-meets, last_between-push}
+use Rattle.properties_format.proofs.Valued.Made.{new_separator-meets}
 use Rattle.properties_format.proofs.Valued.Separators.{new_separator-fit}
-use Rattle.properties_format.proofs.Valued.Unended.{without_ending, unended-groups, unended-joined}
 use Rattle.properties_editing.proofs.BodyValues.{middle-of}
 use Rattle.properties_format.specs.Encoding.{Encoding}
 use Rattle.properties_format.specs.Computed.Split.{split_of}
@@ -45,8 +44,6 @@ use Rattle.properties_format.specs.Escapes.{Meaning, means, breaks}
 use Rattle.properties_format.specs.Computed.Escapes.{meaning_of}
 use Rattle.properties_format.specs.Computed.Items.{comment_outcome, pair_outcome, split_outcome}
 use Rattle.properties_format.specs.Computed.Edited.{IsSound}
-use Rattle.properties_editing.specs.Private.BodyIndex.{outcome}
-use Rattle.properties_editing.specs.declared.find.BodySpan.{BodySpan}
 use Rattle.properties_items.specs.BorrowedItems.{outcome_pair}
 
 -- ---- what separates key and value, if a line is a pair
@@ -73,7 +70,7 @@ between-some (Logical.comment raw) x some = of-comment (meaning_of raw) some
 between-some (Logical.pair raw_key raw_value) x some = (between_in x, refl)
 
 -- a line that is no pair
-between-unpaired : (x : List ℕ) → IsSoundFor PassedOver x → is_some (outcome_pair (split_outcome (split_of x))) ≡ false → between_if_pair (split_of x) x ≡ None
+pub between-unpaired : (x : List ℕ) → IsSoundFor PassedOver x → is_some (outcome_pair (split_outcome (split_of x))) ≡ false → between_if_pair (split_of x) x ≡ None
 between-unpaired x (inl s) n = between-none (split_of x) x s n
 between-unpaired x (inr c) n = of-split (split_of x) (split_of-meets x)
   where
@@ -82,51 +79,16 @@ between-unpaired x (inr c) n = of-split (split_of x) (split_of-meets x)
     of-split (Logical.comment raw) h = refl
     of-split (Logical.pair key value) h = absurd (comment_line-no_pair x key value c h)
 
--- ---- the last pair
-
--- the last pair with one more group after it, which is a pair or not
-pub last-after : (groups : List (List HeldLine)) (g : List HeldLine) (span : BodySpan) (told : Bool) (last : Option BodySpan) → IsLastPair groups last → IsSoundFor PassedOver (joined (as_lines g))
-    → told ≡ is_some (outcome_pair (outcome g)) → span.start ≡ length (groups_bytes groups) → span.end ≡ span.start + length (unended_bytes g)
-    → IsLastPair (groups ++ g ∷ []) (if told then Some span else last)
-last-after groups g span true last h sound is starts ends =
-    let x = joined (as_lines g) in
-    let b = between-some (split_of x) x (sym is) in
-    record {
-      before = groups;
-      group = g;
-      after = [];
-      division = refl;
-      between = b.0;
-      of_pair = b.1;
-      last = last_between-push groups g ∙ ap (λ v. or_else v (last_between groups)) b.1;
-      starts = starts;
-      ends = ends;
-    }
-last-after groups g span false None h sound is starts ends =
-    last_between-push groups g ∙ ap₂ or_else (between-unpaired (joined (as_lines g)) sound (sym is)) h
-last-after groups g span false (Some earlier) h sound is starts ends = record {
-  before = h.before;
-  group = h.group;
-  after = h.after ++ g ∷ [];
-  division = ap (λ v. v ++ g ∷ []) h.division ∙ append_assoc h.before (h.group ∷ h.after) (g ∷ []);
-  between = h.between;
-  of_pair = h.of_pair;
-  last = last_between-push groups g
-      ∙ ap₂ or_else (between-unpaired (joined (as_lines g)) sound (sym is)) h.last;
-  starts = h.starts;
-  ends = h.ends;
-}
-
 -- ---- the last line ending
 
 -- bytes that end in a CR
-cr-last : (front : List ℕ) → ends_in_cr front ≡ true → (before : List ℕ) × (front ≡ before ++ carriage_return ∷ [])
+pub cr-last : (front : List ℕ) → ends_in_cr front ≡ true → (before : List ℕ) × (front ≡ before ++ carriage_return ∷ [])
 cr-last [] h = absurd (cc)
 cr-last (c ∷ []) h = ([], ap (λ v. v ∷ []) (eqb-true c carriage_return h))
 cr-last (c ∷ d ∷ front) h = let m = cr-last (d ∷ front) h in (c ∷ m.0, ap (λ v. c ∷ v) m.1)
 
 -- a body up to a byte, that byte, and the rest
-at-byte : (body : List ℕ) (at b : ℕ) → 0 < at → at ≤ length body → get_or body (at - 1) 0 ≡ b → body ≡ take (at - 1) body ++ b ∷ drop at body
+pub at-byte : (body : List ℕ) (at b : ℕ) → 0 < at → at ≤ length body → get_or body (at - 1) 0 ≡ b → body ≡ take (at - 1) body ++ b ∷ drop at body
 at-byte body at b some within is =
     let n : at - 1 + 1 ≡ at = omega arith in
     sym (take-append-drop (at - 1) body)
@@ -153,7 +115,7 @@ parts-none front text.cr rest h q = refl
 parts-none front text.crlf rest h q = refl
 
 -- A line ending that no other follows is the last one.
-last-by : (body front : List ℕ) (by : LineEnding) (rest : List ℕ) → body ≡ front ++ (line_ending_text (ending_of by) ++ rest) → HoldsNoLineEnding rest
+pub last-by : (body front : List ℕ) (by : LineEnding) (rest : List ℕ) → body ≡ front ++ (line_ending_text (ending_of by) ++ rest) → HoldsNoLineEnding rest
     → (ending_of by ≡ text.lf → ends_in_cr front ≡ false) → IsLastEnding body by
 last-by body front by rest s plain alone =
     let end = ending_of by in
@@ -164,26 +126,6 @@ last-by body front by rest s plain alone =
     ∙ ap (λ v. let w : Lines = v in (lines_of front).ended ++ w.ended) (lines_of-line (lines_of front).last end rest (last-plain front) (λ q. plain-no_lf rest plain))
     ∙ ap (λ v. let w : Lines = v in (lines_of front).ended ++ l ∷ w.ended) (lines_of-plain rest plain) in
     last-lines body by (ap (λ v. unwrap_or v text.lf) (ap last_by lines ∙ last_by-append (lines_of front).ended (l ∷ []) (λ q. absurd (cc))))
-
--- An LF after a CR.
-pub last-both : (body : List ℕ) (at : ℕ) → 0 < at → at ≤ length body → get_or body (at - 1) 0 ≡ line_feed → HoldsNoLineEnding (drop at body)
-    → ends_in_cr (take (at - 1) body) ≡ true → IsLastEnding body CRLF
-last-both body at some within is plain h =
-    let m = cr-last (take (at - 1) body) h in
-    last-by body m.0 CRLF (drop at body)
-    (at-byte body at line_feed some within is ∙ ap (λ v. v ++ line_feed ∷ drop at body) m.1 ∙ append_assoc m.0 (carriage_return ∷ []) (line_feed ∷ drop at body))
-    plain (λ q. absurd (cc))
-
--- An LF alone.
-pub last-feed : (body : List ℕ) (at : ℕ) → 0 < at → at ≤ length body → get_or body (at - 1) 0 ≡ line_feed → HoldsNoLineEnding (drop at body)
-    → ends_in_cr (take (at - 1) body) ≡ false → IsLastEnding body LF
-last-feed body at some within is plain h = last-by body (take (at - 1) body) LF (drop at body) (at-byte body at line_feed some within is) plain (λ q. h)
-
--- A CR.
-pub last-return : (body : List ℕ) (at : ℕ) → 0 < at → at ≤ length body → get_or body (at - 1) 0 ≡ carriage_return → HoldsNoLineEnding (drop at body)
-    → IsLastEnding body CR
-last-return body at some within is plain =
-    last-by body (take (at - 1) body) CR (drop at body) (at-byte body at carriage_return some within is) plain (λ q. absurd (cc))
 
 -- No line ending at all.
 pub last-none : (body : List ℕ) (at : ℕ) → at ≡ 0 → HoldsNoLineEnding (drop at body) → IsLastEnding body LF
@@ -223,27 +165,7 @@ part-at e body before g after start end ok division starts ends =
       back = ap₂ drop both (whole ∙ sym (append_assoc a b c)) ∙ drop-append_seam (a ++ b) c;
     }
 
--- it is one group by itself
-pub part-group : (e : Encoding) (body : List ℕ) (before : List (List HeldLine)) (g : List HeldLine) (after : List (List HeldLine)) (bytes : List ℕ) → is_editable e ≡ true
-    → held_groups_of e body ≡ before ++ g ∷ after → bytes ≡ unended_bytes g → held_groups_of e bytes ≡ without_ending g ∷ []
-part-group e body before g after bytes ok division is =
-    ap (held_groups_of e) is ∙ unended-groups e body before g after ok (subst (AreGroupsOf e body) division (held_groups_of-meets e body))
-
 -- ---- the separator of the last pair
-
-pub last-part : (e : Encoding) (body : List ℕ) (span : BodySpan) → is_editable e ≡ true → (k : IsLastPairOf (held_groups_of e body) span)
-    → IsPartAt body k.before k.group k.after span.start span.end
-last-part e body span ok k = part-at e body k.before k.group k.after span.start span.end ok k.division k.starts k.ends
-
--- The last pair by itself is one group, with the same separator.
-pub last-alone : (e : Encoding) (body : List ℕ) (span : BodySpan) → is_editable e ≡ true → IsLastPairOf (held_groups_of e body) span
-    → let part = take (span.end - span.start) (drop span.start body) in
-    IsGroupAlone e part × (last_between (held_groups_of e part) ≡ last_between (held_groups_of e body))
-last-alone e body span ok k =
-    let alone = part-group e body k.before k.group k.after _ ok k.division (last-part e body span ok k).part in (
-      (without_ending k.group, alone),
-      ap last_between alone ∙ ap (λ x. between_if_pair (split_of x) x) (unended-joined k.group) ∙ k.of_pair ∙ sym k.last,
-    )
 
 -- The separator of a new pair, where there is one to take,
 pub separator-found : (key separator : List ℕ) (last : Option (List ℕ)) → Some separator ≡ option_map (separator_after key) last → separator ≡ separator_by key last

@@ -2,7 +2,7 @@
 use Rattle.std.specs.Prelude.{◌≡◌, ◌⊎◌, ℕ, true, List, Option, Result, Ok, Err, map, string_bytes}
 use Rattle.std.specs.Str.{chars}
 use Rattle.std.specs.Global.{Vec}
-use Rattle.properties_format.specs.Encoding.{Encoding, Repertoire, ascii_in, all_of}
+use Rattle.properties_format.specs.Encoding.{Encoding, Repertoire, all_of, repertoire}
 use Rattle.properties_format.specs.Escapes.{Malformed}
 use Rattle.properties_format.specs.Items.{Entry}
 use Rattle.properties_format.specs.Maps.{IsMap}
@@ -13,7 +13,11 @@ use Rattle.properties_format.specs.Edits as format
 use Rattle.properties_format.specs.Valued.{IsSetValueResult, KeepsFront}
 use Rattle.properties_format.specs.Changed.{AreLinesEditedInTurn, AreLogicalLines, contents, IsSetIn, IsRemovedIn, AreEditedIn, map_edited, map_after, AreOthersThanLast, AreLeft, ReadsAfter, KeepsOthers, AreKept}
 use Rattle.properties_format.specs.AsciiOnly.{IsInAscii}
+use Rattle.properties_text.specs.Encoding.{encoding_of}
 use Rattle.properties_items.specs.Errors.{IsBareError, IsMalformed}
+use Rattle.properties_editing.specs.declared.source.Comments.{Comments}
+use Rattle.properties_editing.specs.declared.source.Comments.TheVariants.{Read, PassedOver}
+use Rattle.properties_editing.specs.declared.source.SourceOptions.{SourceOptions}
 use Rattle.properties_editing.specs.declared.edit.Edit.{Edit}
 use Rattle.properties_editing.specs.declared.edit.Edit.TheVariants.{Put, Remove, SetValue}
 use Rattle.properties_items.specs.declared.error.ErrorKind.TheVariants as kind
@@ -97,9 +101,6 @@ MakesEdits r source edits (Err error) = IsRefusal (IsEditAllResult r source edit
 abbrev pub EditsAll : Encoding → List ℕ → List format.Edit → Result (Vec ℕ) PropertiesError → Type 0
 EditsAll e source edits result = MakesEdits (all_of e) source edits result
 
-abbrev pub EditsAllAscii : Encoding → List ℕ → List format.Edit → Result (Vec ℕ) PropertiesError → Type 0
-EditsAllAscii e source edits result = MakesEdits (ascii_in e) source edits result
-
 -- The source after edits that ask nothing of comments: its result and that there is no other, that its pairs, their map
 -- and its logical lines are those of the source after the same edits, that its malformed escapes are in comments as
 -- well, that each edit keeps the rest of what the one before it gave, and that in ASCII-only form nothing else is put
@@ -118,6 +119,19 @@ pub record ArePairsMade (r : Repertoire) (source : List ℕ) (edits : List forma
 abbrev pub EditsPairs : Repertoire → List ℕ → List format.Edit → Result (Vec ℕ) PropertiesError → Type 0
 EditsPairs r source edits (Ok bytes) = ArePairsMade r source edits bytes.items
 EditsPairs r source edits (Err error) = IsRefusal (IsEditPairsResult r source edits) error
+
+-- what may stand unescaped in what edits with these options put in
+abbrev pub asked_for : SourceOptions → Repertoire
+asked_for options = repertoire (encoding_of options.encoding) options.ascii_only
+
+-- The source after edits for which comments are read, or passed over,
+abbrev pub MakesEditsFor : Comments → Repertoire → List ℕ → List format.Edit → Result (Vec ℕ) PropertiesError → Type 0
+MakesEditsFor Read r source edits result = MakesEdits r source edits result
+MakesEditsFor PassedOver r source edits result = EditsPairs r source edits result
+
+-- as these options say.
+abbrev pub EditsWith : SourceOptions → List ℕ → List format.Edit → Result (Vec ℕ) PropertiesError → Type 0
+EditsWith options source edits result = MakesEditsFor options.comments (asked_for options) source edits result
 
 -- Both are the same edit, with the same texts.
 abbrev pub IsSameEdit : Edit → Edit → Type 0

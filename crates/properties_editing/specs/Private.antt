@@ -1,8 +1,12 @@
 pub mod BodyGroups
-pub mod BodyKeys
 pub mod BodyValues
-pub mod BodyIndex
-pub mod BodySweep
+pub mod BodyParts
+pub mod ChangedParts
+pub mod PartEndings
 pub mod BodyDocuments
+pub mod RemovedParts
+pub mod SourceParts
 pub mod Sources
 pub mod Sound
+pub mod EditedParts
+pub mod KeyOrder

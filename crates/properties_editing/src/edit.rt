@@ -1,23 +1,14 @@
 //! Sets and removes keys of a file, and keeps every other byte.
 
+ghost use Rattle.std.specs.Prelude.{◌≡◌, IfOk};
 ghost use Rattle.std.specs.Str.{chars};
 ghost use Rattle.properties_format.specs.Laws.{SplittingCommutes};
 ghost use Rattle.properties_text.specs.Encoding.{encoding_of};
-ghost use Rattle.properties_format.specs.Edited.{IsKeyRemoved, IsKeySet};
-ghost use Rattle.properties_format.specs.Edits.{AreEdited};
-ghost use Rattle.properties_format.specs.Valued.{IsValueSet};
-ghost use Rattle.properties_format.specs.Encoding.{repertoire};
-ghost use Rattle.properties_editing.specs.Private.Sound.{Returns};
-ghost use Rattle.properties_editing.specs.Private.Sources.{MakesEdit, asked_for};
-ghost use Rattle.properties_editing.specs.Editing.{EditsAll, EditsAllAscii, EditsPairs, RemovesKey, SetsKey, SetsValue, edit_in, edits_in};
+ghost use Rattle.properties_editing.specs.Editing.{EditsAll, EditsWith, RemovesKey, SetsKey, SetsValue, edit_in, edits_in};
+ghost use Rattle.properties_editing.specs.Private.Sources.{borrowed_edit_in};
 
-use crate::append::{layout_at, with_new_pair};
-use crate::find::find_key;
-use crate::index::indexed_source::IndexedSource;
-use crate::new_value::with_other_value;
-use crate::remove::{spans_without_key, with_spans_kept};
-use crate::replace::{with_pair_appended, with_pair_replaced};
-use crate::source::{Asked, BodyStart, Comments};
+use crate::plan::{edit_once, edit_source};
+use crate::source::SourceOptions;
 use properties_items::error::PropertiesError;
 use properties_text::encoding::Encoding;
 use std::alloc::{AllocError, Global};
@@ -50,33 +41,12 @@ pub fn set_key(
     ensures sets { SetsKey (encoding_of encoding) source.now (chars key.now) (chars value.now) result }
     ensures splitting { SplittingCommutes (encoding_of encoding) source.now }
 {
-    set_key_with(alloc, source, Asked::all_of(encoding), key, value)
-}
-
-// Returns the source with a key set to a value.
-fn set_key_with(
-    alloc: Global,
-    source: &[u8],
-    asked: Asked,
-    key: &str,
-    value: &str,
-) -> Result<Vec<u8>, PropertiesError>
-    ensures { Returns asked.comments (encoding_of asked.encoding) source.now (IsKeySet (asked_for asked) source.now (chars key.now) (chars value.now)) result }
-{
-    // UTF-16 is refused before any line is read.
-    let opened = BodyStart::open(source, asked)?;
-    let place = find_key(
+    edit_once(
         alloc,
-        opened.encoding,
-        asked.comments,
-        &source[opened.start..],
-        key,
-    )?;
-    let bytes = match place.pair {
-        Some(pair) => with_pair_replaced(alloc, source, opened, pair, key, value)?,
-        None => with_pair_appended(alloc, source, opened, place.closing, key, value)?,
-    };
-    Ok(bytes)
+        source,
+        SourceOptions::new(encoding),
+        BorrowedEdit::Put(key, value),
+    )
 }
 
 /// Returns the source with the value of a key set, and the layout of its line kept.
@@ -116,33 +86,12 @@ pub fn set_value(
 ) -> Result<Vec<u8>, PropertiesError>
     ensures sets { SetsValue (encoding_of encoding) source.now (chars key.now) (chars value.now) result }
 {
-    set_value_with(alloc, source, Asked::all_of(encoding), key, value)
-}
-
-// Returns the source with the value of a key set.
-fn set_value_with(
-    alloc: Global,
-    source: &[u8],
-    asked: Asked,
-    key: &str,
-    value: &str,
-) -> Result<Vec<u8>, PropertiesError>
-    ensures { Returns asked.comments (encoding_of asked.encoding) source.now (IsValueSet (asked_for asked) source.now (chars key.now) (chars value.now)) result }
-{
-    let opened = BodyStart::open(source, asked)?;
-    let body = &source[opened.start..];
-    let place = find_key(alloc, opened.encoding, asked.comments, body, key)?;
-    let bytes = match place.pair {
-        Some(pair) => match with_other_value(alloc, source, opened, pair, value)? {
-            Some(bytes) => bytes,
-            None => source.to_vec(alloc)?,
-        },
-        None => {
-            let layout = layout_at(alloc, opened.encoding, body, place.closing, place.last, key)?;
-            with_new_pair(alloc, source, opened, &layout, key, value)?
-        }
-    };
-    Ok(bytes)
+    edit_once(
+        alloc,
+        source,
+        SourceOptions::new(encoding),
+        BorrowedEdit::SetValue(key, value),
+    )
 }
 
 /// Returns the source without the pairs that have a key.
@@ -168,28 +117,12 @@ pub fn remove_key(
     ensures removes { RemovesKey (encoding_of encoding) source.now (chars key.now) result }
     ensures splitting { SplittingCommutes (encoding_of encoding) source.now }
 {
-    remove_key_with(alloc, source, Asked::all_of(encoding), key)
-}
-
-// Returns the source without the pairs that have a key.
-fn remove_key_with(
-    alloc: Global,
-    source: &[u8],
-    asked: Asked,
-    key: &str,
-) -> Result<Vec<u8>, PropertiesError>
-    ensures { Returns asked.comments (encoding_of asked.encoding) source.now (IsKeyRemoved (encoding_of asked.encoding) source.now (chars key.now)) result }
-{
-    let opened = BodyStart::open(source, asked)?;
-    let others = spans_without_key(
+    edit_once(
         alloc,
-        opened.encoding,
-        asked.comments,
-        &source[opened.start..],
-        key,
-    )?;
-    let bytes = with_spans_kept(alloc, source, opened, &others)?;
-    Ok(bytes)
+        source,
+        SourceOptions::new(encoding),
+        BorrowedEdit::Remove(key),
+    )
 }
 
 /// An edit of one key.
@@ -203,12 +136,42 @@ pub enum Edit {
     SetValue(String, String),
 }
 
+/// An edit of one key, by texts that its caller keeps.
+#[derive(Clone, Copy)]
+pub enum BorrowedEdit<'a> {
+    /// As [`Edit::Put`].
+    Put(&'a str, &'a str),
+    /// As [`Edit::Remove`].
+    Remove(&'a str),
+    /// As [`Edit::SetValue`].
+    SetValue(&'a str, &'a str),
+}
+
+impl BorrowedEdit<'_> {
+    /// Returns the edit, with copies of its texts.
+    pub fn to_edit(self, alloc: Global) -> Result<Edit, AllocError>
+        ensures { IfOk result (λ edit. edit_in edit ≡ borrowed_edit_in self.entry) }
+    {
+        Ok(match self {
+            BorrowedEdit::Put(key, value) => Edit::Put(
+                String::from_str(alloc, key)?,
+                String::from_str(alloc, value)?,
+            ),
+            BorrowedEdit::Remove(key) => Edit::Remove(String::from_str(alloc, key)?),
+            BorrowedEdit::SetValue(key, value) => Edit::SetValue(
+                String::from_str(alloc, key)?,
+                String::from_str(alloc, value)?,
+            ),
+        })
+    }
+}
+
 /// Returns the source after these edits, in order: each edit applies to the result of the one before it.
 ///
-/// Without edits, the result is a copy of the source. The source is read once. Each edit looks up its key, which takes
-/// a few comparisons for each doubling of their number. Then it copies the source or moves the bytes behind the pair
-/// that it changes, and the positions of the pairs there. Each [`Edit::SetValue`] reads the pair that it changes or, if
-/// no pair has the key, the last pair that is left.
+/// Without edits, the result is a copy of the source. The source is read once, and the result is made once, after the
+/// last edit. Each edit takes a few comparisons for each doubling of the number of keys in the list, and no edit moves
+/// what it doesn't change. [`Edit::SetValue`] also reads the pair that it changes or, if no pair has the key, the last
+/// pair that is left.
 ///
 /// UTF-16 is refused. A source with a malformed escape anywhere is refused with the error that reading the source would
 /// return.
@@ -226,110 +189,35 @@ pub fn edit_all(
     ensures edits { EditsAll (encoding_of encoding) source.now (edits_in edits.now) result }
     ensures splitting { SplittingCommutes (encoding_of encoding) source.now }
 {
-    edit_all_with(alloc, source, Asked::all_of(encoding), edits)
+    edit_source(alloc, source, SourceOptions::new(encoding), edits)
 }
 
-/// Returns the source after these edits, as [`edit_all`] does, and writes ASCII only: in a key or a value that an edit
-/// puts in, every character past U+007F becomes a `\u` escape, or two above U+FFFF.
+/// Returns the source after these edits, as [`edit_all`] does, with these options.
 ///
-/// What stands in the source and isn't replaced stays as it is, also if it isn't ASCII. If the source is ASCII, so is
-/// the result, and it has the same items in windows-1252 and in UTF-8. If Java reads the file by `Properties.load`,
-/// from an `InputStream`, characters past U+00FF need such escapes, and in UTF-8 all past U+007F.
+/// If `ascii_only` is set, the keys and values that edits put in are ASCII. If the source is ASCII, so is the result,
+/// and it has the same items in windows-1252 and in UTF-8. If Java reads the file by `Properties.load`, from an
+/// `InputStream`, characters past U+00FF need such escapes, and in UTF-8 all past U+007F.
+///
+/// If comments are passed over, only a malformed escape in a pair is an error. UTF-16 is refused.
 ///
 /// ```text
+/// let options = SourceOptions {
+///     ascii_only: true,
+///     comments: Comments::PassedOver,
+///     ..SourceOptions::new(Encoding::UTF_8)
+/// };
 /// let edits = vec![in alloc; Edit::SetValue(price, value)]?;
-/// let edited = edit_all_ascii(alloc, b"price = 4\n", Encoding::UTF_8, &edits)?;
-/// // If the value is `5 €`: `price = 5 \u20ac` and a line feed.
+/// let edited = edit_with(alloc, b"# C:\\users\nprice = 4\n", options, &edits)?;
+/// // If the value is `5 €`: `# C:\users`, a line feed, `price = 5 \u20ac` and a line feed.
 /// ```
-pub fn edit_all_ascii(
+pub fn edit_with(
     alloc: Global,
     source: &[u8],
-    encoding: Encoding,
+    options: SourceOptions,
     edits: &[Edit],
 ) -> Result<Vec<u8>, PropertiesError>
-    ensures edits { EditsAllAscii (encoding_of encoding) source.now (edits_in edits.now) result }
+    ensures edits { EditsWith options source.now (edits_in edits.now) result }
+    ensures splitting { SplittingCommutes (encoding_of options.encoding) source.now }
 {
-    let asked = Asked {
-        ascii_only: true,
-        ..Asked::all_of(encoding)
-    };
-    edit_all_with(alloc, source, asked, edits)
-}
-
-/// Returns the source after these edits, as [`edit_all`] does, or as [`edit_all_ascii`] does if `ascii_only` is set, and
-/// passes over comments, as Java does. Comments stay as they are.
-///
-/// UTF-16 is refused. Of malformed escapes, only one in a pair is an error.
-///
-/// ```text
-/// let edits = vec![in alloc; Edit::Put(port, value)]?;
-/// let edited = edit_pairs(alloc, b"# C:\\users\nport = 80\n", Encoding::UTF_8, false, &edits)?;
-/// // If the value is `8080`: `# C:\users`, a line feed, `port=8080` and a line feed.
-/// ```
-pub fn edit_pairs(
-    alloc: Global,
-    source: &[u8],
-    encoding: Encoding,
-    ascii_only: bool,
-    edits: &[Edit],
-) -> Result<Vec<u8>, PropertiesError>
-    ensures edits { EditsPairs (repertoire (encoding_of encoding) ascii_only) source.now (edits_in edits.now) result }
-    ensures splitting { SplittingCommutes (encoding_of encoding) source.now }
-{
-    let asked = Asked {
-        encoding,
-        ascii_only,
-        comments: Comments::PassedOver,
-    };
-    edit_all_with(alloc, source, asked, edits)
-}
-
-// Returns the source after these edits.
-fn edit_all_with(
-    alloc: Global,
-    source: &[u8],
-    asked: Asked,
-    edits: &[Edit],
-) -> Result<Vec<u8>, PropertiesError>
-    ensures { Returns asked.comments (encoding_of asked.encoding) source.now (AreEdited (asked_for asked) source.now (edits_in edits.now)) result }
-{
-    // One edit needs no index, which takes eight times the memory of a source, and more if its pairs are short.
-    let [edit] = edits else {
-        return edit_in_turn(alloc, source, asked, edits);
-    };
-    match edit {
-        Edit::Put(key, value) => set_key_with(alloc, source, asked, key, value),
-        Edit::Remove(key) => remove_key_with(alloc, source, asked, key),
-        Edit::SetValue(key, value) => set_value_with(alloc, source, asked, key, value),
-    }
-}
-
-// Returns the source after these edits, by an index of it.
-fn edit_in_turn(
-    alloc: Global,
-    source: &[u8],
-    asked: Asked,
-    edits: &[Edit],
-) -> Result<Vec<u8>, PropertiesError>
-    ensures { Returns asked.comments (encoding_of asked.encoding) source.now (AreEdited (asked_for asked) source.now (edits_in edits.now)) result }
-{
-    let mut edited = IndexedSource::open(alloc, source, asked)?;
-    for edit in edits {
-        make_edit(&mut edited, edit)?;
-    }
-    Ok(edited.bytes)
-}
-
-// Makes an edit to a source.
-fn make_edit(source: &mut IndexedSource, edit: &Edit) -> Result<(), AllocError>
-    ensures { MakesEdit (edit_in edit.now) source.old result source.new }
-{
-    match edit {
-        Edit::Put(key, value) => source.put(key, value),
-        Edit::SetValue(key, value) => source.set_value(key, value),
-        Edit::Remove(key) => {
-            source.remove(key);
-            Ok(())
-        }
-    }
+    edit_source(alloc, source, options, edits)
 }

@@ -6,8 +6,10 @@ ghost use Rattle.properties_text.specs.Encoding.{encoding_of};
 ghost use Rattle.properties_lines.specs.LineSearch.{unit_size};
 ghost use Rattle.properties_lines.specs.LogicalLine.{TellsLine};
 ghost use Rattle.properties_lines.specs.Scanner.{HasRightFlags};
-ghost use Rattle.properties_editing.specs.Private.BodyGroups.{IsWithin, FindsLine, GivesGroup, IsBegun, JoinsGroup, IsFirstGroup, text_of, IsTextHeld};
+ghost use Rattle.properties_editing.specs.Private.BodyGroups.{closing_of, IsWithin, FindsLine, GivesGroup, IsBegun, JoinsGroup, IsFirstGroup, text_of, IsTextHeld};
+ghost use Rattle.properties_editing.specs.Private.BodyParts.{span_of_group};
 
+use crate::bytes::BodySpan;
 use properties_lines::logical::{LogicalLine, is_line_in};
 use properties_lines::scanner::{RawLine, Scan, Scanner};
 use properties_text::encoding::Encoding;
@@ -26,6 +28,42 @@ pub struct Group {
     pub is_open: bool,
     /// Whether it is a single line without bytes.
     pub is_empty: bool,
+}
+
+/// What separates a new pair from the last group of a body.
+#[derive(Clone, Copy)]
+pub enum Closing {
+    /// Nothing, after an empty line.
+    Nothing,
+    /// One line ending.
+    OneEnding,
+    /// Two line endings, after a line that a backslash leaves open.
+    TwoEndings,
+}
+
+/// Returns what separates a new pair from this group.
+pub fn closing_after(group: Group) -> Closing
+    ensures { result ≡ closing_of group.is_empty group.is_open }
+{
+    if group.is_empty {
+        Closing::Nothing
+    } else if group.is_open {
+        Closing::TwoEndings
+    } else {
+        Closing::OneEnding
+    }
+}
+
+impl Group {
+    /// Returns where the group is, without its last line ending.
+    pub fn span(self) -> BodySpan
+        ensures { result ≡ span_of_group self }
+    {
+        BodySpan {
+            start: self.start,
+            end: self.end,
+        }
+    }
 }
 
 /// Reads the first group of a body. The encoding's units are one byte long.

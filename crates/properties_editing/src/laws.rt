@@ -16,9 +16,9 @@ ghost use Rattle.properties_editing.specs.Plans.{SettingFollowsItsPlan, Removing
 ///
 /// A value that is set with its layout kept is in the map as well. Setting the value that a key has changes no byte,
 /// nor does setting a value again. Setting a value twice is the same as setting it once, to the later value, if the
-/// source doesn't have the later value already. Setting the value of a pair in what a writer wrote, with readable output
-/// on, gives what the writer writes with that value, if no later pair has its key. The edit is in ASCII only exactly if
-/// the writer printed the pair so.
+/// source doesn't have the later value already. Setting the value of a pair in what a writer wrote, with readable
+/// output on, gives what the writer writes with that value, if no later pair has its key. The edit is in ASCII only
+/// exactly if the writer printed the pair so.
 ///
 /// An empty list of edits returns the source. A list of one edit is the same as the call for that edit. Two lists of
 /// edits, concatenated, give what the second list makes of the first list's result.

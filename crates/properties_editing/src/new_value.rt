@@ -10,13 +10,12 @@ ghost use Rattle.properties_lines.specs.LineSearch.{unit_size};
 ghost use Rattle.properties_format.specs.Computed.Edited.{IsSound};
 ghost use Rattle.properties_format.specs.Computed.Items.{outcome_of};
 ghost use Rattle.properties_format.specs.Computed.Valued.{is_pair_to};
-ghost use Rattle.properties_editing.specs.Private.BodyValues.{GivesValue, IsBetweenAt, IsPairAlone, RevaluesOther};
+ghost use Rattle.properties_editing.specs.Private.BodyValues.{GivesValue, IsBetweenAt, IsPairAlone};
 ghost use Rattle.properties_editing.specs.Private.Sources.{printed_in, used_in};
 
-use crate::find::BodySpan;
 use crate::groups::first_group;
 use crate::layout::{front_size, separator_span};
-use crate::replace::{concatenated, repertoire_of};
+use crate::new_pair::repertoire_of;
 use crate::source::BodyStart;
 use properties_text::escape::{UnescapeError, unescape};
 use properties_text::parse::{Span, are_blanks};
@@ -70,31 +69,6 @@ fn has_value(alloc: Global, line: &str, separator: Span, value: &str) -> Result<
         Err(UnescapeError::Malformed(_)) => unreachable!(),
         Err(UnescapeError::Memory) => Err(AllocError),
     }
-}
-
-/// Returns the source with this value for a pair, or `None` if the pair has the value.
-pub fn with_other_value(
-    alloc: Global,
-    source: &[u8],
-    opened: BodyStart,
-    pair: BodySpan,
-    value: &str,
-) -> Result<Option<Vec<u8>>, AllocError>
-    requires bytes { unit_size (encoding_of opened.encoding) ≡ 1 }
-    requires ordered { pair.start ≤ pair.end }
-    requires within { opened.start + pair.end ≤ length source.now }
-    requires alone { IsPairAlone (encoding_of opened.encoding)
-        (take (pair.end - pair.start) (drop (opened.start + pair.start) source.now)) }
-    ensures { IfOk result (λ bytes. RevaluesOther (used_in opened) source.now (opened.start + pair.start) (opened.start + pair.end) (chars value.now) bytes) }
-{
-    let start = opened.start + pair.start;
-    let end = opened.start + pair.end;
-    let Some(new) = new_value(alloc, opened, &source[start..end], value)? else {
-        return Ok(None);
-    };
-    let front = &source[..start + new.front_size];
-    let bytes = concatenated(alloc, front, new.bytes.as_slice(), &source[end..])?;
-    Ok(Some(bytes))
 }
 
 // Appends what follows the front of a pair. If nothing separates its key and value, an equals sign comes first.

@@ -3,8 +3,9 @@
 ghost use Rattle.std.specs.Prelude.{◌≡◌, false};
 ghost use Rattle.std.specs.Str.{chars};
 ghost use Rattle.properties_editing.specs.Private.Sound.{passes_over};
-ghost use Rattle.properties_editing.specs.Private.Sources.{OpensSource, asked_for};
-ghost use Rattle.properties_editing.specs.declared.source.Asked.{Asked};
+ghost use Rattle.properties_editing.specs.Private.Sources.{OpensSource};
+ghost use Rattle.properties_editing.specs.Editing.{asked_for};
+ghost use Rattle.properties_editing.specs.declared.source.SourceOptions.{SourceOptions};
 ghost use Rattle.properties_editing.specs.declared.source.Comments.TheVariants.{Read};
 
 use properties_items::error::{ErrorKind, PropertiesError, make};
@@ -12,19 +13,19 @@ use properties_lines::continuation::is_comment;
 use properties_text::encoding::Encoding;
 use properties_text::encoding::byte_order_mark::encoding_in_force;
 
-/// What is asked of the comments of a source.
-#[derive(Clone, Copy)]
+/// What becomes of the comments of a source.
+#[derive(Debug, Clone, Copy, PartialEq, Eq)]
 pub enum Comments {
     /// They are read: a malformed escape in one refuses the source.
     Read,
-    /// They are passed over once they are decoded: no escape in one is read.
+    /// They are passed over, as in Java: no escape in one is read. They stay as they are.
     PassedOver,
 }
 
 impl Comments {
     /// Returns whether this logical line is a comment that is passed over.
     #[inline(always)]
-    pub fn are_passed_over(self, line: &str) -> bool
+    pub(crate) fn are_passed_over(self, line: &str) -> bool
         ensures { result ≡ passes_over self (chars line.now) }
     {
         match self {
@@ -34,23 +35,32 @@ impl Comments {
     }
 }
 
-/// What an edit is asked for.
-#[derive(Clone, Copy)]
-pub struct Asked {
+/// How a source is read, and how edits write new texts.
+///
+/// ```text
+/// let options = SourceOptions {
+///     ascii_only: true,
+///     comments: Comments::PassedOver,
+///     ..SourceOptions::new(Encoding::UTF_8)
+/// };
+/// ```
+#[derive(Debug, Clone, Copy, PartialEq, Eq)]
+pub struct SourceOptions {
     /// The encoding of the source, unless a byte order mark selects another one.
     pub encoding: Encoding,
-    /// Whether new texts are written in ASCII only: every other character as escapes.
+    /// Whether the keys and values that edits put in are written in ASCII only: every other character as a `\u` escape,
+    /// or two above U+FFFF. What stands in the source and isn't replaced stays as it is.
     pub ascii_only: bool,
-    /// Whether comments are read, or passed over.
+    /// Whether comments are read or passed over.
     pub comments: Comments,
 }
 
-impl Asked {
-    /// Asks for all characters of an encoding, and for comments that are read.
-    pub fn all_of(encoding: Encoding) -> Asked
-        ensures { let all : Asked = record { encoding = encoding; ascii_only = false; comments = Read } in result ≡ all }
+impl SourceOptions {
+    /// Returns the options for this encoding: edits write every character that it has, and comments are read.
+    pub fn new(encoding: Encoding) -> SourceOptions
+        ensures { let all : SourceOptions = record { encoding = encoding; ascii_only = false; comments = Read } in result ≡ all }
     {
-        Asked {
+        SourceOptions {
             encoding,
             ascii_only: false,
             comments: Comments::Read,
@@ -71,15 +81,15 @@ pub struct BodyStart {
 
 impl BodyStart {
     /// Opens a source. UTF-16 is refused.
-    pub fn open(source: &[u8], asked: Asked) -> Result<BodyStart, PropertiesError>
-        ensures { OpensSource source.now (asked_for asked) result }
+    pub fn open(source: &[u8], options: SourceOptions) -> Result<BodyStart, PropertiesError>
+        ensures { OpensSource source.now (asked_for options) result }
     {
-        let (encoding, start) = encoding_in_force(source, asked.encoding);
+        let (encoding, start) = encoding_in_force(source, options.encoding);
         match encoding {
             Encoding::WINDOWS_1252 | Encoding::UTF_8 => Ok(BodyStart {
                 encoding,
                 start,
-                ascii_only: asked.ascii_only,
+                ascii_only: options.ascii_only,
             }),
             Encoding::UTF_16LE | Encoding::UTF_16BE => Err(make::bare(ErrorKind::Unsupported)),
         }

@@ -1,33 +1,32 @@
 -- The laws of edits.
-use Rattle.std.proofs.Common.{◌≡◌, ◌↔◌, ℕ, ◌+◌, true, false, List, [], ◌∷◌, ◌++◌, length, Option, Some, None, refl, sym, ◌∙◌, inl, inr, subst, arith, ap}
+use Rattle.std.proofs.Common.{◌≡◌, ℕ, ◌+◌, true, false, List, [], ◌∷◌, ◌++◌, length, Option, Some, None, refl, sym, ◌∙◌, inl, inr, arith, ap}
 use Rattle.std.proofs.lemmas.Slice.Eq.{bytes_eq-Decides}
-use Rattle.properties_format.specs.Encoding.{Encoding, byte_order_mark, begins_like_bom, Repertoire}
+use Rattle.properties_format.specs.Encoding.{Encoding, byte_order_mark, begins_like_bom, all_of, Repertoire}
 use Rattle.properties_format.specs.Lines.{end, joined}
 use Rattle.properties_format.specs.Items.{Entry, AreItems, Outcome, IsItems}
 use Rattle.properties_format.specs.Computed.Items.{outcome_of, followed, items_of}
 use Rattle.properties_format.specs.Maps.{HasNoPair, IsMap}
 use Rattle.properties_format.specs.Body.{HeldLine, as_lines, NoneHasKey, groups_bytes}
-use Rattle.properties_format.specs.Edited.{EditResult, guarding_lf, is_editable, edited, IsSetKeyResult}
-use Rattle.properties_format.specs.Edits.{Edit, put, remove, IsEditAllResult}
+use Rattle.properties_format.specs.Edited.{guarding_lf, is_editable, edited}
+use Rattle.properties_format.specs.Edits.{Edit, put, remove}
 use Rattle.properties_format.specs.Changed.{map_edited}
 use Rattle.properties_format.specs.Computed.Body.{held_groups_of, is_pair_with}
-use Rattle.properties_format.specs.Computed.Edited.{without}
+use Rattle.properties_format.specs.Plan.{planned, removal}
 use Rattle.properties_format.specs.EditLaws.{RemovingNoPairChangesNothing, SettingTwiceIsSettingOnce, HasMap, DiffersAt, SettingGivesTheValue, RemovingTakesTheValue, ListsOfEditsFollow}
-use Rattle.properties_format.specs.Laws.{HasOne}
-use Rattle.properties_format.proofs.Laws.{one}
 use Rattle.properties_format.proofs.Items.Unique.{items_of-only}
 use Rattle.properties_format.proofs.Maps.{map-only}
 use Rattle.properties_format.proofs.Body.Groups.{held_groups_of-meets, held-body}
 use Rattle.properties_format.proofs.Body.Numbers.{items_of-groups, entries_in}
-use Rattle.properties_format.proofs.Edited.Made.{has_key-false, key_set-only, key_removed-only, no_key-test}
-use Rattle.properties_format.proofs.Edited.Results.{set_key_result-meets, set_key_result-only, result_by-edited, result_of}
-use Rattle.properties_format.proofs.Edits.Results.{edits_made-only, edit_all_result-meets, edit_all_result-only, edit_made, edits_made}
+use Rattle.properties_format.proofs.Edited.Made.{has_key-false, no_key-test}
+use Rattle.properties_format.proofs.Edited.Results.{result_by-edited, result_of}
+use Rattle.properties_format.proofs.Edits.Results.{same-results, edit_result, edit_all_result, edits_made-only, edit_made, edits_made}
 use Rattle.properties_format.proofs.Edited.ByteOrderMarks.{has_bom, source-whole}
 use Rattle.properties_format.proofs.Changed.Maps.{other-test, same-test}
-use Rattle.properties_format.proofs.Edited.Twice.{set-twice}
-use Rattle.properties_format.proofs.Changed.Laws.{IsReadable, key_set-contents}
+use Rattle.properties_format.proofs.Plan.Again.{set-twice}
+use Rattle.properties_format.proofs.Plan.Made.{key_set-is_planned, key_removed-is_planned}
+use Rattle.properties_format.proofs.Changed.Laws.{IsReadable, edit-contents}
 use Rattle.properties_format.proofs.Edits.Contents.{edits-contents}
-use Rattle.properties_format.proofs.Changed.Read.{readable, set_key-reads, remove_key-reads}
+use Rattle.properties_format.proofs.Changed.Read.{readable, edit-reads}
 
 -- ---- a key that no pair has
 
@@ -45,9 +44,9 @@ none-have key n (g ∷ gs) h k =
     (has_key-false key g m.0, none-have key (n + length g) gs m.1 m.2)
 
 -- If no group is a pair with the key, all bytes are left.
-without-none : (key : List ℕ) (gs : List (List HeldLine)) → NoneHasKey key gs → without key gs ≡ groups_bytes gs
-without-none key [] h = refl
-without-none key (g ∷ gs) h = rw (no_key-test key g h.0, without-none key gs h.1)
+removal-none : (key : List ℕ) (gs : List (List HeldLine)) → NoneHasKey key gs → planned (removal key gs) gs ≡ groups_bytes gs
+removal-none key [] h = refl
+removal-none key (g ∷ gs) h = rw (no_key-test key g h.0, removal-none key gs h.1) refl
 
 -- The body of a source needs no LF in front of it.
 body-unguarded : (e : Encoding) (source : List ℕ) → is_editable (byte_order_mark e source).encoding ≡ true
@@ -63,9 +62,9 @@ removing-no_pair e source key entries is none result h =
     let f = byte_order_mark e source in
     let gs = held_groups_of f.encoding f.body in
     let all = items_of-only e source end entries is ∙ items_of-groups e source in
-    let left = without-none key gs (none-have key 1 gs (rw items_of-groups at (readable e source h.0 h.1).no_fault) (rw all at none)) in
+    let left = removal-none key gs (none-have key 1 gs (rw items_of-groups at (readable e source h.0 h.1).no_fault) (rw all at none)) in
     let body = held-body f.encoding f.body gs h.0 (held_groups_of-meets f.encoding f.body) in
-    rw (key_removed-only e source key result h.2, left, body, body-unguarded e source h.0) (sym (source-whole e source))
+    rw ((key_removed-is_planned e source key result).0 h.2, left, body, body-unguarded e source h.0) (sym (source-whole e source))
 
 -- ---- a key that is set twice
 
@@ -73,28 +72,15 @@ removing-no_pair e source key entries is none result h =
 pub result-made : (e : Encoding) (source made : List ℕ) → IsReadable e source → result_of e source made ≡ edited made
 result-made e source made r = rw (r.editable, result_by-edited (items_of e source end) made r.no_fault)
 
--- If two edits have one result each, and these are equal, they have the same results.
-pub same-results : (First Second : EditResult → Type 0) (one : HasOne First) (two : HasOne Second) → one.value ≡ two.value
-    → (result : EditResult) → First result ↔ Second result
-same-results First Second one two same result =
-    ((λ h. subst Second (sym (one.only result h ∙ same)) two.meets), (λ h. subst First (sym (two.only result h ∙ sym same)) one.meets))
-
--- Setting a key has one result,
-abbrev pub one-set : (r : Repertoire) (source key value : List ℕ) → HasOne (IsSetKeyResult r source key value)
-one-set r source key value = one _ (set_key_result-meets r source key value) (set_key_result-only r source key value)
-
--- and so does a list of edits.
-abbrev pub one-edit_all : (r : Repertoire) (source : List ℕ) (edits : List Edit) → HasOne (IsEditAllResult r source edits)
-one-edit_all r source edits = one _ (edit_all_result-meets r source edits) (edit_all_result-only r source edits)
-
 -- Setting a key twice equals setting it once, to the later value.
 pub setting-twice : (t : Repertoire) (source key first second : List ℕ) → SettingTwiceIsSettingOnce t source key first second
 setting-twice t source key first second k v w between h result =
     let r = readable t.encoding source h.0 h.1 in
-    let next = (key_set-contents t source key first between r k v h.2).readable in
-    let bytes = rw (← key_set-only t source key first between h.2) at (set-twice t source key first second h.0 k v) in
+    let next = (edit-contents t source (put key first) between r (k, v) h.2).readable in
+    let made = (key_set-is_planned t source key first between h.0).0 h.2 in
+    let bytes = rw (← made) at (set-twice t source key first second h.0 k v w) in
     let same = result-made t.encoding between _ next ∙ ap edited bytes ∙ sym (result-made t.encoding source _ r) in
-    same-results _ _ (one-set t between key second) (one-set t source key second) same result
+    same-results _ _ (edit_result t between (put key second)) (edit_result t source (put key second)) same result
 
 -- ---- the map
 
@@ -117,13 +103,13 @@ set-differs key value value_at = (rw (same-test key key refl), (λ other n. rw (
 pub setting-gives : (r : Repertoire) (source key value : List ℕ) → SettingGivesTheValue r source key value
 setting-gives r source key value k v result h old new =
     maps-differ r.encoding source result key (put key value) (Some value) old new
-    (λ before after i j m. (set_key-reads r source key value result k v h before after i j).mapped old m) (set-differs key value)
+    (λ before after i j m. (edit-reads r source (put key value) result (k, v) h before after i j).mapped old m) (set-differs key value)
 
 -- After a key is removed, the map has no value for it, and for every other key what it had before.
 pub removing-takes : (e : Encoding) (source key : List ℕ) → RemovingTakesTheValue e source key
 removing-takes e source key result h old new =
     maps-differ e source result key (remove key) None old new
-    (λ before after i j m. (remove_key-reads e source key result h before after i j).mapped old m)
+    (λ before after i j m. (edit-reads (all_of e) source (remove key) result tt h before after i j).mapped old m)
     (λ value_at. (rw (same-test key key refl), (λ other n. rw (other-test other key n))))
 
 -- ---- lists of edits
@@ -140,5 +126,6 @@ lists-follow t source first second scalars between h result =
     let r = readable t.encoding source h.0 h.1 in
     let next = (edits-contents t source first between r scalars h.2).readable in
     let same : result_of t.encoding source (edits_made t source (first ++ second)) ≡ result_of t.encoding between (edits_made t between second) =
-    rw (result-made t.encoding source _ r, result-made t.encoding between _ next, edits_made-append t source first second, edits_made-only t source first between h.0 h.2) in
-    same-results _ _ (one-edit_all t source (first ++ second)) (one-edit_all t between second) same result
+    let is = edits_made-only t source first between h.0 h.2 in
+    rw (result-made t.encoding source _ r, result-made t.encoding between _ next, edits_made-append t source first second, is) in
+    same-results _ _ (edit_all_result t source (first ++ second)) (edit_all_result t between second) same result

@@ -6,8 +6,3 @@ pub mod Pair
 pub mod LogicalLines
 pub mod Steps
 pub mod Parts
-pub mod Replaced
-pub mod Closed
-pub mod AppendedPair
-pub mod Put
-pub mod Twice

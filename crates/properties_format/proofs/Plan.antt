@@ -1,6 +1,9 @@
-pub mod Made
+pub mod Last
 pub mod Slots
 pub mod Added
-pub mod Listed
 pub mod Values
 pub mod NewValues
+pub mod Made
+pub mod Listed
+pub mod Lines
+pub mod Again

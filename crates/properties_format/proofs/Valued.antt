@@ -7,7 +7,6 @@ pub mod Revalued
 pub mod Pair
 pub mod Separators
 pub mod Added
-pub mod Groups
 pub mod Marks
 pub mod Read
 pub mod Laws

@@ -9,7 +9,7 @@ use Rattle.properties_format.specs.Lines.{end}
 use Rattle.properties_format.specs.Escapes.{Malformed}
 use Rattle.properties_format.specs.Items.{pair, Entry, item, Outcome, given}
 use Rattle.properties_format.specs.Found.{AreFound, MalformedEscape, AreMalformedEscapes}
-use Rattle.properties_format.specs.Maps.{IsValue}
+use Rattle.properties_format.specs.Maps.{AreKeys, IsValue}
 
 -- an edit: a key to set and its value, a key to remove, or a key whose value to set in place
 pub data Edit : Type 0 where
@@ -97,3 +97,10 @@ pub record HasPairValue (e : Encoding) (source key : List ℕ) (value : Option (
   pub pairs : List Entry
   pub are : ArePairs e source pairs
   pub is : IsValue pairs key value
+
+-- The keys of such a source, each once, in the order of their first pairs.
+pub record HasPairKeys (e : Encoding) (source : List ℕ) (keys : List (List ℕ)) : Type 0 where
+  pub in_comments : EscapesAre e source AreInComments
+  pub pairs : List Entry
+  pub are : ArePairs e source pairs
+  pub is : AreKeys pairs keys

@@ -1,8 +1,10 @@
 -- Borrowed items as contracts see them, and what is found of them before they are borrowed.
-use Rattle.std.specs.Prelude.{◌≡◌, ◌⊎◌, ℕ, List, Option, Some, None, Result, Ok, Err, Bool, true, false, not}
+use Rattle.std.specs.Prelude.{◌≡◌, ◌⊎◌, ℕ, List, Option, Some, None, Result, Ok, Err, Bool, true, false, not, length, encode_utf8_all}
+use Rattle.std.specs.Borrow.{Bor}
 use Rattle.std.specs.Str.{chars}
 use Rattle.properties_format.specs.Escapes.{Malformed, Means}
 use Rattle.properties_format.specs.Items.{ignored, broken, Outcome, given, comment, pair, Content, Entry, item}
+use Rattle.properties_format.specs.Computed.Edited.{IsSound}
 use Rattle.properties_format.specs.Computed.Items.{outcome_of}
 use Rattle.properties_items.specs.Errors.{IsBareError, IsMalformed, IsUnresolvedError}
 use Rattle.properties_text.specs.Escaping.{IsRefused, holds_backslash}
@@ -45,9 +47,17 @@ abbrev pub outcome_pair : Outcome → Option (List ℕ × List ℕ)
 outcome_pair (given (pair key value)) = Some (key, value)
 outcome_pair other = None
 
+-- A logical line is a pair, the key of which has so many bytes in UTF-8; or it is none, and nothing in it is malformed.
+abbrev pub TellsKeySize : List ℕ → Option ℕ → Type 0
+TellsKeySize x None = IsSound (outcome_of x) × (outcome_pair (outcome_of x) ≡ None)
+TellsKeySize x (Some size) = (pair : List ℕ × List ℕ) × (outcome_pair (outcome_of x) ≡ Some pair) × (size ≡ length (encode_utf8_all pair.0))
+
 -- the characters of a key and of its value
 abbrev pub pair_characters : {Y Z : Type 0} → String Y × String Z → List ℕ × List ℕ
 pair_characters p = (characters p.0, characters p.1)
+
+abbrev pub text_characters : Bor (List ℕ) × Bor (List ℕ) → List ℕ × List ℕ
+text_characters p = (chars p.0.now, chars p.1.now)
 
 -- ---- borrowed items
 

@@ -1,6 +1,6 @@
 // Items that are found but not yet borrowed. A found item borrows nothing, so reading can continue while it is held.
 
-ghost use Rattle.std.specs.Prelude.{◌≡◌, Some, None, false, not, bytes_eq, IfOk, Ok};
+ghost use Rattle.std.specs.Prelude.{◌≡◌, encode_utf8_all, length, Some, None, false, not, IfOk, Ok};
 ghost use Rattle.std.specs.Option.{is_some, option_map};
 ghost use Rattle.std.specs.Str.{chars};
 ghost use Rattle.std.specs.Cow.{cow_str_bytes};
@@ -9,7 +9,7 @@ ghost use Rattle.properties_format.specs.Items.{given};
 ghost use Rattle.properties_format.specs.Computed.Body.{outcome_key};
 ghost use Rattle.properties_items.specs.Line.{entry_of};
 ghost use Rattle.properties_items.specs.Texts.{characters};
-ghost use Rattle.properties_items.specs.BorrowedItems.{pair_characters, outcome_pair, FindsItem, FindsText, FindsContent, FindsIn, borrowed_entry, borrowed_content, is_borrowed, BorrowsPlain, found_bytes, found_content, found_entry, AreTextsIn, spans_of, IsFoundIn, IsTextIn};
+ghost use Rattle.properties_items.specs.BorrowedItems.{pair_characters, text_characters, outcome_pair, FindsItem, FindsText, FindsContent, FindsIn, borrowed_entry, borrowed_content, is_borrowed, BorrowsPlain, found_bytes, found_content, found_entry, AreTextsIn, spans_of, IsFoundIn, IsTextIn, TellsKeySize};
 ghost use Rattle.properties_format.specs.Split.{IsSplit};
 ghost use Rattle.properties_text.specs.Escaping.{holds_backslash};
 
@@ -185,15 +185,29 @@ pub fn own_item(alloc: Global, found: Found, line: &str) -> Result<Line, AllocEr
     Ok(Line::new(line_number, content))
 }
 
-/// Returns whether the pair has this key, or `None` if the item is a comment.
+/// Returns the key and the value, or `None` if the item is a comment. Borrows them from the line, or from the found item
+/// if an escape was resolved.
 #[inline(always)]
-pub fn item_has_key(found: &Found, line: &str, key: &str) -> Option<bool>
+pub fn pair_texts<'a>(found: &'a Found, line: &'a str) -> Option<(&'a str, &'a str)>
     requires { IsFoundIn line.now found.now }
-    ensures { result ≡ option_map (λ k. bytes_eq k (chars key.now)) (outcome_key (given (found_content line.now found.now.content))) }
+    ensures { option_map text_characters result ≡ outcome_pair (given (found_content line.now found.now.content)) }
 {
     match &found.content {
         FoundContent::Comment(_) => None,
-        FoundContent::KVPair(text, _) => Some(text.equals(line, key)),
+        FoundContent::KVPair(key, value) => Some((key.text(line), value.text(line))),
+    }
+}
+
+/// Returns how many bytes the key of a logical line without a backslash has, or `None` if the line isn't a pair.
+#[inline(always)]
+pub fn plain_key_size(line: &str) -> Option<usize>
+    requires { holds_backslash (chars line.now) ≡ false }
+    ensures { TellsKeySize (chars line.now) result }
+{
+    let found = find_plain(0, line)?;
+    match &found.content {
+        FoundContent::Comment(_) => None,
+        FoundContent::KVPair(key, _) => Some(key.size(line)),
     }
 }
 
@@ -253,16 +267,27 @@ impl FoundText {
         }
     }
 
-    // Returns whether the found text equals `text`. Inlined, since a search for a key asks this of every pair.
-    #[tactic(auto, using(crate::proofs::TextMaps::Values::alike))]
+    // Returns how many bytes the text has.
     #[inline(always)]
-    fn equals(&self, line: &str, text: &str) -> bool
+    fn size(&self, line: &str) -> usize
         requires { IsTextIn line.now self.now }
-        ensures { result ≡ bytes_eq (chars (found_bytes line.now self.now)) (chars text.now) }
+        ensures { result ≡ length (encode_utf8_all (chars (found_bytes line.now self.now))) }
     {
         match &self.resolved {
-            None => self.span.cut(line) == text,
-            Some(resolved) => resolved.as_str() == text,
+            None => self.span.end - self.span.start,
+            Some(text) => text.as_str().len(),
+        }
+    }
+
+    // Returns the text.
+    #[inline(always)]
+    fn text<'a>(&'a self, line: &'a str) -> &'a str
+        requires { IsTextIn line.now self.now }
+        ensures { result.now ≡ found_bytes line.now self.now }
+    {
+        match &self.resolved {
+            None => self.span.cut(line),
+            Some(text) => text.as_str(),
         }
     }
 

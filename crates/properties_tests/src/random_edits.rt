@@ -7,8 +7,8 @@ ghost use Rattle.std.specs.Prelude.{◌<◌};
 use crate::same::same;
 use java_properties::Encoding::WINDOWS_1252;
 use java_properties::{
-    Document, Edit, PropertiesError, edit_all, edit_all_ascii, edit_pairs, remove_key, set_key,
-    set_value, value_among_pairs, value_of,
+    Comments, Document, Edit, PropertiesError, SourceOptions, edit_all, edit_with, remove_key,
+    set_key, set_value, value_among_pairs, value_of,
 };
 use std::alloc::{AllocError, Global};
 use std::process::Abort;
@@ -77,7 +77,11 @@ fn check_edits(
     }
     let listed = edit_all(alloc, source, WINDOWS_1252, &edits)?;
     same(rt, listed.as_slice(), wanted.as_slice());
-    let paired = edit_pairs(alloc, source, WINDOWS_1252, false, &edits)?;
+    let options = SourceOptions {
+        comments: Comments::PassedOver,
+        ..SourceOptions::new(WINDOWS_1252)
+    };
+    let paired = edit_with(alloc, source, options, &edits)?;
     same(rt, paired.as_slice(), wanted.as_slice());
     check_ascii(rt, alloc, source, &edits, &document)?;
     check_source(rt, alloc, &document, KEYS[numbers.below(7)])
@@ -97,8 +101,13 @@ fn check_ascii(
     for edit in edits {
         change(&mut document, edit)?;
     }
-    let listed = edit_all_ascii(alloc, source, WINDOWS_1252, edits)?;
-    same(rt, listed.as_slice(), document.source());
+    let options = SourceOptions {
+        ascii_only: true,
+        ..SourceOptions::new(WINDOWS_1252)
+    };
+    let listed = edit_with(alloc, source, options, edits)?;
+    let bytes = document.to_bytes()?;
+    same(rt, listed.as_slice(), bytes.as_slice());
     if source.is_ascii() {
         same(rt, listed.is_ascii(), true);
     }
@@ -132,7 +141,8 @@ fn check_document(
     document: &Document,
     wanted: &[u8],
 ) -> Result<(), Fail> {
-    same(rt, document.source(), wanted);
+    let bytes = document.to_bytes()?;
+    same(rt, bytes.as_slice(), wanted);
     let opened = Document::parse(alloc, wanted, WINDOWS_1252)?;
     check_values(rt, document, &opened);
     let keys = document.keys()?;
@@ -152,9 +162,10 @@ fn check_source(
     document: &Document,
     key: &str,
 ) -> Result<(), Fail> {
-    let value = value_of(alloc, document.source(), WINDOWS_1252, key)?;
+    let bytes = document.to_bytes()?;
+    let value = value_of(alloc, &bytes, WINDOWS_1252, key)?;
     same(rt, value.as_deref(), document.get(key));
-    let value = value_among_pairs(alloc, document.source(), WINDOWS_1252, key)?;
+    let value = value_among_pairs(alloc, &bytes, WINDOWS_1252, key)?;
     same(rt, value.as_deref(), document.get(key));
     Ok(())
 }

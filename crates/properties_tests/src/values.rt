@@ -58,7 +58,7 @@ fn a_document_is_debugged(rt: HostRuntime) -> Result<(), Fail> {
     let (rt, alloc) = (&rt, rt.alloc());
     let source = b"\xef\xbb\xbfa=1\nb=2\na=3";
     let document = Document::parse(alloc, source, Encoding::WINDOWS_1252)?;
-    let wanted = "Document { encoding: UTF_8, bytes: 14, keys: 2, .. }";
+    let wanted = "Document { encoding: UTF_8, bytes_read: 14, keys: 2, .. }";
     check_debugged(rt, alloc, &document, wanted)
 }
 

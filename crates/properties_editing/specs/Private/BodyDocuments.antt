@@ -1,14 +1,36 @@
--- What a document holds: a source with its index, in which nothing is malformed.
+-- What a document holds: the parts of a source, in which nothing is malformed but in comments that are passed over.
+use Rattle.std.specs.Prelude.{◌≡◌, ℕ, Bool, true, List}
+use Rattle.properties_format.specs.Encoding.{Encoding, InForce, Repertoire, byte_order_mark, repertoire}
+use Rattle.properties_format.specs.Body.{HeldLine}
+use Rattle.properties_format.specs.Computed.Body.{held_groups_of}
+use Rattle.properties_text.specs.Encoding.{encoding_of}
 use Rattle.properties_editing.specs.Documents.{OpenDocument}
+use Rattle.properties_editing.specs.Private.EditedParts.{AreParts}
 use Rattle.properties_editing.specs.Private.Sound.{AreSoundFor}
-use Rattle.properties_editing.specs.Private.Sources.{groups_of, IsInForce}
-use Rattle.properties_editing.specs.declared.source.Comments.TheVariants.{Read}
+use Rattle.properties_editing.specs.Private.SourceParts.{source_bytes}
 use Rattle.properties_editing.specs.declared.document.Document.TheInside.{Inside}
 
-abbrev pub open_document : Inside → OpenDocument
-open_document d = record { repertoire = d.source.repertoire; bytes = d.source.bytes }
+-- the groups of the body of these bytes
+abbrev pub groups_in : Encoding → List ℕ → List (List HeldLine)
+groups_in e bytes = let w : InForce = byte_order_mark e bytes in held_groups_of w.encoding w.body
 
--- It is opened, and nothing in it is malformed.
+-- every key is named
+abbrev pub every : List ℕ → Bool
+every key = true
+
+-- what was requested, and the bytes after the edits
+abbrev pub repertoire_of : Inside → Repertoire
+repertoire_of d = repertoire (encoding_of d.encoding) d.edited.opened.ascii_only
+
+abbrev pub bytes_of : Inside → List ℕ
+bytes_of d = source_bytes d.source.items d.edited
+
+abbrev pub open_document : Inside → OpenDocument
+open_document d = record { repertoire = repertoire_of d; comments = d.comments; bytes = bytes_of d }
+
+-- The parts stand for its bytes, the values of all keys are stored, and nothing in it is malformed but in comments that
+-- are passed over.
 pub record IsDocument (d : Inside) : Type 0 where
-  pub in_force : IsInForce d.source.bytes d.source.repertoire d.source.opened
-  pub sound : AreSoundFor Read (groups_of d.source)
+  pub parts : AreParts (repertoire_of d) d.source.items (bytes_of d) every d.edited
+  pub all : d.edited.parts.keys.all ≡ true
+  pub sound : AreSoundFor d.comments (groups_in (encoding_of d.encoding) (bytes_of d))

@@ -15,6 +15,8 @@ use Rattle.properties_text.specs.Escaping.{IsWell}
 use Rattle.properties_lines.specs.LogicalLine.{bytes_with, HasText, IsSound, IsUnfinished}
 use Rattle.properties_editing.specs.declared.groups.Group.{Group}
 use Rattle.properties_editing.specs.declared.groups.GroupReader.{GroupReader}
+use Rattle.properties_editing.specs.declared.groups.Closing.{Closing}
+use Rattle.properties_editing.specs.declared.groups.Closing.TheVariants as closing
 
 -- ---- the position of a reader
 
@@ -135,3 +137,9 @@ pub record IsBegun (body : List ℕ) (s : GroupReader) (group : Group) : Type 0 
 -- The group was read whole: to a line that isn't open, or to the last line.
 abbrev pub JoinsGroup : List ℕ → GroupReader → Group → Group → GroupReader → Type 0
 JoinsGroup body old group joined new = (before : GroupReader) → ReadsGroup body before group old → TakesGroup body before joined new
+
+-- ---- what separates a new pair from the last group
+
+-- by whether the group is an empty line and whether it is left open
+abbrev pub closing_of : Bool → Bool → Closing
+closing_of is_empty is_open = if is_empty then closing.Nothing else (if is_open then closing.TwoEndings else closing.OneEnding)

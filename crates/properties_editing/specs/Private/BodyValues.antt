@@ -1,6 +1,6 @@
--- How the value of a key is set in a body that is held in memory: where the value of a pair begins, and how a new pair is
--- laid out.
-use Rattle.std.specs.Prelude.{◌≡◌, ℕ, ◌+◌, ◌-◌, ◌≤◌, Bool, true, false, if◌then◌else◌, List, [], ◌∷◌, ◌++◌, length, take, drop, Option, Some, None}
+-- How the value of a key is set in a body that is held in memory: where the value of a pair begins, and how a new pair
+-- is laid out.
+use Rattle.std.specs.Prelude.{◌≡◌, ℕ, ◌-◌, ◌≤◌, Bool, true, false, if◌then◌else◌, List, [], ◌∷◌, ◌++◌, length, take, drop, Option, Some, None}
 use Rattle.std.specs.Global.{Vec}
 use Rattle.std.specs.Str.{chars, encode_utf8_all}
 use Rattle.properties_format.specs.Text as text
@@ -12,20 +12,15 @@ use Rattle.properties_format.specs.Items.{pair, given}
 use Rattle.properties_format.specs.Computed.Items.{outcome_of}
 use Rattle.properties_format.specs.Text.{is_blanks}
 use Rattle.properties_format.specs.Printing.{encoded_text, printed_key, printed_value}
-use Rattle.properties_format.specs.Body.{HeldLine, as_lines, groups_bytes, held_in, AreGroupsOf}
+use Rattle.properties_format.specs.Body.{HeldLine, as_lines, held_in, AreGroupsOf}
 use Rattle.properties_format.specs.Edited.{is_editable}
 use Rattle.properties_format.specs.Valued.{value_text, ending_among}
-use Rattle.properties_format.specs.Computed.Body.{held_groups_of, unended_bytes}
-use Rattle.properties_format.specs.Computed.Settings.{is_good_separator}
-use Rattle.properties_format.specs.Computed.Valued.{before_value, between_if_pair, between_of, front_of, has_value, last_between, separator_by}
+use Rattle.properties_format.specs.Computed.Body.{held_groups_of}
+use Rattle.properties_format.specs.Computed.Valued.{before_value, between_if_pair, between_of, front_of, has_value}
 use Rattle.properties_text.specs.Parsing.{bytes_in, IsSpan}
 use Rattle.properties_text.specs.declared.parse.Span.{Span}
-use Rattle.properties_items.specs.Texts.{characters}
 use Rattle.properties_items.specs.Line.{ending_of}
 use Rattle.properties_items.specs.declared.line.LineEnding.{LineEnding}
-use Rattle.properties_editing.specs.declared.append.Layout.{Layout}
-use Rattle.properties_editing.specs.declared.find.BodySpan.{BodySpan}
-use Rattle.properties_editing.specs.declared.find.Closing.{Closing}
 use Rattle.properties_editing.specs.declared.new_value.NewValue.{NewValue}
 
 -- ---- where the value of a pair begins
@@ -82,40 +77,7 @@ abbrev pub GivesValue : Repertoire → List ℕ → List ℕ → Option NewValue
 GivesValue r bytes value None = (group : List HeldLine) × (held_groups_of r.encoding bytes ≡ group ∷ []) × (has_value value group ≡ true)
 GivesValue r bytes value (Some new) = IsNewValue r bytes value new
 
--- a source with a value for the pair in this span of it
-abbrev pub revalued_in : Repertoire → List ℕ → ℕ → ℕ → List ℕ → List HeldLine → List ℕ
-revalued_in r source start end value group =
-    if has_value value group then source
-    else take start source ++ (front_of r.encoding group ++ (encoded_text r.encoding (value_text r (between_of group) value) ++ drop end source))
-
--- The bytes are the source with a value for the pair in this span of it; or there are none, since the pair has the value.
-abbrev pub RevaluesOther : Repertoire → List ℕ → ℕ → ℕ → List ℕ → Option (Vec ℕ) → Type 0
-RevaluesOther r source start end value None =
-    (group : List HeldLine) × (held_groups_of r.encoding (take (end - start) (drop start source)) ≡ group ∷ []) × (has_value value group ≡ true)
-RevaluesOther r source start end value (Some bytes) =
-    (group : List HeldLine) × (held_groups_of r.encoding (take (end - start) (drop start source)) ≡ group ∷ []) × (has_value value group ≡ false)
-    × (bytes.items ≡ revalued_in r source start end value group)
-
 -- ---- a new pair
-
--- The last pair of these groups, whatever its key, is in this span.
-pub record IsLastPairOf (groups : List (List HeldLine)) (span : BodySpan) : Type 0 where
-  pub before : List (List HeldLine)
-  pub group : List HeldLine
-  pub after : List (List HeldLine)
-  pub division : groups ≡ before ++ group ∷ after
-  pub between : List ℕ
-  pub of_pair : between_if_pair (split_of (joined (as_lines group))) (joined (as_lines group)) ≡ Some between
-  pub last : last_between groups ≡ Some between
-  pub starts : span.start ≡ length (groups_bytes before)
-  pub ends : span.end ≡ span.start + length (unended_bytes group)
-
-abbrev pub IsLastPair : List (List HeldLine) → Option BodySpan → Type 0
-IsLastPair groups None = last_between groups ≡ None
-IsLastPair groups (Some span) = IsLastPairOf groups span
-
-abbrev pub FindsLastPair : Encoding → List ℕ → Option BodySpan → Type 0
-FindsLastPair e body span = IsLastPair (held_groups_of e body) span
 
 -- The bytes are one group.
 abbrev pub IsGroupAlone : Encoding → List ℕ → Type 0
@@ -131,10 +93,3 @@ IsLastEnding body by =
 abbrev pub unended_pair : Repertoire → Bool → List ℕ → List ℕ → List ℕ → List ℕ
 unended_pair r first key separator value =
     encoded_text r.encoding (printed_key r first key ++ (separator ++ printed_value r (is_blanks separator) value))
-
--- A new pair after the body is laid out like this.
-pub record IsLayoutAfter (e : Encoding) (body : List ℕ) (closing : Closing) (key : List ℕ) (layout : Layout) : Type 0 where
-  pub closes : layout.closing ≡ closing
-  pub separates : characters layout.separator ≡ separator_by key (last_between (held_groups_of e body))
-  pub good : is_good_separator (characters layout.separator) ≡ true
-  pub ends : IsLastEnding body layout.ending

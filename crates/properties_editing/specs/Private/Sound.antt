@@ -1,9 +1,9 @@
 -- What is asked of the comments of a source, and the results of an edit by that.
-use Rattle.std.specs.Prelude.{◌≡◌, ◌⊎◌, ℕ, Bool, true, false, List, [], ◌∷◌, Result, Ok, Err}
+use Rattle.std.specs.Prelude.{◌≡◌, ◌⊎◌, ℕ, Bool, true, false, List, [], ◌∷◌, Result, Ok, Err, ◌+◌, ◌++◌, length}
 use Rattle.std.specs.Global.{Vec}
 use Rattle.properties_format.specs.Encoding.{Encoding, byte_order_mark}
 use Rattle.properties_format.specs.Lines.{is_comment_line, joined}
-use Rattle.properties_format.specs.Body.{HeldLine, as_lines}
+use Rattle.properties_format.specs.Body.{HeldLine, as_lines, held_in}
 use Rattle.properties_format.specs.Edited.{EditResult, edited, unsupported, is_editable, IsEditResult}
 use Rattle.properties_format.specs.Edits.{IsPairsResult}
 use Rattle.properties_format.specs.Computed.Edited.{IsSound}
@@ -12,6 +12,9 @@ use Rattle.properties_editing.specs.Editing.{IsRefusal}
 use Rattle.properties_editing.specs.declared.source.Comments.{Comments}
 use Rattle.properties_editing.specs.declared.source.Comments.TheVariants.{Read, PassedOver}
 use Rattle.properties_items.specs.declared.error.PropertiesError.{PropertiesError}
+use Rattle.properties_items.specs.BorrowedItems.{IsNoItem}
+use Rattle.properties_items.specs.Errors.{IsBareError}
+use Rattle.properties_items.specs.declared.error.ErrorKind.TheVariants as kind
 
 -- whether a logical line is passed over
 abbrev pub passes_over : Comments → List ℕ → Bool
@@ -30,6 +33,17 @@ AreSoundFor comments (g ∷ gs) = IsSoundFor comments (joined (as_lines g)) × A
 -- or do where comments are passed over.
 abbrev pub AreSound : List (List HeldLine) → Type 0
 AreSound groups = AreSoundFor PassedOver groups
+
+-- A logical line, which has this number and isn't passed over, has no item for this reason.
+abbrev pub IsFault : Comments → ℕ → List ℕ → PropertiesError → Type 0
+IsFault comments number line e = (passes_over comments line ≡ false) × IsNoItem number line e
+
+-- One of these groups, which comes after sound ones, has no item for this reason; or memory ran out.
+abbrev pub IsErrorOfGroups : Comments → List (List HeldLine) → PropertiesError → Type 0
+IsErrorOfGroups comments groups e =
+    ((before : List (List HeldLine)) × (g : List HeldLine) × (after : List (List HeldLine)) × (groups ≡ before ++ g ∷ after) × AreSoundFor comments before
+    × IsFault comments (1 + length (held_in before)) (joined (as_lines g)) e)
+    ⊎ IsBareError kind.Memory e
 
 -- the results of an edit that makes such bytes of the source
 abbrev pub IsResult : Comments → Encoding → List ℕ → (List ℕ → Type 0) → EditResult → Type 0

@@ -1,16 +1,15 @@
 -- The groups of a body: the computed groups are groups of the body, and the only ones. All groups but the last end in a
 -- line ending, and are groups by themselves.
-use Rattle.std.proofs.Common.{◌≡◌, ◌≢◌, ◌<◌, ◌⊎◌, ℕ, true, false, List, [], ◌∷◌, ◌++◌, Some, None, refl, ap, ap₂, sym, ◌∙◌, inl, inr, append_assoc, arith, append-nil, subst, lit<}
+use Rattle.std.proofs.Common.{◌≡◌, ◌≢◌, ◌⊎◌, ℕ, true, false, List, [], ◌∷◌, ◌++◌, Some, None, refl, ap, ap₂, sym, ◌∙◌, inl, inr, append_assoc, arith, append-nil, subst}
 use Rattle.std.proofs.lemmas.Bool.{cases_Bool}
 use Rattle.properties_format.proofs.Encodings.PieceEnds.{none-right}
-use Rattle.properties_format.specs.Text.{line_feed, carriage_return, LineEnding, lf, cr, crlf, line_ending_text}
+use Rattle.properties_format.specs.Text.{line_ending_text}
 use Rattle.properties_format.specs.Encoding.{Encoding}
-use Rattle.properties_format.specs.Lines.{Ended, Lines, end, Line, put_together, AreLines, IsWhole, AreWhole, IsUnfinished, last_group}
-use Rattle.properties_format.specs.Computed.Lines.{lines_of, closes, groups_after}
+use Rattle.properties_format.specs.Lines.{Ended, end, Line, put_together, AreLines, IsWhole, AreWhole, IsUnfinished, last_group}
+use Rattle.properties_format.specs.Computed.Lines.{closes, groups_after}
 use Rattle.properties_format.specs.Body.{HeldLine, AreHeld, as_lines, as_groups, held_in, AreGroupsOf, group_bytes, groups_bytes, last_ending}
 use Rattle.properties_format.specs.Edited.{is_editable}
 use Rattle.properties_format.specs.Computed.Body.{held_of, held_lines_of, held_groups_after, held_groups_of}
-use Rattle.properties_format.proofs.Lines.Only.{lines_of-together}
 use Rattle.properties_format.proofs.Groups.Steps.{groups_after-close, groups_after-leave}
 use Rattle.properties_format.proofs.Groups.Meets.{groups_of-meets}
 use Rattle.properties_format.proofs.Groups.Only.{groups_of-only}
@@ -19,7 +18,6 @@ use Rattle.properties_format.proofs.Cut.Meets.{cut_of-meets}
 use Rattle.properties_format.proofs.Cut.Only.{cut_of-only}
 use Rattle.properties_format.proofs.Cut.Byline.{decoded_line-meets, decoded_line-only}
 use Rattle.properties_format.proofs.Body.Decoded.{IsCut-lines}
-use Rattle.properties_format.proofs.Edited.Fronts.{ended_lines, line_texts_in, line_texts, IsFront}
 
 -- ---- the lines of a body
 
@@ -177,123 +175,20 @@ pub ended-bytes : (e : Encoding) (ls : List Ended) → group_bytes (held_ended e
 ended-bytes e [] = refl
 ended-bytes e (l ∷ ls) = rw (ended-bytes e ls)
 
--- The texts of ended lines, each decoded by itself.
-ended-texts : (e : Encoding) (ls : List Ended) → ended_lines e ls ≡ as_lines (held_ended e ls)
-ended-texts e [] = refl
-ended-texts e (l ∷ ls) = cc (ended-texts e ls)
-
 -- The bytes of all lines of a body are the lines and their ends, put together.
 pub held-bytes : (e : Encoding) (ls : List Ended) (last : List ℕ) → group_bytes (held_of e ls last) ≡ put_together ls last
 held-bytes e [] last = append-nil last
 held-bytes e (l ∷ ls) last = ap (λ v. l.text ++ (line_ending_text l.by ++ v)) (held-bytes e ls last)
-
--- The texts of all lines of a body, each decoded by itself.
-held-texts : (e : Encoding) (ls : List Ended) (last : List ℕ) → line_texts_in e (record { ended = ls; last = last }) ≡ as_lines (held_of e ls last)
-held-texts e [] last = refl
-held-texts e (l ∷ ls) last = cc (held-texts e ls last)
 
 -- The last line of a body has no line ending.
 pub held-last : (e : Encoding) (ls : List Ended) (last : List ℕ) → last_ending (held_of e ls last) ≡ None
 held-last e (l ∷ m ∷ ls) last = held-last e (m ∷ ls) last
 held-last e ls last = refl
 
--- The last of some ended lines has a line ending.
-ended-last : (e : Encoding) (l : Ended) (ls : List Ended) → (by : LineEnding) × (last_ending (held_ended e (l ∷ ls)) ≡ Some by)
-ended-last e l [] = (l.by, refl)
-ended-last e l (m ∷ ls) = ended-last e m ls
-
--- one of these bytes is ASCII
-abbrev pub HasAscii : List ℕ → Type 0
-HasAscii x = (u : List ℕ) × (c : ℕ) × (v : List ℕ) × (x ≡ u ++ c ∷ v) × (c < 0x80)
-
--- Bytes that contain a line ending contain an ASCII byte.
-line-ascii : (text : List ℕ) (by : LineEnding) (y : List ℕ) → HasAscii (text ++ (line_ending_text by ++ y))
-line-ascii text lf y = (text, line_feed, y, refl, lit< tt)
-line-ascii text cr y = (text, carriage_return, y, refl, lit< tt)
-line-ascii text crlf y = (text, carriage_return, line_feed ∷ y, refl, lit< tt)
-
--- ---- the groups one by one
-
--- A group that others follow: its last line has an ending, its bytes are one whole group, and its lines are those of
--- its bytes.
-pub record IsHeldFront (e : Encoding) (g : List HeldLine) : Type 0 where
-  pub front : IsFront e (group_bytes g) (as_lines g)
-  pub by : LineEnding
-  pub ending : last_ending g ≡ Some by
-  pub ascii : HasAscii (group_bytes g)
-  pub lines : List Ended
-  pub held : g ≡ held_ended e lines
-  pub are_lines : AreLines lines []
-
--- The last group: its last line has no ending, it is whole or ends open, and its lines are those of its bytes.
-pub record IsHeldLast (e : Encoding) (g : List HeldLine) : Type 0 where
-  pub texts : line_texts e (group_bytes g) ≡ as_lines g
-  pub fits : IsLastFit g
-  pub ending : last_ending g ≡ None
-  pub lines : Lines
-  pub held : g ≡ held_of e lines.ended lines.last
-  pub are_lines : AreLines lines.ended lines.last
-
--- There is at least one group, and every group is of this kind.
-abbrev pub AreHeldGroups : Encoding → List (List HeldLine) → Type 0
-AreHeldGroups e [] = ⊥
-AreHeldGroups e (g ∷ []) = IsHeldLast e g
-AreHeldGroups e (g ∷ h ∷ gs) = IsHeldFront e g × AreHeldGroups e (h ∷ gs)
-
--- If ended lines of a text are one whole group, it is one that others may follow.
-front-of : (e : Encoding) (ls : List Ended) → AreLines ls [] → IsWhole (as_lines (held_ended e ls)) → IsHeldFront e (held_ended e ls)
-front-of e [] h k = absurd k
-front-of e (l ∷ ls) h k =
-    let same : lines_of (group_bytes (held_ended e (l ∷ ls))) ≡ record { ended = l ∷ ls; last = [] } = rw (ended-bytes e (l ∷ ls)) (lines_of-together (l ∷ ls) [] h) in
-    let a = ended-last e l ls in
-    record {
-      front = record { ended = rw same; texts = rw same (ended-texts e (l ∷ ls)); whole = k };
-      by = a.0;
-      ending = a.1;
-      ascii = line-ascii l.text l.by (group_bytes (held_ended e ls));
-      lines = l ∷ ls;
-      held = refl;
-      are_lines = h;
-    }
-
--- If all lines of a text are one group that is whole or ends open, it is a last group.
-last-of : (e : Encoding) (ls : List Ended) (last : List ℕ) → AreLines ls last → IsLastFit (held_of e ls last) → IsHeldLast e (held_of e ls last)
-unfolding line_texts
-last-of e ls last h k =
-    record {
-      texts = rw (held-bytes e ls last, lines_of-together ls last h) (held-texts e ls last);
-      fits = k;
-      ending = held-last e ls last;
-      lines = record { ended = ls; last = last };
-      held = refl;
-      are_lines = h;
-    }
-
 -- If there is a group and all groups but the last are whole, they have lines.
 pub fit-some : (h : List HeldLine) (gs : List (List HeldLine)) → AreFit (h ∷ gs) → held_in (h ∷ gs) ≢ []
 fit-some (a ∷ h) gs k q = cc
 fit-some h gs k q = grind (arith)
-
--- Groups with all lines of a text, all of them whole except possibly the last, are groups of this kind.
-groups-fit : (e : Encoding) (gs : List (List HeldLine)) (ls : List Ended) (last : List ℕ) → AreLines ls last → held_in gs ≡ held_of e ls last → AreFit gs
-    → AreHeldGroups e gs
-groups-fit e [] [] last h s k = absurd (cc)
-groups-fit e [] (l ∷ ls) last h s k = absurd (cc)
-groups-fit e (g ∷ []) ls last h s k =
-    let q : g ≡ held_of e ls last = sym (append-nil g) ∙ s in
-    subst (IsHeldLast e) (sym q) (last-of e ls last h (rw q at k))
-groups-fit e (g ∷ i ∷ gs) ls last h s k =
-    let c = cut-off e g (held_in (i ∷ gs)) ls last (fit-some i gs k.1) s in
-    let m : AreLines (c.front ++ c.back) last = rw c.all at h in (
-      subst (IsHeldFront e) (sym c.group) (front-of e c.front (lines-front c.front c.back last m) (rw c.group at k.0)),
-      groups-fit e (i ∷ gs) c.back last (lines-back c.front c.back last m) c.others k.1,
-    )
-
--- The groups of a body are of this kind.
-pub held-groups : (e : Encoding) (body : List ℕ) (gs : List (List HeldLine)) → is_editable e ≡ true → AreGroupsOf e body gs → AreHeldGroups e gs
-held-groups e body gs ok h =
-    groups-fit e gs h.cut.ended h.cut.last (IsCut-lines e body h.cut ok h.is_cut).are_lines (held_of-only e h.cut.ended h.cut.last (held_in gs) h.are_held)
-    (fit gs h.grouped.whole h.grouped.unfinished h.grouped.are_groups h.grouped.are_whole h.grouped.is_unfinished)
 
 -- ---- the bytes of all groups
 

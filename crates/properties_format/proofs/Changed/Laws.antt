@@ -1,15 +1,13 @@
 -- What an edited source says: the items of the source with the edit made to what they say.
-use Rattle.std.proofs.Common.{◌≡◌, ℕ, true, List, subst, All}
-use Rattle.properties_format.specs.Text.{scalar}
-use Rattle.properties_format.specs.Encoding.{Encoding, byte_order_mark, Repertoire, all_of}
+use Rattle.std.proofs.Common.{◌≡◌, ℕ, true, List, subst}
+use Rattle.properties_format.specs.Encoding.{Encoding, byte_order_mark, Repertoire}
 use Rattle.properties_format.specs.Lines.{end}
 use Rattle.properties_format.specs.Items.{Content, pair, AreItems, given}
 use Rattle.properties_format.specs.Computed.Items.{items_of}
 use Rattle.properties_format.specs.Computed.Edited.{IsSound}
-use Rattle.properties_format.specs.Edited.{IsKeySet, IsKeyRemoved, is_editable}
-use Rattle.properties_format.specs.Edits.{Edit, put, remove, set_value, IsEdited, IsScalarEdit}
-use Rattle.properties_format.specs.Changed.{contents, IsSetIn, IsRemovedIn, IsEditedIn}
-use Rattle.properties_format.specs.Valued.{IsValueSet}
+use Rattle.properties_format.specs.Edited.{is_editable}
+use Rattle.properties_format.specs.Edits.{Edit, IsEdited, IsScalarEdit}
+use Rattle.properties_format.specs.Changed.{contents, IsEditedIn}
 use Rattle.properties_format.proofs.Changed.Contents.{edit-among}
 use Rattle.properties_format.proofs.Changed.Items.{IsSoundLine, sound-source, source-sound}
 use Rattle.properties_format.proofs.Edits.Lines.{logical_lines_of, edit-each, edit-lines}
@@ -48,19 +46,3 @@ edit-contents t source edit result r k h =
       readable = record { editable = edit-editable t source edit result r.editable h; no_fault = items };
       such = rw ((source-sound t.encoding result items).1, was.1) (edit-among true edit old new changed);
     }
-
--- After a key is set, the last pair with the key has the value, or there is a new last pair if none has the key. All
--- other contents are unchanged.
-pub key_set-contents : (t : Repertoire) (source key value result : List ℕ) → IsReadable t.encoding source → All scalar key → All scalar value
-    → IsKeySet t source key value result → IsReadTo t.encoding result (IsSetIn key value (source_contents t.encoding source))
-key_set-contents t source key value result r k v h = edit-contents t source (put key value) result r (k, v) h
-
--- After a key is removed, the pairs with the key are gone. All other contents are unchanged.
-pub key_removed-contents : (e : Encoding) (source key result : List ℕ) → IsReadable e source → IsKeyRemoved e source key result
-    → IsReadTo e result (IsRemovedIn key (source_contents e source))
-key_removed-contents e source key result r h = edit-contents (all_of e) source (remove key) result r tt h
-
--- After a value is set, the contents are those that setting the key gives.
-pub value_set-contents : (t : Repertoire) (source key value result : List ℕ) → IsReadable t.encoding source → All scalar key → All scalar value
-    → IsValueSet t source key value result → IsReadTo t.encoding result (IsSetIn key value (source_contents t.encoding source))
-value_set-contents t source key value result r k v h = edit-contents t source (set_value key value) result r (k, v) h

@@ -1,23 +1,20 @@
 -- The logical lines of an edited body, given those of the body, whatever they are.
-use Rattle.std.proofs.Common.{◌≡◌, ◌⊎◌, ℕ, ◌&&◌, not, true, false, List, [], ◌∷◌, ◌++◌, refl, ap, sym, ◌∙◌, inl, inr, append-nil, arith}
-use Rattle.std.proofs.lemmas.Bool.{cases_Bool}
-use Rattle.properties_format.specs.Encoding.{Encoding, begins_like_bom}
-use Rattle.properties_format.specs.Lines.{end, Line, EndsClosed, AreOpen, IsWhole, joined}
-use Rattle.properties_format.specs.Computed.Lines.{ends_in_cr, groups_of}
-use Rattle.properties_format.specs.Items.{pair, Outcome, given}
+use Rattle.std.proofs.Common.{◌≡◌, ℕ, true, false, List, [], ◌∷◌, ◌++◌, refl, sym, ◌∙◌, inl, inr, append-nil, arith}
+use Rattle.properties_format.specs.Lines.{Line, EndsClosed, AreOpen, IsWhole, joined}
+use Rattle.properties_format.specs.Computed.Lines.{ends_in_cr}
+use Rattle.properties_format.specs.Items.{pair, given}
 use Rattle.properties_format.specs.Computed.Items.{outcome_of}
-use Rattle.properties_format.specs.Body.{HeldLine, as_lines, as_groups, group_bytes, groups_bytes, HasKey, NoneHasKey}
-use Rattle.properties_format.specs.Edited.{is_last_open, is_left_open, IsWithout, guarding_lf}
+use Rattle.properties_format.specs.Body.{HeldLine, as_lines, as_groups, HasKey, NoneHasKey}
+use Rattle.properties_format.specs.Edited.{is_last_open, is_left_open}
 use Rattle.properties_format.specs.Valued.{HasPair}
-use Rattle.properties_format.specs.Changed.{line_before, IsPairWith, NoneIsPair, AreLinesSet, AreLeft}
+use Rattle.properties_format.specs.Changed.{NoneIsPair, AreLinesSet}
 use Rattle.properties_format.proofs.Lines.Plain.{ends_in_cr-append}
 use Rattle.properties_format.proofs.Groups.Steps.{closes-closed}
 use Rattle.properties_format.proofs.Groups.Meets.{close-whole}
-use Rattle.properties_format.proofs.Groups.Only.{groups_of-before, groups_of-unfinished}
 use Rattle.properties_format.proofs.Groups.Joined.{joined-push}
 use Rattle.properties_format.proofs.Items.Unique.{outcome_of-only}
-use Rattle.properties_format.proofs.Edited.Fronts.{with_line, logical_lines, logical_lines_in, lines-front, lines-lf, lines-nil, lines-one}
-use Rattle.properties_format.proofs.Body.Groups.{EndsOpen, IsLastFit, IsHeldLast, AreHeldGroups}
+use Rattle.properties_format.proofs.Edited.Fronts.{with_line, logical_lines}
+use Rattle.properties_format.proofs.Body.Groups.{EndsOpen, IsLastFit}
 
 -- ---- which last groups are left open
 
@@ -58,26 +55,9 @@ closed-by_empty (l ∷ ls) h =
 
 -- ---- groups
 
--- Lines that are a whole group, or one that ends open, have that group as their only group at the end of the input.
-fit-group : (x : List Line) → IsWhole x ⊎ EndsOpen x → groups_of x end ≡ x ∷ []
-fit-group [] (inl h) = absurd h
-fit-group [] (inr h) = absurd h
-fit-group (l ∷ ls) (inl h) = rw append-nil at (groups_of-before (l ∷ ls) [] end h)
-fit-group (l ∷ ls) (inr h) = groups_of-unfinished (l ∷ ls) end h
-
 -- The outcome of a group with the key is a pair with it.
 pub key-outcome : (key : List ℕ) (g : List HeldLine) → HasKey key g → (old : List ℕ) × (outcome_of (joined (as_lines g)) ≡ given (pair key old))
 key-outcome key g (old, h) = (old, sym (outcome_of-only (joined (as_lines g)) (given (pair key old)) h))
-
--- The logical line of a last group.
-lines-last : (e : Encoding) (g : List HeldLine) → IsHeldLast e g → logical_lines_in e (group_bytes g) ≡ with_line (joined (as_lines g)) []
-lines-last e g h = lines-one e (group_bytes g) (as_lines g) h.texts (fit-group (as_lines g) h.fits)
-
--- The logical lines of a body are those of its groups.
-pub lines-held : (e : Encoding) (gs : List (List HeldLine)) → AreHeldGroups e gs → logical_lines_in e (groups_bytes gs) ≡ logical_lines (as_groups gs)
-lines-held e [] h = absurd h
-lines-held e (g ∷ []) h = ap (logical_lines_in e) (append-nil (group_bytes g)) ∙ lines-last e g h
-lines-held e (g ∷ i ∷ gs) h = rw (lines-front e (group_bytes g) (groups_bytes (i ∷ gs)) (as_lines g) h.0.front, lines-held e (i ∷ gs) h.1)
 
 -- The logical lines of two lists of groups.
 pub lines-append : (gs hs : List (List HeldLine)) → logical_lines (as_groups (gs ++ hs)) ≡ logical_lines (as_groups gs) ++ logical_lines (as_groups hs)
@@ -107,29 +87,3 @@ pair-lines before g h after key value k n p = inl (record {
   now = rw (lines-append, lines-pair key h (logical_lines (as_groups after)) (value, p));
   has_value = p;
 })
-
--- ---- removing a key
-
--- A group without the key stays.
-kept-lines : (key : List ℕ) (o : Outcome) (x : List ℕ) (xs left : List (List ℕ)) → ¬ (IsPairWith key x) → AreLeft (IsPairWith key) xs left
-    → AreLeft (IsPairWith key) (line_before o x xs) (line_before o x left)
-kept-lines key o x xs left n h = grind (arith)
-
--- The logical lines of the groups without the key are what is left of the lines.
-left-lines : (e : Encoding) (key : List ℕ) (gs : List (List HeldLine)) (rest : List ℕ) → AreHeldGroups e gs → IsWithout key gs rest
-    → AreLeft (IsPairWith key) (logical_lines (as_groups gs)) (logical_lines_in e rest)
-left-lines e key [] rest h w = absurd h
-left-lines e key (g ∷ []) rest h (inl w) = rw (w.1, lines-nil e, lines-pair key g [] w.0) (inl (w.0, refl))
-left-lines e key (g ∷ []) rest h (inr w) =
-    rw (w.2, w.3, append-nil, lines-last e g h) (kept-lines key (outcome_of (joined (as_lines g))) (joined (as_lines g)) [] [] w.0 refl)
-left-lines e key (g ∷ i ∷ gs) rest h (inl w) = rw (lines-pair key g _ w.0) (inl (w.0, left-lines e key (i ∷ gs) rest h.1 w.1))
-left-lines e key (g ∷ i ∷ gs) rest h (inr w) =
-    rw (w.2, lines-front e (group_bytes g) w.1 (as_lines g) h.0.front) (search (kept-lines, w.0, left-lines e key (i ∷ gs) w.1 h.1 w.3))
-
--- A body without the groups with the key has the same logical lines, without the pairs with the key.
-pub removed-lines : (e : Encoding) (source key : List ℕ) (gs : List (List HeldLine)) (rest : List ℕ) → AreHeldGroups e gs → IsWithout key gs rest
-    → AreLeft (IsPairWith key) (logical_lines (as_groups gs)) (logical_lines_in e (guarding_lf source rest ++ rest))
-removed-lines e source key gs rest h w = elim (cases_Bool (not (begins_like_bom source) && begins_like_bom rest)) [
-  | inl k ↦ rw (k, lines-lf e rest) (left-lines e key gs rest h w)
-  | inr k ↦ rw k (left-lines e key gs rest h w)
-]

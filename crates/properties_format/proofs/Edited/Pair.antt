@@ -38,8 +38,12 @@ pair-writable r first key value h k =
     let va = printed_characters r in_key_or_value value in
     writable-append r.encoding (printed_key r first key) (equals_sign ∷ va)
     (record { scalars = key-scalars r first key (recursion_from_All scalar key h); encodable = printed_key-encodable r first key })
-    (writable-append r.encoding (equals_sign ∷ []) va (record { scalars = ascii-scalars (equals_sign ∷ []) (lit< tt, tt); encodable = AreEncodable-ascii r.encoding (equals_sign ∷ []) (lit< tt, tt) })
-    (record { scalars = printed_characters-scalars r in_key_or_value value (recursion_from_All scalar value k); encodable = printed_characters-encodable r in_key_or_value value }))
+    (writable-append r.encoding (equals_sign ∷ []) va
+    (record { scalars = ascii-scalars (equals_sign ∷ []) (lit< tt, tt); encodable = AreEncodable-ascii r.encoding (equals_sign ∷ []) (lit< tt, tt) })
+    (record {
+      scalars = printed_characters-scalars r in_key_or_value value (recursion_from_All scalar value k);
+      encodable = printed_characters-encodable r in_key_or_value value;
+    }))
 
 -- An encoding that can be edited can be written.
 pub editable-own : (e : Encoding) → is_editable e ≡ true → output_encoding e ≡ e

@@ -1,16 +1,15 @@
 -- The computed result of an editor is a result of that edit, and the only one.
 use Rattle.std.proofs.Common.{◌≡◌, ℕ, ◌+◌, length, true, List, [], ◌∷◌, refl, inl, inr, arith, ap, length-append, ◌++◌}
 use Rattle.std.proofs.lemmas.Bool.{cases_Bool}
-use Rattle.properties_format.specs.Encoding.{Encoding, byte_order_mark, Repertoire}
+use Rattle.properties_format.specs.Encoding.{Encoding, byte_order_mark}
 use Rattle.properties_format.specs.Lines.{end}
 use Rattle.properties_format.specs.Escapes.{Malformed}
 use Rattle.properties_format.specs.Items.{Entry, item, malformed, AreItems}
 use Rattle.properties_format.specs.Body.{HeldLine, held_in}
 use Rattle.properties_format.specs.Computed.Items.{items_of}
-use Rattle.properties_format.specs.Edited.{EditResult, edited, unsupported, unreadable, is_editable, IsFirstMalformed, IsEditResult, IsSetKeyResult, IsRemoveKeyResult}
+use Rattle.properties_format.specs.Edited.{EditResult, edited, unsupported, unreadable, is_editable, IsFirstMalformed, IsEditResult}
 use Rattle.properties_format.proofs.Items.Unique.{items_of-meets, items_of-only}
 use Rattle.properties_format.proofs.Body.Numbers.{items_of-groups, entries_in}
-use Rattle.properties_format.proofs.Edited.Made.{key_set-meets, key_set-only, key_removed-only, key_set, key_removed}
 use Rattle.std.specs.Prelude.{if◌then◌else◌}
 
 -- ---- the computed result
@@ -81,21 +80,6 @@ result_of-only e source made Makes (edited result) one (ok, items, h) =
 result_of-only e source made Makes unsupported one h = rw h
 result_of-only e source made Makes (unreadable kind n) one (ok, items) =
     rw (ok, result_by-unreadable (items_of e source end) made kind n (rw (items_of-only e source end items.0 items.1) at items.2))
-
--- What is computed is a result of setting a key.
-pub set_key_result-meets : (r : Repertoire) (source key value : List ℕ)
-    → IsSetKeyResult r source key value (result_of r.encoding source (key_set r source key value))
-set_key_result-meets r source key value = result_of-meets r.encoding source _ _ (λ ok. key_set-meets r source key value)
-
--- No other result is one of setting a key.
-pub set_key_result-only : (t : Repertoire) (source key value : List ℕ) (r : EditResult) → IsSetKeyResult t source key value r
-    → r ≡ result_of t.encoding source (key_set t source key value)
-set_key_result-only t source key value r h = result_of-only t.encoding source _ _ r (λ ok. key_set-only t source key value) h
-
--- No other result is one of removing a key.
-pub remove_key_result-only : (e : Encoding) (source key : List ℕ) (r : EditResult) → IsRemoveKeyResult e source key r
-    → r ≡ result_of e source (key_removed e source key)
-remove_key_result-only e source key r h = result_of-only e source _ _ r (λ ok. key_removed-only e source key) h
 
 -- ---- groups before others
 

@@ -94,4 +94,5 @@ pair-read x key value h = inr (λ kind b. cc (outcome_of-only x (given (pair key
 pub edits-in_comments : (r : Repertoire) (source : List ℕ) (edits : List Edit) (result : List ℕ) → AreScalarEdits edits
     → IsEditPairsResult r source edits (edited result) → EscapesAre r.encoding result AreInComments
 edits-in_comments r source edits result k h =
-    read-source r.encoding result (edits-each IsNoMalformedPair pair-read edits _ _ (edits-lines r source edits result h.0 k h.2) (source-read r.encoding source h.1))
+    read-source r.encoding result (edits-each IsNoMalformedPair pair-read edits _ _ (edits-lines r source edits result h.0 k h.2)
+    (source-read r.encoding source h.1))

@@ -9,8 +9,8 @@ use Rattle.properties_format.specs.Computed.Encoding.{pieces_of, decoded_of}
 use Rattle.properties_format.specs.Computed.Items.{items_of}
 use Rattle.properties_format.specs.Printing.{encoded_text}
 use Rattle.properties_format.specs.Body.{HeldLine, AreGroupsOf, held_in, ending_bytes, group_bytes, groups_bytes, last_ending}
-use Rattle.properties_format.specs.Edited.{is_empty_line, is_left_open, bom_of, IsReplaced, IsAppended, IsKeySet, IsWithout, guarding_lf, IsKeyRemoved, is_editable, edited, IsSetKeyResult, separation_by}
-use Rattle.properties_format.specs.Valued.{ending_among, ending_in, IsBodyValued, IsValueSet, IsSetValueResult}
+use Rattle.properties_format.specs.Edited.{is_empty_line, is_left_open, bom_of, IsReplaced, IsAppended, IsWithout, guarding_lf, is_editable, edited, IsEditResult, separation_by}
+use Rattle.properties_format.specs.Valued.{ending_among, ending_in, IsBodyValued}
 use Rattle.properties_format.specs.Edits.{Edit, put, remove, set_value, IsEdited, AreEdited, IsEditAllResult, IsEditPairsResult}
 use Rattle.properties_format.specs.AsciiOnly.{AreAsciiBytes, AreItemsInBoth, beyond_ascii, IsSubsequence, PutsInAscii, IsInAscii}
 use Rattle.properties_format.proofs.Encodings.ByteOrderMarks.{decoded_of-unmarked}
@@ -127,6 +127,15 @@ separation_by-ascii ending g one =
     cond_both (is_empty_line g) [] (cond (is_left_open g) (ending ++ ending) ending) AreAscii (λ k. tt)
     (λ k. cond_both (is_left_open g) (ending ++ ending) ending AreAscii (λ m. AreAscii-append ending ending one one) (λ m. one))
 
+-- A key is set.
+put-puts : (e : Encoding) (source : List ℕ) (gs : List (List HeldLine)) (key value body : List ℕ)
+    → IsReplaced (ascii_in e) gs key value body ⊎ IsAppended (ascii_in e) source gs key value body → PutsInAscii (groups_bytes gs) body
+put-puts e source gs key value body (inl r) =
+    rw (r.division, groups_bytes-append r.before _, r.bytes) (puts-after (groups_bytes r.before) _ _ (search (puts-tail, pair_bytes-ascii)))
+put-puts e source gs key value body (inr r) =
+    rw (r.bytes, append_assoc)
+    (more-puts (groups_bytes gs) _ (search (AreAscii-append, separation_by-ascii, line_ending-ascii, line_ending-ascii lf, pair_bytes-ascii)))
+
 -- A value is set.
 valued-puts : (e : Encoding) (gs : List (List HeldLine)) (key value body : List ℕ) → IsBodyValued (ascii_in e) gs key value body
     → PutsInAscii (groups_bytes gs) body
@@ -136,8 +145,9 @@ valued-puts e gs key value body (inr (inl r)) =
     (puts-after (groups_bytes r.before) _ _ (puts-after r.front _ _ (search (puts-tail, encoded-in_ascii, value_text-ascii))))
 valued-puts e gs key value body (inr (inr r)) =
     let one : AreAscii (ending_in gs) = line_ending-ascii (ending_among lf (held_in gs)) in
+    let good = (new_separator-fit gs key r.separator r.is_separator).good in
     rw (r.bytes, append_assoc)
-    (more-puts (groups_bytes gs) _ (search (AreAscii-append, separation_by-ascii, new_pair_bytes-ascii, one, (new_separator-fit gs key r.separator r.is_separator).good)))
+    (more-puts (groups_bytes gs) _ (search (AreAscii-append, separation_by-ascii, new_pair_bytes-ascii, one, good)))
 
 -- Groups are left out.
 without-puts : (key : List ℕ) (gs : List (List HeldLine)) (rest : List ℕ) → IsWithout key gs rest → PutsInAscii (groups_bytes gs) rest
@@ -147,41 +157,19 @@ without-puts key (g ∷ gs) rest (inr h) = rw h.2 (puts-after (group_bytes g) (g
 
 -- ---- an edit of a source
 
-module _ (e : Encoding) (source : List ℕ) (ok : is_editable (byte_order_mark e source).encoding ≡ true) where
-  -- A key that is set puts in ASCII only.
-  pub key_set-puts : (key value result : List ℕ) → IsKeySet (ascii_in e) source key value result → PutsInAscii source result
-  key_set-puts key value result h = whole-puts e source h.body result h.groups ok h.held (set-puts h.edited) h.whole
-    where
-      f : Encoding
-      f = (byte_order_mark e source).encoding
-
-      set-puts : IsReplaced (ascii_in f) h.groups key value h.body ⊎ IsAppended (ascii_in f) source h.groups key value h.body
-          → PutsInAscii (groups_bytes h.groups) h.body
-      set-puts (inl r) =
-          rw (r.division, groups_bytes-append r.before _, r.bytes) (puts-after (groups_bytes r.before) _ _ (search (puts-tail, pair_bytes-ascii)))
-      set-puts (inr r) =
-          rw (r.bytes, append_assoc)
-          (more-puts (groups_bytes h.groups) _ (search (AreAscii-append, separation_by-ascii, line_ending-ascii, line_ending-ascii lf, pair_bytes-ascii)))
-
-  -- A key that is removed puts in an LF at most.
-  pub key_removed-puts : (key result : List ℕ) → IsKeyRemoved e source key result → PutsInAscii source result
-  key_removed-puts key result h =
-      whole-puts e source (guarding_lf source h.rest ++ h.rest) result h.groups ok h.held
-      (puts-in (guarding_lf source h.rest) (groups_bytes h.groups) h.rest
-      (cond_both (not (begins_like_bom source) && begins_like_bom h.rest) (line_feed ∷ []) [] AreAscii (λ k. (lit< tt, tt)) (λ k. tt))
-      (without-puts key h.groups h.rest h.without))
-      h.whole
-
-  -- A value that is set puts in ASCII only.
-  pub value_set-puts : (key value result : List ℕ) → IsValueSet (ascii_in e) source key value result → PutsInAscii source result
-  value_set-puts key value result h =
-      whole-puts e source h.body result h.groups ok h.held (valued-puts (byte_order_mark e source).encoding h.groups key value h.body h.edited) h.whole
-
-  -- So does each edit,
-  pub edit-puts : (edit : Edit) (result : List ℕ) → IsEdited (ascii_in e) source edit result → PutsInAscii source result
-  edit-puts (put key value) result h = key_set-puts key value result h
-  edit-puts (remove key) result h = key_removed-puts key result h
-  edit-puts (set_value key value) result h = value_set-puts key value result h
+-- Each edit puts in ASCII only: a pair, a value, or an LF at most,
+pub edit-puts : (e : Encoding) (source : List ℕ) → is_editable (byte_order_mark e source).encoding ≡ true → (edit : Edit) (result : List ℕ)
+    → IsEdited (ascii_in e) source edit result → PutsInAscii source result
+edit-puts e source ok (put key value) result h =
+    whole-puts e source h.body result h.groups ok h.held (put-puts (byte_order_mark e source).encoding source h.groups key value h.body h.edited) h.whole
+edit-puts e source ok (remove key) result h =
+    whole-puts e source (guarding_lf source h.rest ++ h.rest) result h.groups ok h.held
+    (puts-in (guarding_lf source h.rest) (groups_bytes h.groups) h.rest
+    (cond_both (not (begins_like_bom source) && begins_like_bom h.rest) (line_feed ∷ []) [] AreAscii (λ k. (lit< tt, tt)) (λ k. tt))
+    (without-puts key h.groups h.rest h.without))
+    h.whole
+edit-puts e source ok (set_value key value) result h =
+    whole-puts e source h.body result h.groups ok h.held (valued-puts (byte_order_mark e source).encoding h.groups key value h.body h.edited) h.whole
 
 -- and each list of edits.
 pub edits-puts : (e : Encoding) (source : List ℕ) (edits : List Edit) (result : List ℕ) → is_editable (byte_order_mark e source).encoding ≡ true
@@ -219,15 +207,10 @@ puts-in_ascii source result h = record {
   alike = λ k. (items_of utf_8 result end, ascii-alike result (puts-ascii_bytes source result h k));
 }
 
--- It holds for each result of setting a key,
-pub set_key-in_ascii : (e : Encoding) (source key value result : List ℕ) → IsSetKeyResult (ascii_in e) source key value (edited result)
-    → IsInAscii source result
-set_key-in_ascii e source key value result h = puts-in_ascii source result (key_set-puts e source h.0 key value result h.2)
-
--- of setting a value,
-pub set_value-in_ascii : (e : Encoding) (source key value result : List ℕ) → IsSetValueResult (ascii_in e) source key value (edited result)
-    → IsInAscii source result
-set_value-in_ascii e source key value result h = puts-in_ascii source result (value_set-puts e source h.0 key value result h.2)
+-- It holds for each result of an edit,
+pub edit-in_ascii : (e : Encoding) (source : List ℕ) (edit : Edit) (result : List ℕ)
+    → IsEditResult e source (IsEdited (ascii_in e) source edit) (edited result) → IsInAscii source result
+edit-in_ascii e source edit result h = puts-in_ascii source result (edit-puts e source h.0 edit result h.2)
 
 -- of a list of edits,
 pub edit_all-in_ascii : (e : Encoding) (source : List ℕ) (edits : List Edit) (result : List ℕ) → IsEditAllResult (ascii_in e) source edits (edited result)

@@ -1,24 +1,23 @@
 -- The logical lines of a source after edits in turn. Nothing is asked of the lines: any of them may be malformed.
-use Rattle.std.proofs.Common.{◌≡◌, ℕ, true, List, [], ◌∷◌, ◌++◌, ap, sym, inl, inr, subst, All}
-use Rattle.properties_format.specs.Text.{scalar}
+use Rattle.std.proofs.Common.{◌≡◌, ℕ, true, List, [], ◌∷◌, ◌++◌, ap, sym, inl, inr, subst}
 use Rattle.properties_format.specs.Encoding.{Encoding, InForce, byte_order_mark, Repertoire, in_encoding}
 use Rattle.properties_format.specs.Items.{pair, given, IsOutcome}
-use Rattle.properties_format.specs.Body.{as_groups}
-use Rattle.properties_format.specs.Edited.{IsKeySet, IsKeyRemoved, guarding_lf, is_editable}
+use Rattle.properties_format.specs.Body.{HeldLine, as_groups}
+use Rattle.properties_format.specs.Edited.{is_editable}
 use Rattle.properties_format.specs.Edits.{Edit, put, remove, set_value, IsEdited, AreEdited, IsScalarEdit, AreScalarEdits}
-use Rattle.properties_format.specs.Valued.{IsValueSet}
+use Rattle.properties_format.specs.Plan.{at_last, put_change, value_change}
 use Rattle.properties_format.specs.Changed.{AreLogicalLines, AreLinesSet, AreLeft, AreLinesEdited, AreLinesEditedInTurn, IsPairWith}
 use Rattle.properties_format.specs.Computed.Body.{held_groups_of}
-use Rattle.properties_format.specs.Computed.Edited.{last_place}
-use Rattle.properties_format.proofs.Body.Groups.{held-groups, held-body, held_groups_of-meets, held_groups_of-only}
-use Rattle.properties_format.proofs.Edited.ByteOrderMarks.{key_removed-in_force}
-use Rattle.properties_format.proofs.Edited.Made.{key_set-only, last_place-meets}
-use Rattle.properties_format.proofs.Edited.Put.{ends-alike, put-lines, put-in_force}
+use Rattle.properties_format.proofs.Body.Groups.{held_groups_of-only}
 use Rattle.properties_format.proofs.Edited.Fronts.{logical_lines, logical_lines-only}
-use Rattle.properties_format.proofs.Edited.LogicalLines.{lines-held, removed-lines}
 use Rattle.properties_format.proofs.Edits.Results.{edit-editable}
-use Rattle.properties_format.proofs.Valued.Groups.{body-valued}
-use Rattle.properties_format.proofs.Valued.Marks.{value_set-in_force}
+use Rattle.properties_format.proofs.Plan.Made.{key_set-is_planned, key_removed-is_planned, value_set-is_planned}
+use Rattle.properties_format.proofs.Plan.Slots.{own-slots}
+use Rattle.properties_format.proofs.Plan.Last.{at_last-meets}
+use Rattle.properties_format.proofs.Plan.Added.{groups_put}
+use Rattle.properties_format.proofs.Plan.NewValues.{groups_valued}
+use Rattle.properties_format.proofs.Plan.Listed.{AreSlotsIn, groups_removed, slots-key_set, slots-key_removed, slots-value_set}
+use Rattle.properties_format.proofs.Plan.Lines.{lines_of, slots-lines, put-lines, valued-lines, removed-lines, guarded-lines}
 
 -- ---- the logical lines of a source
 
@@ -35,43 +34,49 @@ pub logical_lines_of-only : (e : Encoding) (source : List ℕ) (xs : List (List 
 logical_lines_of-only e source xs h =
     let f = byte_order_mark e source in rw (logical_lines-only (as_groups h.groups) xs h.are, held_groups_of-only f.encoding f.body h.groups h.held)
 
+-- They are those of the groups that stand for its body.
+source-lines : (e : Encoding) (source : List ℕ) (gs : List (List HeldLine)) → is_editable (byte_order_mark e source).encoding ≡ true → AreSlotsIn e source gs
+    → logical_lines_of e source ≡ lines_of gs
+source-lines e source gs ok s = let f = byte_order_mark e source in slots-lines f.encoding f.body gs ok s
+
 -- ---- one edit
 
--- After a key is set, the last pair with it is another line, or there is a new last one.
-key_set-lines : (r : Repertoire) (source key value result : List ℕ) → is_editable (byte_order_mark r.encoding source).encoding ≡ true → All scalar key
-    → All scalar value → IsKeySet r source key value result → AreLinesSet key value (logical_lines_of r.encoding source) (logical_lines_of r.encoding result)
-key_set-lines r source key value result ok k v h =
-    let f = byte_order_mark r.encoding source in
-    let gs = held_groups_of f.encoding f.body in
-    rw (key_set-only r source key value result h, put-in_force r source key value ok)
-    (put-lines (in_encoding r f.encoding) source key value f.body ok k v (ends-alike r.encoding source) (last_place key gs) (last_place-meets key gs))
+module _ (r : Repertoire) (source : List ℕ) (ok : is_editable (byte_order_mark r.encoding source).encoding ≡ true) (result : List ℕ)
+    (yes : is_editable (byte_order_mark r.encoding result).encoding ≡ true) where
+  abbrev f : InForce
+  f = byte_order_mark r.encoding source
 
--- After a key is removed, the pairs with it are gone.
-key_removed-lines : (e : Encoding) (source key result : List ℕ) → is_editable (byte_order_mark e source).encoding ≡ true → IsKeyRemoved e source key result
-    → AreLeft (IsPairWith key) (logical_lines_of e source) (logical_lines_of e result)
-key_removed-lines e source key result ok h =
-    let f = byte_order_mark e source in
-    let body = guarding_lf source h.rest ++ h.rest in
-    let are = held_groups_of-meets f.encoding body in
-    let new = lines-held f.encoding _ (held-groups f.encoding body _ ok are) in
-    rw (key_removed-in_force e source key result ok h, ← new, held-body f.encoding body _ ok are, ← held_groups_of-only f.encoding f.body h.groups h.held)
-    (removed-lines f.encoding source key h.groups h.rest (held-groups f.encoding f.body h.groups ok h.held) h.without)
+  abbrev t : Repertoire
+  t = in_encoding r f.encoding
 
--- After a value is set, the last pair with its key is another line, or there is a new last one.
-value_set-lines : (r : Repertoire) (source key value result : List ℕ) → is_editable (byte_order_mark r.encoding source).encoding ≡ true → All scalar key
-    → All scalar value → IsValueSet r source key value result → AreLinesSet key value (logical_lines_of r.encoding source) (logical_lines_of r.encoding result)
-value_set-lines r source key value result ok k v h =
-    let f = byte_order_mark r.encoding source in
-    let m = body-valued (in_encoding r f.encoding) f.body h.groups key value h.body ok k v h.held h.edited in
-    let old = held_groups_of-only f.encoding f.body h.groups h.held in
-    rw (value_set-in_force r source key value result ok h, ← held_groups_of-only f.encoding h.body m.groups m.held, ← old) m.lines_set
+  abbrev gs : List (List HeldLine)
+  gs = held_groups_of f.encoding f.body
+
+  own : AreSlotsIn r.encoding source gs
+  own = own-slots f.encoding f.body ok
+
+  -- The groups that stand for the result have the lines after the edit.
+  lines-after : (edit : Edit) → IsScalarEdit edit → IsEdited r source edit result
+      → AreLinesEdited edit (logical_lines_of r.encoding source) (logical_lines_of r.encoding result)
+  lines-after (put key value) (k, v) h =
+      let s = rw (← (key_set-is_planned r source key value result ok).0 h) at (slots-key_set r source key value gs ok k v own) in
+      let p = at_last key (put_change t key value) true gs in
+      rw (source-lines r.encoding result (groups_put t source key value gs p) yes s)
+      (put-lines t source key value gs ok k v own.turn p (at_last-meets key (put_change t key value) true gs))
+  lines-after (remove key) k h =
+      let s = rw (← (key_removed-is_planned r.encoding source key result).0 h) at (slots-key_removed r.encoding source key gs ok own) in
+      rw (source-lines r.encoding result (groups_removed f.encoding source key gs) yes s, guarded-lines)
+      (removed-lines f.encoding key gs own.turn)
+  lines-after (set_value key value) (k, v) h =
+      let s = rw (← (value_set-is_planned r source key value result ok).0 h) at (slots-value_set r source key value gs ok k v own) in
+      let p = at_last key (value_change t value) true gs in
+      rw (source-lines r.encoding result (groups_valued t gs key value gs p) yes s)
+      (valued-lines t gs key value ok k v own.turn p (at_last-meets key (value_change t value) true gs))
 
 -- After an edit, the logical lines are those of the source after the same edit.
 pub edit-lines : (r : Repertoire) (source : List ℕ) (edit : Edit) (result : List ℕ) → is_editable (byte_order_mark r.encoding source).encoding ≡ true
     → IsScalarEdit edit → IsEdited r source edit result → AreLinesEdited edit (logical_lines_of r.encoding source) (logical_lines_of r.encoding result)
-edit-lines r source (put key value) result ok k h = key_set-lines r source key value result ok k.0 k.1 h
-edit-lines r source (remove key) result ok k h = key_removed-lines r.encoding source key result ok h
-edit-lines r source (set_value key value) result ok k h = value_set-lines r source key value result ok k.0 k.1 h
+edit-lines r source edit result ok k h = lines-after r source ok result (edit-editable r source edit result ok h) edit k h
 
 -- ---- edits in turn
 

@@ -1,5 +1,5 @@
 -- Edits that ask nothing of comments: each source has one result, which is that of `edit_all` wherever that edits it.
-use Rattle.std.proofs.Common.{◌≡◌, ℕ, true, List, [], ◌∷◌, refl, sym, ◌∙◌, inl, inr, subst, arith}
+use Rattle.std.proofs.Common.{◌≡◌, ℕ, true, List, [], ◌∷◌, refl, inl, inr, arith}
 use Rattle.std.specs.Prelude.{if◌then◌else◌}
 use Rattle.std.proofs.lemmas.Bool.{cases_Bool, cond-true}
 use Rattle.properties_format.specs.Encoding.{Encoding, byte_order_mark, Repertoire}
@@ -12,10 +12,12 @@ use Rattle.properties_format.specs.Found.{MalformedEscape}
 use Rattle.properties_format.specs.Computed.Items.{entries_of, items_of}
 use Rattle.properties_format.specs.Computed.Found.{escapes_in}
 use Rattle.properties_format.specs.Edited.{EditResult, edited, unsupported, unreadable, is_editable}
-use Rattle.properties_format.specs.Edits.{Edit, IsEditAllResult, AreInComments, AreInPairs, EscapesAre, IsFirstInPair, IsPairsResult, IsEditPairsResult}
+use Rattle.properties_format.specs.Edits.{Edit, AreInComments, AreInPairs, EscapesAre, IsFirstInPair, IsPairsResult, IsEditPairsResult}
 use Rattle.properties_format.specs.EditLaws.{PassingOverIsReading}
 use Rattle.properties_format.proofs.MalformedEscapes.{malformed_escapes_of-meets, malformed_escapes_of-only, malformed_escapes_of}
-use Rattle.properties_format.proofs.Edits.Results.{edit_all_result-meets, edit_all_result-only, edits_made-meets, edits_made-only, edits_made}
+use Rattle.properties_format.specs.Laws.{HasOne}
+use Rattle.properties_format.proofs.Laws.{one}
+use Rattle.properties_format.proofs.Edits.Results.{same-results, edit_all_result, edits_made-meets, edits_made-only, edits_made}
 use Rattle.properties_format.proofs.Edited.Results.{result_by, result_of}
 
 -- the result, given the malformed escapes of the source: the first that is in a pair, or these bytes if none is
@@ -72,14 +74,11 @@ pairs_result_of-only e source made Makes unsupported one h = rw h
 pairs_result_of-only e source made Makes (unreadable kind n) one (ok, found) =
     rw (ok, by-unreadable (malformed_escapes_of e source) made kind n (rw (malformed_escapes_of-only e source found.0 found.1) at found.2))
 
--- Edits in turn have a result, and no other.
-pub edit_pairs_result-meets : (r : Repertoire) (source : List ℕ) (edits : List Edit)
-    → IsEditPairsResult r source edits (pairs_result_of r.encoding source (edits_made r source edits))
-edit_pairs_result-meets r source edits = pairs_result_of-meets r.encoding source _ _ (edits_made-meets r source edits)
-
-pub edit_pairs_result-only : (t : Repertoire) (source : List ℕ) (edits : List Edit) (r : EditResult) → IsEditPairsResult t source edits r
-    → r ≡ pairs_result_of t.encoding source (edits_made t source edits)
-edit_pairs_result-only t source edits r h = pairs_result_of-only t.encoding source _ _ r (λ ok result m. edits_made-only t source edits result ok m) h
+-- Edits in turn have one result.
+abbrev pub edit_pairs_result : (r : Repertoire) (source : List ℕ) (edits : List Edit) → HasOne (IsEditPairsResult r source edits)
+edit_pairs_result r source edits =
+    one (pairs_result_of r.encoding source (edits_made r source edits)) (pairs_result_of-meets r.encoding source _ _ (edits_made-meets r source edits))
+    (λ other h. pairs_result_of-only r.encoding source _ _ other (λ ok result. edits_made-only r source edits result ok) h)
 
 -- ---- sources without malformed escapes in comments
 
@@ -97,11 +96,8 @@ same-results_of e source made h =
 -- The results of such a source are the same as if its comments were read.
 pub passing_over-is_reading : (r : Repertoire) (source : List ℕ) (edits : List Edit) → PassingOverIsReading r source edits
 passing_over-is_reading r source edits h result =
-    let made = edits_made r source edits in
-    let same : pairs_result_of r.encoding source made ≡ result_of r.encoding source made = same-results_of r.encoding source made h in (
-      (λ k. subst (IsEditAllResult r source edits) (sym (edit_pairs_result-only r source edits result k ∙ same)) (edit_all_result-meets r source edits)),
-      (λ k. subst (IsEditPairsResult r source edits) (sym (edit_all_result-only r source edits result k ∙ sym same)) (edit_pairs_result-meets r source edits)),
-    )
+    same-results _ _ (edit_pairs_result r source edits) (edit_all_result r source edits)
+    (same-results_of r.encoding source (edits_made r source edits) h) result
 
 -- ---- sources without malformed escapes
 

@@ -32,7 +32,7 @@ pieces-append e x y (p ∷ q ∷ ps) qs (rest, s, h, m) l k =
 pub pieces_of-append : (e : Encoding) (x y : List ℕ) → LastStaysPiece e (pieces_of e x) y → pieces_of e (x ++ y) ≡ pieces_of e x ++ pieces_of e y
 pieces_of-append e x y h = sym (pieces_of-only e (x ++ y) _ (pieces-append e x y (pieces_of e x) (pieces_of e y) (pieces_of-meets e x) h (pieces_of-meets e y)))
 
--- A last piece stays one before bytes that begin anew.
+-- A last piece stays one before bytes that begin with a new piece.
 last-anew : (e : Encoding) (x y : List ℕ) (ps : List Piece) → BeginsAnew e y → IsAligned e x → IsPieces e x ps → LastStaysPiece e ps y
 last-anew e x y [] h a k = tt
 last-anew e x y (p ∷ []) h a (rest, s, m, t) = grind (arith, piece-anew)
@@ -40,7 +40,7 @@ last-anew e x y (p ∷ q ∷ ps) h a (rest, s, m, t) =
     let b = piece-aligned e p rest (pieces-length e rest q ps t) m in
     last-anew e rest y (q ∷ ps) h (aligned-back e p.bytes rest b (rw s at a)) t
 
--- The pieces of whole units, followed by those of bytes that begin anew.
+-- The pieces of whole units, followed by those of bytes that begin with a new piece.
 pub pieces_of-anew : (e : Encoding) (x y : List ℕ) → IsAligned e x → BeginsAnew e y → pieces_of e (x ++ y) ≡ pieces_of e x ++ pieces_of e y
 pieces_of-anew e x y a h = pieces_of-append e x y (last-anew e x y (pieces_of e x) h a (pieces_of-meets e x))
 

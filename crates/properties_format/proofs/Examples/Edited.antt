@@ -13,7 +13,7 @@ use Rattle.properties_format.specs.Computed.Items.{items_of}
 use Rattle.properties_format.specs.Edited.{EditResult, edited, unsupported, unreadable}
 use Rattle.properties_format.specs.Edits.{Edit, put, remove}
 use Rattle.properties_format.specs.Computed.Body.{held_groups_of}
-use Rattle.properties_format.proofs.Edited.Made.{key_set, key_removed}
+use Rattle.properties_format.specs.Plan.{with_key_set, with_key_removed}
 use Rattle.properties_format.proofs.Edited.Results.{result_of}
 use Rattle.properties_format.proofs.Edits.Results.{edits_made}
 
@@ -72,7 +72,7 @@ set =
     ∷ (windows_1252, codes "a=1\n\\u1=x", codes "a", codes "b", unreadable not_enough_digits 2)
     ∷ []
 
-each_set : map (λ (e, source, key, value, result). result_of e source (key_set (all_of e) source key value)) set
+each_set : map (λ (e, source, key, value, result). result_of e source (with_key_set (all_of e) source key value)) set
     ≡ map (λ (e, source, key, value, result). result) set
 unfolding items_of pieces_of split_of meaning_of held_groups_of encode_utf8
 each_set = refl
@@ -89,7 +89,7 @@ set_in_ascii =
     ∷ (windows_1252, [], codes "þÿ", codes "x", edited (codes "\\u00fe\\u00ff=x\n"))
     ∷ []
 
-each_set_in_ascii : map (λ (e, source, key, value, result). result_of e source (key_set (ascii_in e) source key value)) set_in_ascii
+each_set_in_ascii : map (λ (e, source, key, value, result). result_of e source (with_key_set (ascii_in e) source key value)) set_in_ascii
     ≡ map (λ (e, source, key, value, result). result) set_in_ascii
 unfolding items_of pieces_of split_of meaning_of held_groups_of encode_utf8
 each_set_in_ascii = refl
@@ -126,7 +126,7 @@ removed =
     ∷ (utf_16be, [], codes "a", unsupported)
     ∷ []
 
-each_removed : map (λ (e, source, key, result). result_of e source (key_removed e source key)) removed ≡ map (λ (e, source, key, result). result) removed
+each_removed : map (λ (e, source, key, result). result_of e source (with_key_removed e source key)) removed ≡ map (λ (e, source, key, result). result) removed
 unfolding items_of pieces_of split_of meaning_of held_groups_of encode_utf8
 each_removed = refl
 
@@ -143,7 +143,7 @@ edits =
     ∷ (utf_16le, [], [], unsupported)
     -- A malformed escape is reported even without edits.
     ∷ (windows_1252, codes "\\u1", [], unreadable not_enough_digits 1)
-    -- Lines are found anew after each edit: an LF that now follows a CR is removed with that line.
+    -- Lines are found again after each edit: an LF that now follows a CR is removed with that line.
     ∷ (windows_1252, codes "x\ra\n\nb", remove (codes "a") ∷ remove (codes "x") ∷ [], edited (codes "b"))
     ∷ []
 

@@ -9,7 +9,7 @@ use Rattle.properties_format.specs.Computed.Escapes.{meaning_of}
 use Rattle.properties_format.specs.Computed.Items.{items_of}
 use Rattle.properties_format.specs.Edited.{EditResult, edited}
 use Rattle.properties_format.specs.Computed.Body.{held_groups_of}
-use Rattle.properties_format.proofs.Valued.Made.{value_set}
+use Rattle.properties_format.specs.Plan.{with_value_set}
 use Rattle.properties_format.proofs.Edited.Results.{result_of}
 
 -- encoding, source, key, value, and the source with the value set in place
@@ -68,7 +68,7 @@ rows =
     ∷ (windows_1252, codes "a 1", [], codes "v", edited (codes "a 1\n=v\n"))
     ∷ []
 
-each : map (λ (e, source, key, value, result). result_of e source (value_set (all_of e) source key value)) rows
+each : map (λ (e, source, key, value, result). result_of e source (with_value_set (all_of e) source key value)) rows
     ≡ map (λ (e, source, key, value, result). result) rows
 unfolding items_of pieces_of split_of meaning_of held_groups_of encode_utf8
 each = refl
@@ -86,7 +86,7 @@ rows_in_ascii =
     ∷ (windows_1252, codes "k=é", codes "k", codes "é", edited (codes "k=é"))
     ∷ []
 
-each_in_ascii : map (λ (e, source, key, value, result). result_of e source (value_set (ascii_in e) source key value)) rows_in_ascii
+each_in_ascii : map (λ (e, source, key, value, result). result_of e source (with_value_set (ascii_in e) source key value)) rows_in_ascii
     ≡ map (λ (e, source, key, value, result). result) rows_in_ascii
 unfolding items_of pieces_of split_of meaning_of held_groups_of encode_utf8
 each_in_ascii = refl

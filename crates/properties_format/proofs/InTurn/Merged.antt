@@ -12,8 +12,8 @@ use Rattle.properties_format.specs.Computed.Cut.{cut_of, decoded_line}
 use Rattle.properties_format.specs.Computed.Body.{held_of, held_lines_of, unended_bytes}
 use Rattle.properties_format.proofs.Lines.Plain.{plain-no_lf, no_lf_first}
 use Rattle.properties_format.proofs.Cut.Meets.{cut_of-meets}
-use Rattle.properties_format.proofs.Body.Decoded.{decoded-nil}
-use Rattle.properties_format.proofs.Body.Groups.{held_of-meets, IsLastFit, AreFit, held_ended, ended-bytes, held-bytes, IsHeldFront, AreHeldGroups, held-groups}
+use Rattle.properties_format.proofs.Body.Decoded.{decoded-nil, IsCut-lines}
+use Rattle.properties_format.proofs.Body.Groups.{held_of-meets, held_of-only, IsLastFit, AreFit, fit, fit-some, held_ended, ended-bytes, held-bytes, cut-off, lines-front as front-left, lines-back}
 use Rattle.properties_format.proofs.Valued.Lined.{groups-fit}
 use Rattle.properties_format.proofs.InTurn.Lines.{AreLinesBy, first-none, lines-front, lines-last, bytes-unended, ending-of, with_ending, texts-with, bytes-with, lines-with}
 
@@ -33,6 +33,19 @@ AreInTurn e [] = ⊥
 AreInTurn e (g ∷ []) = IsLastGroup e g
 AreInTurn e (g ∷ h ∷ gs) = IsEndedGroup e g × AreInTurn e (h ∷ gs)
 
+-- The first of them has its own lines, and is whole or ends open.
+pub turn-first : (e : Encoding) (g : List HeldLine) (gs : List (List HeldLine)) → AreInTurn e (g ∷ gs)
+    → (o : Option LineEnding) × AreLinesBy e o g × IsLastFit g
+turn-first e g [] (a, f) = (None, a, f)
+turn-first e g (h ∷ gs) ((by, a, w), r) = (Some by, a, inl w)
+
+-- So does each.
+pub turn-at : (e : Encoding) (before : List (List HeldLine)) (g : List HeldLine) (after : List (List HeldLine)) → AreInTurn e (before ++ g ∷ after)
+    → (o : Option LineEnding) × AreLinesBy e o g × IsLastFit g
+turn-at e [] g after a = turn-first e g after a
+turn-at e (f ∷ []) g after a = turn-first e g after a.1
+turn-at e (f ∷ h ∷ before) g after a = turn-at e (h ∷ before) g after a.1
+
 -- ---- the groups of a body are in turn
 
 -- Ended lines are lines, the last of which has a line ending.
@@ -50,23 +63,29 @@ last-lines e (l ∷ []) last h =
 last-lines e (l ∷ m ∷ ls) last h =
     (h.0, refl, (l.by, refl, (λ q. ap begins_with_lf (held-bytes e (m ∷ ls) last) ∙ no_lf_first (m ∷ ls) last h.2 (h.1 q))), last-lines e (m ∷ ls) last h.2)
 
--- A group that others follow is a whole one with a line ending.
-ended-group : (e : Encoding) (g : List HeldLine) → IsHeldFront e g → IsEndedGroup e g
-ended-group e g h = of-lines h.lines h.held h.are_lines
-  where
-    of-lines : (ls : List Ended) → g ≡ held_ended e ls → AreLines ls [] → IsEndedGroup e g
-    of-lines [] s a = absurd (rw s at h.front.whole)
-    of-lines (l ∷ ls) s a = let n = ended-lines e l ls a in (n.0, rw s n.1, h.front.whole)
+-- A whole group of ended lines has a line ending.
+ended-group : (e : Encoding) (g : List HeldLine) (ls : List Ended) → g ≡ held_ended e ls → AreLines ls [] → IsWhole (as_lines g) → IsEndedGroup e g
+ended-group e g [] s a w = absurd (rw s at w)
+ended-group e g (l ∷ ls) s a w = let n = ended-lines e l ls a in (n.0, rw s n.1, w)
 
--- The groups of a body, one by one, are in turn.
-held-turn : (e : Encoding) (gs : List (List HeldLine)) → AreHeldGroups e gs → AreInTurn e gs
-held-turn e [] h = absurd h
-held-turn e (g ∷ []) h = (rw h.held (last-lines e h.lines.ended h.lines.last h.are_lines), h.fits)
-held-turn e (g ∷ i ∷ gs) h = (ended-group e g h.0, held-turn e (i ∷ gs) h.1)
+-- Groups with all lines of a text, all of them whole except possibly the last, are in turn.
+fit-turn : (e : Encoding) (gs : List (List HeldLine)) (ls : List Ended) (last : List ℕ) → AreLines ls last → held_in gs ≡ held_of e ls last → AreFit gs
+    → AreInTurn e gs
+fit-turn e [] [] last h s k = absurd (cc)
+fit-turn e [] (l ∷ ls) last h s k = absurd (cc)
+fit-turn e (g ∷ []) ls last h s k = (rw (sym (append-nil g) ∙ s) (last-lines e ls last h), k)
+fit-turn e (g ∷ i ∷ gs) ls last h s k =
+    let c = cut-off e g (held_in (i ∷ gs)) ls last (fit-some i gs k.1) s in
+    let m : AreLines (c.front ++ c.back) last = rw c.all at h in (
+      ended-group e g c.front c.group (front-left c.front c.back last m) k.0,
+      fit-turn e (i ∷ gs) c.back last (lines-back c.front c.back last m) c.others k.1,
+    )
 
 -- The groups of a body are in turn.
 pub in-turn : (e : Encoding) (body : List ℕ) (gs : List (List HeldLine)) → is_editable e ≡ true → AreGroupsOf e body gs → AreInTurn e gs
-in-turn e body gs ok h = held-turn e gs (held-groups e body gs ok h)
+in-turn e body gs ok h =
+    fit-turn e gs h.cut.ended h.cut.last (IsCut-lines e body h.cut ok h.is_cut).are_lines (held_of-only e h.cut.ended h.cut.last (held_in gs) h.are_held)
+    (fit gs h.grouped.whole h.grouped.unfinished h.grouped.are_groups h.grouped.are_whole h.grouped.is_unfinished)
 
 -- ---- a CR and a single LF
 
@@ -192,7 +211,12 @@ merged-fit e (g ∷ h ∷ gs) ((by, a, w), r) = elim (cases_Bool (are_one_ending
 pub merged-groups : (e : Encoding) (gs : List (List HeldLine)) → is_editable e ≡ true → AreInTurn e gs → AreGroupsOf e (groups_bytes gs) (merged gs)
 merged-groups e gs ok a =
     let c = cut_of e (groups_bytes gs) in
-    record { cut = c; is_cut = cut_of-meets e (groups_bytes gs); are_held = rw (← merged-lines e gs ok a) (held_of-meets e c.ended c.last); grouped = groups-fit (merged gs) (merged-fit e gs a) }
+    record {
+      cut = c;
+      is_cut = cut_of-meets e (groups_bytes gs);
+      are_held = rw (← merged-lines e gs ok a) (held_of-meets e c.ended c.last);
+      grouped = groups-fit (merged gs) (merged-fit e gs a);
+    }
 
 -- ---- what else is unchanged
 

@@ -4,34 +4,46 @@ use Rattle.std.specs.Prelude.{if◌then◌else◌}
 use Rattle.std.proofs.lemmas.Bool.{cases_Bool}
 use Rattle.properties_format.specs.Text.{scalar, LineEnding, lf, cr, line_ending_text, is_empty}
 use Rattle.properties_format.specs.Encoding.{Encoding, Repertoire}
-use Rattle.properties_format.specs.Lines.{HoldsNoLineEnding, IsWhole}
+use Rattle.properties_format.specs.Lines.{HoldsNoLineEnding, IsWhole, joined}
 use Rattle.properties_format.specs.Body.{HeldLine, as_lines, ending_bytes, group_bytes, groups_bytes}
-use Rattle.properties_format.specs.Edited.{is_editable, is_empty_line, is_left_open, final_group, separation_by, pair_bytes, added_ending}
+use Rattle.properties_format.specs.Edited.{is_editable, is_empty_line, is_left_open, final_group, separation_by, pair_bytes}
 use Rattle.properties_format.specs.Plan.{Change, at_last, put_change, put_added, put_in}
 use Rattle.properties_format.specs.Computed.Lines.{begins_with_lf, ends_in_cr}
 use Rattle.properties_format.specs.Computed.Cut.{decoded_line}
-use Rattle.properties_format.specs.Computed.Body.{held_groups_of, unended_bytes}
+use Rattle.properties_format.specs.Computed.Body.{held_groups_of, held_lines_of, unended_bytes}
+use Rattle.properties_format.proofs.Items.Unique.{outcome_of-meets}
 use Rattle.properties_format.proofs.Lines.Only.{lines_of-plain}
 use Rattle.properties_format.proofs.Lines.Plain.{plain-no_cr}
 use Rattle.properties_format.proofs.Body.Decoded.{decoded-nil, cut_of-lines}
-use Rattle.properties_format.proofs.Body.Groups.{as_lines-append, group_bytes-append, groups_bytes-append, held-body, held_groups_of-meets}
+use Rattle.properties_format.proofs.Body.Groups.{as_lines-append, group_bytes-append, groups_bytes-append}
+use Rattle.properties_format.proofs.Edited.ByteOrderMarks.{empty-last}
 use Rattle.properties_format.proofs.Edited.LogicalLines.{fit-closed, fit-open, closed-by_empty, ends-right}
-use Rattle.properties_format.proofs.Edited.Pair.{pair-decoded, pair-plain, pair-whole}
+use Rattle.properties_format.proofs.Edited.Pair.{pair_line, pair-decoded, pair-outcome, pair-plain, pair-whole}
 use Rattle.properties_format.proofs.InTurn.Lines.{AreLinesBy, first-none, lines-some, bytes-unended, ending-of, with_ending, texts-with, bytes-with, lines-with}
-use Rattle.properties_format.proofs.InTurn.Merged.{AreInTurn, IsEndedGroup, IsLastGroup, merged-final}
-use Rattle.properties_format.proofs.Plan.Slots.{IsGroupText, AreSlotsOf, group_of, group-bytes, group-lines, no_line, turn-cons, last-empty, slots-merged, slots-last, groups_after, last-merged, merged_if}
+use Rattle.properties_format.proofs.InTurn.Merged.{AreInTurn, IsEndedGroup, IsLastGroup}
+use Rattle.properties_format.proofs.Plan.Slots.{IsGroupText, SayPair, AreSlotsOf, group_of, group-bytes, text-ended, no_line, turn-cons, last-empty, own-slots, slots-final, slots-none, slots-last, groups_after}
 
 -- ---- a printed pair is a group
 
+pub plain-held : (e : Encoding) (x : List ℕ) → is_editable e ≡ true → HoldsNoLineEnding x
+    → held_lines_of e x ≡ record { bytes = x; text = decoded_line e x; ending = None } ∷ []
+plain-held e x ok p = rw (cut_of-lines e x ok, lines_of-plain x p) refl
+
 pub plain-fit : (e : Encoding) (x : List ℕ) → is_editable e ≡ true → HoldsNoLineEnding x → IsWhole (record { number = 0; text = decoded_line e x } ∷ [])
     → IsGroupText e x
-plain-fit e x ok p w = record { whole = rw (cut_of-lines e x ok, lines_of-plain x p) w; no_cr = plain-no_cr x p }
+plain-fit e x ok p w = record { whole = rw (plain-held e x ok p) w; no_cr = plain-no_cr x p }
 
 pub pair-fit : (r : Repertoire) (first : Bool) (key value : List ℕ) → is_editable r.encoding ≡ true → All scalar key → All scalar value
     → IsGroupText r.encoding (pair_bytes r first key value)
 pair-fit r first key value ok k v =
     plain-fit r.encoding (pair_bytes r first key value) ok (pair-plain r first key value ok k v)
     (subst (λ w. IsWhole (record { number = 0; text = w } ∷ [])) (sym (pair-decoded r first key value ok k v)) (pair-whole r first key value k v))
+
+pub pair-said : (r : Repertoire) (first : Bool) (key value : List ℕ) → is_editable r.encoding ≡ true → All scalar key → All scalar value
+    → SayPair r.encoding key value (pair_bytes r first key value)
+pair-said r first key value ok k v =
+    rw (plain-held r.encoding (pair_bytes r first key value) ok (pair-plain r first key value ok k v), pair-decoded r first key value ok k v)
+    (rw (pair-outcome r first key value k v) at (outcome_of-meets (joined (pair_line r first key value ∷ []))))
 
 -- ---- the last group is closed
 
@@ -57,16 +69,6 @@ AreAllEnded e (g ∷ gs) = IsEndedGroup e g × AreAllEnded e gs
 abbrev pub IsSafeAfter : LineEnding → List HeldLine → Type 0
 IsSafeAfter by g = ends_in_cr (unended_bytes g) ≡ true → begins_with_lf (ending_bytes (Some by)) ≡ false
 
--- An empty line has no bytes.
-empty-bytes : (e : Encoding) (g : List HeldLine) → AreLinesBy e None g → is_empty_line g ≡ true → group_bytes g ≡ []
-empty-bytes e [] a k = refl
-empty-bytes e (h ∷ []) a k = rw a.2 (ap (λ v. v ++ []) (none h.bytes k))
-  where
-    none : (x : List ℕ) → is_empty x ≡ true → x ≡ []
-    none [] q = refl
-    none (c ∷ x) q = absurd (cc)
-empty-bytes e (h ∷ i ∷ hs) a k = absurd (cc)
-
 -- An empty line behind ended lines.
 lines-push : (e : Encoding) (by : LineEnding) (g : List HeldLine) → AreLinesBy e (Some by) g → AreLinesBy e (Some by) (g ++ blank e by ∷ [])
 lines-push e by [] a = absurd a
@@ -83,7 +85,8 @@ lines-push e by (h ∷ i ∷ hs) (p, s, (own, t, n), a) = (
   lines-push e by (i ∷ hs) a,
 )
 
-with-bytes : (e : Encoding) (by : LineEnding) (g : List HeldLine) → AreLinesBy e None g → group_bytes (with_ending (Some by) g) ≡ group_bytes g ++ line_ending_text by
+with-bytes : (e : Encoding) (by : LineEnding) (g : List HeldLine) → AreLinesBy e None g
+    → group_bytes (with_ending (Some by) g) ≡ group_bytes g ++ line_ending_text by
 with-bytes e by [] a = absurd a
 with-bytes e by (h ∷ hs) a =
     bytes-with (Some by) h hs
@@ -100,7 +103,8 @@ module _ (e : Encoding) (by : LineEnding) where
             (
               by,
               lines-push e by (with_ending (Some by) g) (lines-with e None (Some by) g a safe),
-              rw (as_lines-append (with_ending (Some by) g) (blank e by ∷ []), texts-with (Some by) g, decoded-nil e) (closed-by_empty (as_lines g) (fit-open g f o)).0,
+              rw (as_lines-append (with_ending (Some by) g) (blank e by ∷ []), texts-with (Some by) g, decoded-nil e)
+                  (closed-by_empty (as_lines g) (fit-open g f o)).0,
             ),
             tt,
           )
@@ -110,9 +114,10 @@ module _ (e : Encoding) (by : LineEnding) where
 
   last-bytes : (g : List HeldLine) → IsLastGroup e g → groups_bytes (closed_last e by g) ≡ group_bytes g ++ separation_by (line_ending_text by) g
   last-bytes g (a, f) = elim (cases_Bool (is_empty_line g)) [
-    | inl k ↦ rw (k, empty-bytes e g a k) refl
+    | inl k ↦ rw (k, empty-last g k (ending-of e None g a)) refl
     | inr k ↦ elim (cases_Bool (is_left_open g)) [
-      | inl o ↦ rw (k, o, append-nil, group_bytes-append (with_ending (Some by) g) (blank e by ∷ []), with-bytes e by g a, append-nil) (append_assoc (group_bytes g) _ _)
+      | inl o ↦ rw (k, o, append-nil, group_bytes-append (with_ending (Some by) g) (blank e by ∷ []), with-bytes e by g a, append-nil)
+          (append_assoc (group_bytes g) _ _)
       | inr o ↦ rw (k, o, append-nil) (with-bytes e by g a)
     ]
   ]
@@ -130,7 +135,7 @@ module _ (e : Encoding) (by : LineEnding) where
 
 -- ---- a pair is added
 
-turn-join : (e : Encoding) (gs hs : List (List HeldLine)) → AreAllEnded e gs → AreInTurn e hs → AreInTurn e (gs ++ hs)
+pub turn-join : (e : Encoding) (gs hs : List (List HeldLine)) → AreAllEnded e gs → AreInTurn e hs → AreInTurn e (gs ++ hs)
 turn-join e [] hs a b = b
 turn-join e (g ∷ gs) hs a b = turn-cons e g (gs ++ hs) a.0 (turn-join e gs hs a.1 b)
 
@@ -141,12 +146,13 @@ groups_added e by x ending gs = all_closed e by gs ++ group_of e x (Some ending)
 -- They stand for the body with these bytes behind it.
 pub slots-added : (e : Encoding) (body : List ℕ) (gs : List (List HeldLine)) (by : LineEnding) (x : List ℕ) (ending : LineEnding) → is_editable e ≡ true
     → AreSlotsOf e body gs → IsSafeAfter by (final_group gs) → IsGroupText e x
-    → AreSlotsOf e ((body ++ separation_by (line_ending_text by) (final_group (held_groups_of e body))) ++ (x ++ line_ending_text ending)) (groups_added e by x ending gs)
+    → AreSlotsOf e ((body ++ separation_by (line_ending_text by) (final_group (held_groups_of e body))) ++ (x ++ line_ending_text ending))
+    (groups_added e by x ending gs)
 slots-added e body gs by x ending ok s safe f =
-    let final : final_group (held_groups_of e body) ≡ final_group gs = ap final_group (sym (slots-merged e body gs ok s)) ∙ merged-final e gs s.turn in
+    let final = slots-final e body gs ok s in
     record {
       turn = turn-join e (all_closed e by gs) (group_of e x (Some ending) ∷ (no_line e ∷ []) ∷ []) (closed-ended e by gs s.turn safe)
-          ((ending, group-lines e ok x (Some ending) f.no_cr, rw texts-with f.whole), last-empty e);
+          (text-ended e x ending ok f, last-empty e);
       bytes =
           groups_bytes-append (all_closed e by gs) (group_of e x (Some ending) ∷ (no_line e ∷ []) ∷ [])
           ∙ rw (closed-bytes e by gs s.turn, group-bytes e ok x (Some ending), final, s.bytes, append-nil) refl;
@@ -162,7 +168,8 @@ groups_put r source key value gs None =
     let front = groups_bytes gs ++ separation_by (line_ending_text by) (final_group gs) in
     groups_added r.encoding by (pair_bytes r (is_empty front) key value) lf gs
 
-module _ (r : Repertoire) (source body key value : List ℕ) (gs : List (List HeldLine)) (ok : is_editable r.encoding ≡ true) (k : All scalar key) (v : All scalar value)
+module _ (r : Repertoire) (source body key value : List ℕ) (gs : List (List HeldLine)) (ok : is_editable r.encoding ≡ true) (k : All scalar key)
+    (v : All scalar value)
     (ends : ends_in_cr body ≡ true → ends_in_cr source ≡ true) (s : AreSlotsOf r.encoding body gs) where
   abbrev by : LineEnding
   by = if ends_in_cr source then cr else lf
@@ -170,7 +177,8 @@ module _ (r : Repertoire) (source body key value : List ℕ) (gs : List (List He
   final-ends : (gs : List (List HeldLine)) → AreInTurn r.encoding gs → ends_in_cr (unended_bytes (final_group gs)) ≡ true → ends_in_cr (groups_bytes gs) ≡ true
   final-ends [] a c = absurd a
   final-ends (g ∷ []) a c =
-      ap ends_in_cr (append-nil (group_bytes g) ∙ bytes-unended g ∙ ap (λ o. unended_bytes g ++ ending_bytes o) (ending-of r.encoding None g a.0) ∙ append-nil (unended_bytes g)) ∙ c
+      ap ends_in_cr (append-nil (group_bytes g) ∙ bytes-unended g ∙ ap (λ o. unended_bytes g ++ ending_bytes o) (ending-of r.encoding None g a.0)
+      ∙ append-nil (unended_bytes g)) ∙ c
   final-ends (g ∷ h ∷ gs) a c = ends-right (group_bytes g) (groups_bytes (h ∷ gs)) (final-ends (h ∷ gs) a.1 c)
 
   safe : IsSafeAfter by (final_group gs)
@@ -179,34 +187,16 @@ module _ (r : Repertoire) (source body key value : List ℕ) (gs : List (List He
   put-at : (p : Option (List Change)) → at_last key (put_change r key value) true gs ≡ p
       → AreSlotsOf r.encoding (put_in r source key value (held_groups_of r.encoding body)) (groups_put r source key value gs p)
   put-at (Some cs) q =
-      slots-last r.encoding body key (put_change r key value) gs cs ok (λ first p o g a h. refl) (λ first p g a w h. pair-fit r first key value ok k v) s q
+      slots-last r.encoding body key (put_change r key value) gs ok (λ first p o g a h. refl) s (λ first p g a w h. pair-fit r first key value ok k v) cs q
       (put_added r source key value (held_groups_of r.encoding body))
-  put-at None q = none
-    where
-      all : List (List HeldLine)
-      all = held_groups_of r.encoding body
-
-      whole : groups_bytes all ≡ body
-      whole = held-body r.encoding body all ok (held_groups_of-meets r.encoding body)
-
-      final : final_group all ≡ final_group gs
-      final = ap final_group (sym (slots-merged r.encoding body gs ok s)) ∙ merged-final r.encoding gs s.turn
-
-      plan : at_last key (put_change r key value) true all ≡ None
-      plan = ap (at_last key (put_change r key value) true) (sym (slots-merged r.encoding body gs ok s))
-          ∙ last-merged r.encoding key (put_change r key value) (λ first p o g a h. refl) true gs s.turn ∙ ap (merged_if gs) q
-
-      ending : added_ending source ≡ line_ending_text by
-      ending = refl
-
-      front : List ℕ
-      front = groups_bytes gs ++ separation_by (line_ending_text by) (final_group gs)
-
-      none : AreSlotsOf r.encoding (put_in r source key value all) (groups_put r source key value gs None)
-      none =
-          rw (plan, whole, final, s.bytes)
-          (rw (final, s.bytes) at (slots-added r.encoding body gs by (pair_bytes r (is_empty front) key value) lf ok s safe (pair-fit r (is_empty front) key value ok k v)))
+  put-at None q =
+      let plan = slots-none r.encoding body key (put_change r key value) gs ok (λ first p o g a h. refl) s q in
+      let final = slots-final r.encoding body gs ok s in
+      let first = is_empty (groups_bytes gs ++ separation_by (line_ending_text by) (final_group gs)) in
+      let a = slots-added r.encoding body gs by (pair_bytes r first key value) lf ok s safe (pair-fit r first key value ok k v) in
+      rw (plan, (own-slots r.encoding body ok).bytes, final, s.bytes) (rw (final, s.bytes) at a)
 
   -- A key that is set among groups that stand for a body is set in the body.
-  pub slots-put : AreSlotsOf r.encoding (put_in r source key value (held_groups_of r.encoding body)) (groups_put r source key value gs (at_last key (put_change r key value) true gs))
+  pub slots-put : AreSlotsOf r.encoding (put_in r source key value (held_groups_of r.encoding body))
+      (groups_put r source key value gs (at_last key (put_change r key value) true gs))
   slots-put = put-at (at_last key (put_change r key value) true gs) refl

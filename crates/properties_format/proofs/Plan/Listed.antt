@@ -6,29 +6,42 @@ use Rattle.properties_format.specs.Text.{scalar, lf, line_feed}
 use Rattle.properties_format.specs.Encoding.{Encoding, Repertoire, InForce, byte_order_mark, begins_like_bom, in_encoding}
 use Rattle.properties_format.specs.Body.{HeldLine, groups_bytes}
 use Rattle.properties_format.specs.Edited.{is_editable, bom_of, guarding_lf}
-use Rattle.properties_format.specs.Edits.{Edit, put, remove, set_value, AreEdited, AreScalarEdits}
+use Rattle.properties_format.specs.Edits.{Edit, put, remove, set_value, AreEdited, IsScalarEdit, AreScalarEdits}
 use Rattle.properties_format.specs.Plan.{planned, removal, at_last, put_change, put_in, value_change, value_in, with_key_set, with_value_set, with_key_removed}
+use Rattle.properties_format.specs.Computed.Lines.{ends_in_cr}
 use Rattle.properties_format.specs.Computed.Body.{held_groups_of}
 use Rattle.properties_format.proofs.Body.Decoded.{decoded-nil}
-use Rattle.properties_format.proofs.Edited.ByteOrderMarks.{in_force}
-use Rattle.properties_format.proofs.Edited.Put.{ends-alike, put-in_force}
+use Rattle.properties_format.proofs.Edited.ByteOrderMarks.{in_force, key_set-in_force, source-whole}
+use Rattle.properties_format.proofs.Edited.LogicalLines.{ends-right}
+use Rattle.properties_format.proofs.Edits.Results.{edit_made, edit-is_made, edit-encoding, edit-editable}
 use Rattle.properties_format.proofs.InTurn.Merged.{IsEndedGroup}
-use Rattle.properties_format.proofs.Plan.Made.{key_set-planned, key_set-is_planned, key_removed-is_planned, put-place, value_set-is_planned}
+use Rattle.properties_format.proofs.Plan.Made.{key_set-meets, value_set-meets}
 use Rattle.properties_format.proofs.Plan.Slots.{AreSlotsOf, groups_after, slots-removed, turn-cons}
 use Rattle.properties_format.proofs.Plan.Added.{blank, groups_put, slots-put}
 use Rattle.properties_format.proofs.Plan.NewValues.{groups_valued, slots-valued}
 use Rattle.properties_format.proofs.Valued.Marks.{value_set-in_force}
-use Rattle.std.proofs.lemmas.List.{append_cancel_left}
 
 -- These groups stand for the body of a source.
 abbrev pub AreSlotsIn : Encoding → List ℕ → List (List HeldLine) → Type 0
 AreSlotsIn e source gs = AreSlotsOf (byte_order_mark e source).encoding (byte_order_mark e source).body gs
 
 -- If a source has this body, they stand for it.
-slots-in : (e : Encoding) (source : List ℕ) (f : InForce) (gs : List (List HeldLine)) → byte_order_mark e source ≡ f → AreSlotsOf f.encoding f.body gs → AreSlotsIn e source gs
+slots-in : (e : Encoding) (source : List ℕ) (f : InForce) (gs : List (List HeldLine)) → byte_order_mark e source ≡ f → AreSlotsOf f.encoding f.body gs
+    → AreSlotsIn e source gs
 slots-in e source f gs s a = subst (λ (v : InForce). AreSlotsOf v.encoding v.body gs) (sym s) a
 
 -- ---- a key is set
+
+-- A CR at the end of the body is at the end of the source.
+pub ends-alike : (e : Encoding) (source : List ℕ) → ends_in_cr (byte_order_mark e source).body ≡ true → ends_in_cr source ≡ true
+ends-alike e source q = ap ends_in_cr (source-whole e source) ∙ ends-right (bom_of source) (byte_order_mark e source).body q
+
+-- After a key is set, the same encoding is in force, with the body that the plan makes.
+pub planned-in_force : (r : Repertoire) (source key value : List ℕ) → is_editable (byte_order_mark r.encoding source).encoding ≡ true
+    → (let f = byte_order_mark r.encoding source in byte_order_mark r.encoding (with_key_set r source key value)
+    ≡ record { encoding = f.encoding; body = put_in (in_encoding r f.encoding) source key value (held_groups_of f.encoding f.body) })
+planned-in_force r source key value ok =
+    key_set-in_force r source key value (with_key_set r source key value) ok (key_set-meets r source key value ok)
 
 pub slots-key_set : (r : Repertoire) (source key value : List ℕ) (gs : List (List HeldLine)) → is_editable (byte_order_mark r.encoding source).encoding ≡ true
     → All scalar key → All scalar value → AreSlotsIn r.encoding source gs
@@ -37,9 +50,8 @@ pub slots-key_set : (r : Repertoire) (source key value : List ℕ) (gs : List (L
 slots-key_set r source key value gs ok k v s =
     let f = byte_order_mark r.encoding source in
     let t = in_encoding r f.encoding in
-    slots-in r.encoding (with_key_set r source key value) (record { encoding = f.encoding; body = put_in t source key value (held_groups_of f.encoding f.body) }) _
-    (ap (byte_order_mark r.encoding) (key_set-planned r source key value ok) ∙ put-in_force r source key value ok
-    ∙ ap (λ b. let w : InForce = record { encoding = f.encoding; body = b } in w) (sym (put-place t source key value f.body ok)))
+    let body = put_in t source key value (held_groups_of f.encoding f.body) in
+    slots-in r.encoding (with_key_set r source key value) (record { encoding = f.encoding; body = body }) _ (planned-in_force r source key value ok)
     (slots-put t source f.body key value gs ok k v (ends-alike r.encoding source) s)
 
 -- ---- a key is removed
@@ -69,7 +81,8 @@ slots-key_removed e source key gs ok s =
     let rest = planned (removal key all) all in
     let a = slots-removed f.encoding f.body key gs ok s in
     let g = slots-guarded f.encoding (not (begins_like_bom source) && begins_like_bom rest) rest (groups_after f.encoding (removal key gs) gs) a in
-    slots-in e (with_key_removed e source key) (record { encoding = f.encoding; body = guarding_lf source rest ++ rest }) _ (in_force e source (guarding_lf source rest ++ rest) ok (λ n. unmarked source rest n))
+    slots-in e (with_key_removed e source key) (record { encoding = f.encoding; body = guarding_lf source rest ++ rest }) _
+    (in_force e source (guarding_lf source rest ++ rest) ok (λ n. unmarked source rest n))
     (rw a.bytes g)
   where
     unmarked : (source rest : List ℕ) → begins_like_bom source ≡ false → begins_like_bom (guarding_lf source rest ++ rest) ≡ false
@@ -78,15 +91,11 @@ slots-key_removed e source key gs ok s =
 -- ---- a value is set
 
 -- After a value is set, the same encoding is in force, with the body that the plan makes.
-valued-in_force : (r : Repertoire) (source key value : List ℕ) → is_editable (byte_order_mark r.encoding source).encoding ≡ true
+pub valued-in_force : (r : Repertoire) (source key value : List ℕ) → is_editable (byte_order_mark r.encoding source).encoding ≡ true
     → (let f = byte_order_mark r.encoding source in byte_order_mark r.encoding (with_value_set r source key value)
     ≡ record { encoding = f.encoding; body = value_in (in_encoding r f.encoding) key value (held_groups_of f.encoding f.body) })
 valued-in_force r source key value ok =
-    let f = byte_order_mark r.encoding source in
-    let h = (value_set-is_planned r source key value (with_value_set r source key value) ok).1 refl in
-    let body = value_in (in_encoding r f.encoding) key value (held_groups_of f.encoding f.body) in
-    value_set-in_force r source key value (with_value_set r source key value) ok h
-    ∙ ap (λ b. let w : InForce = record { encoding = f.encoding; body = b } in w) (append_cancel_left (bom_of source) h.body body (sym h.whole))
+    value_set-in_force r source key value (with_value_set r source key value) ok (value_set-meets r source key value ok)
 
 pub slots-value_set : (r : Repertoire) (source key value : List ℕ) (gs : List (List HeldLine)) → is_editable (byte_order_mark r.encoding source).encoding ≡ true
     → All scalar key → All scalar value → AreSlotsIn r.encoding source gs
@@ -101,6 +110,13 @@ slots-value_set r source key value gs ok k v s =
 
 -- ---- in turn
 
+-- After an edit, groups stand for what it makes.
+slots-edit : (r : Repertoire) (source : List ℕ) (edit : Edit) (gs : List (List HeldLine)) → is_editable (byte_order_mark r.encoding source).encoding ≡ true
+    → IsScalarEdit edit → AreSlotsIn r.encoding source gs → (slots : List (List HeldLine)) × AreSlotsIn r.encoding (edit_made r source edit) slots
+slots-edit r source (put key value) gs ok p s = (_, slots-key_set r source key value gs ok p.0 p.1 s)
+slots-edit r source (remove key) gs ok p s = (_, slots-key_removed r.encoding source key gs ok s)
+slots-edit r source (set_value key value) gs ok p s = (_, slots-value_set r source key value gs ok p.0 p.1 s)
+
 -- The source after such edits, and groups that stand for it: those of the source, each edit made to them.
 pub record AreMadeOf (r : Repertoire) (source : List ℕ) (edits : List Edit) (gs : List (List HeldLine)) : Type 0 where
   pub result : List ℕ
@@ -109,51 +125,19 @@ pub record AreMadeOf (r : Repertoire) (source : List ℕ) (edits : List Edit) (g
   pub are_slots : AreSlotsIn r.encoding result slots
   pub encoding : (byte_order_mark r.encoding result).encoding ≡ (byte_order_mark r.encoding source).encoding
 
-pub in-turn : (r : Repertoire) (source : List ℕ) (edits : List Edit) (gs : List (List HeldLine)) → is_editable (byte_order_mark r.encoding source).encoding ≡ true
+pub in-turn : (r : Repertoire) (source : List ℕ) (edits : List Edit) (gs : List (List HeldLine))
+    → is_editable (byte_order_mark r.encoding source).encoding ≡ true
     → AreScalarEdits edits → AreSlotsIn r.encoding source gs → AreMadeOf r source edits gs
 in-turn r source [] gs ok p s = record { result = source; edited = refl; slots = gs; are_slots = s; encoding = refl }
-in-turn r source (put key value ∷ edits) gs ok p s =
-    let next = with_key_set r source key value in
-    let same : (byte_order_mark r.encoding next).encoding ≡ (byte_order_mark r.encoding source).encoding =
-    ap (λ v. (byte_order_mark r.encoding v).encoding) (key_set-planned r source key value ok) ∙ ap (λ (v : InForce). v.encoding) (put-in_force r source key value ok) in
-    let m = in-turn r next edits _ (ap is_editable same ∙ ok) p.1 (slots-key_set r source key value gs ok p.0.0 p.0.1 s) in
+in-turn r source (edit ∷ edits) gs ok p s =
+    let next = edit_made r source edit in
+    let h = (edit-is_made r source edit next ok).1 refl in
+    let (slots, are) = slots-edit r source edit gs ok p.0 s in
+    let m = in-turn r next edits slots (edit-editable r source edit next ok h) p.1 are in
     record {
       result = m.result;
-      edited = (next, (key_set-is_planned r source key value next ok).1 refl, m.edited);
+      edited = (next, h, m.edited);
       slots = m.slots;
       are_slots = m.are_slots;
-      encoding = m.encoding ∙ same;
-    }
-in-turn r source (remove key ∷ edits) gs ok p s =
-    let f = byte_order_mark r.encoding source in
-    let next = with_key_removed r.encoding source key in
-    let same = removed-in r.encoding source key ok in
-    let m = in-turn r next edits _ (ap is_editable same ∙ ok) p.1 (slots-key_removed r.encoding source key gs ok s) in
-    record {
-      result = m.result;
-      edited = (next, (key_removed-is_planned r.encoding source key next).1 refl, m.edited);
-      slots = m.slots;
-      are_slots = m.are_slots;
-      encoding = m.encoding ∙ same;
-    }
-  where
-    removed-in : (e : Encoding) (source key : List ℕ) → is_editable (byte_order_mark e source).encoding ≡ true
-        → (byte_order_mark e (with_key_removed e source key)).encoding ≡ (byte_order_mark e source).encoding
-    removed-in e source key ok =
-        let f = byte_order_mark e source in
-        let rest = planned (removal key (held_groups_of f.encoding f.body)) (held_groups_of f.encoding f.body) in
-        ap (λ (v : InForce). v.encoding) (in_force e source (guarding_lf source rest ++ rest) ok (λ n. unmarked source rest n))
-      where
-        unmarked : (source rest : List ℕ) → begins_like_bom source ≡ false → begins_like_bom (guarding_lf source rest ++ rest) ≡ false
-        unmarked source rest n = grind (arith)
-in-turn r source (set_value key value ∷ edits) gs ok p s =
-    let next = with_value_set r source key value in
-    let same : (byte_order_mark r.encoding next).encoding ≡ (byte_order_mark r.encoding source).encoding = ap (λ (v : InForce). v.encoding) (valued-in_force r source key value ok) in
-    let m = in-turn r next edits _ (ap is_editable same ∙ ok) p.1 (slots-value_set r source key value gs ok p.0.0 p.0.1 s) in
-    record {
-      result = m.result;
-      edited = (next, (value_set-is_planned r source key value next ok).1 refl, m.edited);
-      slots = m.slots;
-      are_slots = m.are_slots;
-      encoding = m.encoding ∙ same;
+      encoding = m.encoding ∙ edit-encoding r source edit next ok h;
     }

@@ -1,156 +1,196 @@
 -- Edits by plans are the edits of the relations, and these have no other results.
-use Rattle.std.proofs.Common.{◌≡◌, ◌≢◌, ◌↔◌, ℕ, Bool, true, false, List, [], ◌∷◌, ◌++◌, Option, Some, None, refl, ap, sym, ◌∙◌, inl, inr, append_assoc, subst}
-use Rattle.std.proofs.lemmas.Bool.{cases_Bool}
-use Rattle.properties_format.specs.Text.{is_empty}
+use Rattle.std.proofs.Common.{◌≡◌, ◌⊎◌, ◌↔◌, ℕ, true, List, [], ◌∷◌, ◌++◌, Option, Some, None, refl, ap, sym, ◌∙◌, inl, inr, append_assoc, subst}
+use Rattle.std.proofs.lemmas.Bool.{cases_Bool, false_from_ne_true}
 use Rattle.properties_format.specs.Encoding.{Encoding, Repertoire, byte_order_mark, in_encoding}
-use Rattle.properties_format.specs.Body.{HeldLine, ending_bytes, last_ending, group_bytes, groups_bytes}
-use Rattle.properties_format.specs.Edited.{IsKeySet, IsKeyRemoved, is_editable}
-use Rattle.properties_format.specs.Valued.{IsValueSet, value_text}
+use Rattle.properties_format.specs.Body.{HeldLine, groups_bytes}
+use Rattle.properties_format.specs.Edited.{bom_of, IsReplaced, IsAppended, IsKeySet, IsWithout, IsKeyRemoved, is_editable}
+use Rattle.properties_format.specs.Valued.{IsBodyValued, IsValueSet}
 use Rattle.properties_format.specs.Computed.Body.{held_groups_of, has_key}
-use Rattle.properties_format.specs.Computed.Edited.{KeyPlace, last_place, without}
-use Rattle.properties_format.specs.Computed.Valued.{has_value, front_of, between_of}
-use Rattle.properties_format.specs.Printing.{encoded_text}
-use Rattle.properties_format.specs.Plan.{Change, stay, go, become, planned, removal, at_last, all_stay, put_in, put_change, value_in, value_change, with_key_set, with_value_set, with_key_removed}
-use Rattle.properties_format.proofs.Body.Groups.{held_groups_of-meets}
-use Rattle.properties_format.proofs.Edited.Made.{last_place-meets, IsPlace, set_at, key_set, key_set-meets, key_set-only, key_removed, key_removed-meets, key_removed-only}
-use Rattle.properties_format.proofs.Valued.Made.{valued_at, value_set, value_set-meets, value_set-only}
-use Rattle.properties_format.proofs.InTurn.Lines.{lines-some}
-use Rattle.properties_format.proofs.InTurn.Merged.{AreInTurn, in-turn}
-
--- ---- the last pair with a key
-
--- whether a group behind these is the first of its body
-abbrev pub first_behind : Bool → List (List HeldLine) → Bool
-first_behind first [] = first
-first_behind first (g ∷ gs) = false
-
--- no group behind others is
-behind-others : (gs : List (List HeldLine)) → first_behind false gs ≡ false
-behind-others [] = refl
-behind-others (g ∷ gs) = refl
-
--- The plan changes the group in the place of the last pair with the key, if there is one.
-abbrev pub IsPlanAt : List ℕ → (Bool → List HeldLine → Change) → Bool → List (List HeldLine) → Option KeyPlace → Type 0
-IsPlanAt key change first gs None = at_last key change first gs ≡ None
-IsPlanAt key change first gs (Some p) =
-    (cs : List Change) × (at_last key change first gs ≡ Some cs)
-    × (planned cs gs ≡ groups_bytes p.before ++ planned (change (first_behind first p.before) p.group ∷ []) (p.group ∷ p.after))
-
--- Groups that stay have their bytes.
-pub all-stay : (gs : List (List HeldLine)) → planned (all_stay gs) gs ≡ groups_bytes gs
-all-stay [] = refl
-all-stay (g ∷ gs) = ap (λ v. group_bytes g ++ v) (all-stay gs)
-
--- So it makes no difference whether they are in the plan.
-stay-behind : (c : Change) (g : List HeldLine) (gs : List (List HeldLine)) → planned (c ∷ all_stay gs) (g ∷ gs) ≡ planned (c ∷ []) (g ∷ gs)
-stay-behind stay g gs = ap (λ v. group_bytes g ++ v) (all-stay gs)
-stay-behind go g gs = all-stay gs
-stay-behind (become x) g gs = ap (λ v. x ++ (ending_bytes (last_ending g) ++ v)) (all-stay gs)
-
-module _ (key : List ℕ) (change : Bool → List HeldLine → Change) where
-  -- One more group in front.
-  plan-next : (first : Bool) (g : List HeldLine) (gs : List (List HeldLine)) (o : Option KeyPlace) → last_place key gs ≡ o
-      → IsPlanAt key change false gs o → IsPlanAt key change first (g ∷ gs) (last_place key (g ∷ gs))
-  plan-next first g gs (Some p) s (cs, k, b) =
-      rw (s, k) (stay ∷ cs, refl, rw (b, behind-others p.before) (sym (append_assoc (group_bytes g) (groups_bytes p.before) _)))
-  plan-next first g gs None s k = elim (cases_Bool (has_key key g)) [
-    | inl h ↦ rw (s, h, k, h) (change first g ∷ all_stay gs, refl, stay-behind (change first g) g gs)
-    | inr h ↦ rw (s, h, k, h) refl
-  ]
-
-  pub plan-at : (first : Bool) (gs : List (List HeldLine)) → IsPlanAt key change first gs (last_place key gs)
-  plan-at first [] = refl
-  plan-at first (g ∷ gs) = plan-next first g gs (last_place key gs) refl (plan-at false gs)
-
--- Groups before another have bytes, so only the first one is at the front.
-pub front-bytes : (e : Encoding) (before : List (List HeldLine)) (g : List HeldLine) (after : List (List HeldLine)) → AreInTurn e (before ++ g ∷ after)
-    → first_behind true before ≡ is_empty (groups_bytes before)
-front-bytes e [] g after a = refl
-front-bytes e (f ∷ []) g after a = some (group_bytes f) (lines-some e a.0.0 f a.0.1) []
-  where
-    some : (x : List ℕ) → x ≢ [] → (y : List ℕ) → false ≡ is_empty (x ++ y)
-    some [] n y = absurd (n refl)
-    some (c ∷ x) n y = refl
-front-bytes e (f ∷ h ∷ before) g after a = some (group_bytes f) (lines-some e a.0.0 f a.0.1) (groups_bytes (h ∷ before))
-  where
-    some : (x : List ℕ) → x ≢ [] → (y : List ℕ) → false ≡ is_empty (x ++ y)
-    some [] n y = absurd (n refl)
-    some (c ∷ x) n y = refl
+use Rattle.properties_format.specs.Computed.Valued.{has_value, front_of, between_of, last_between, separator_by}
+use Rattle.properties_format.specs.Plan.{Change, planned, planned_or, removal, at_last, put_change, put_added, put_in, value_change, value_added, value_in, with_key_set, with_value_set, with_key_removed}
+use Rattle.properties_format.proofs.Body.Groups.{groups_bytes-append, held_groups_of-meets, held_groups_of-only}
+use Rattle.properties_format.proofs.Edited.Made.{has_key-true, has_key-false, HasKey-test, no_key-test}
+use Rattle.properties_format.proofs.InTurn.Merged.{AreInTurn, in-turn, turn-at}
+use Rattle.properties_format.proofs.Valued.Fronts.{AreDecoded, front_of-meets, front_of-only}
+use Rattle.properties_format.proofs.Valued.Made.{HasPair-test, has_value-true, new_separator-meets, new_separator-only, raw-pair}
+use Rattle.properties_format.proofs.Plan.Slots.{last-stays}
+use Rattle.properties_format.proofs.Plan.Last.{IsPlanOf, at_last-meets, at_last-none, at_last-some, front-bytes, planned-at}
+use Rattle.properties_format.proofs.Plan.Values.{decoded-by}
 
 -- ---- setting a key
 
-put-same : (r : Repertoire) (source key value : List ℕ) (gs : List (List HeldLine)) (o : Option KeyPlace) → AreInTurn r.encoding gs → IsPlace key gs o
-    → IsPlanAt key (put_change r key value) true gs o → put_in r source key value gs ≡ set_at r source gs key value o
-put-same r source key value gs None a m k = rw k refl
-put-same r source key value gs (Some p) a m (cs, k, b) =
-    let first = front-bytes r.encoding p.before p.group p.after (subst (AreInTurn r.encoding) m.division a) in
-    rw (k, b, first) refl
+module _ (r : Repertoire) (source key value : List ℕ) (gs : List (List HeldLine)) (a : AreInTurn r.encoding gs) where
+  -- The last pair with the key is replaced, or a pair is appended if there is none.
+  pub put-meets : (p : Option (List Change)) → IsPlanOf key (put_change r key value) true gs p
+      → (let body = planned_or p (put_added r source key value gs) gs in IsReplaced r gs key value body ⊎ IsAppended r source gs key value body)
+  put-meets None m = inr (record { no_pair = m; bytes = refl })
+  put-meets (Some cs) m =
+      inl (record {
+        before = m.before;
+        group = m.group;
+        after = m.after;
+        division = m.division;
+        has_key = m.has;
+        no_later = m.no_later;
+        bytes =
+            rw (m.plan, m.division, front-bytes r.encoding m.before m.group m.after (rw m.division at a))
+            (planned-at _ m.before m.group m.after);
+      })
 
--- The plan makes what the place of the last pair makes.
-pub put-place : (r : Repertoire) (source key value body : List ℕ) → is_editable r.encoding ≡ true
-    → (let gs = held_groups_of r.encoding body in put_in r source key value gs ≡ set_at r source gs key value (last_place key gs))
-put-place r source key value body ok =
-    let gs = held_groups_of r.encoding body in
-    put-same r source key value gs (last_place key gs) (in-turn r.encoding body gs ok (held_groups_of-meets r.encoding body)) (last_place-meets key gs)
-    (plan-at key (put_change r key value) true gs)
+  -- There is no other such body.
+  put-only : (body : List ℕ) → IsReplaced r gs key value body ⊎ IsAppended r source gs key value body → body ≡ put_in r source key value gs
+  put-only body (inl h) =
+      let first = front-bytes r.encoding h.before h.group h.after (rw h.division at a) in
+      let plan = at_last-some key (put_change r key value) true h.before h.group h.after h.has_key h.no_later in
+      rw (h.bytes, h.division, plan, planned-at, first) refl
+  put-only body (inr h) = rw (h.bytes, at_last-none key (put_change r key value) true gs h.no_pair) refl
 
-pub key_set-planned : (r : Repertoire) (source key value : List ℕ) → is_editable (byte_order_mark r.encoding source).encoding ≡ true
-    → with_key_set r source key value ≡ key_set r source key value
-key_set-planned r source key value ok =
-    let f = byte_order_mark r.encoding source in rw (put-place (in_encoding r f.encoding) source key value f.body ok)
+-- A source with a key set is what the plan makes,
+abbrev pub key_set-meets : (r : Repertoire) (source key value : List ℕ) → is_editable (byte_order_mark r.encoding source).encoding ≡ true
+    → IsKeySet r source key value (with_key_set r source key value)
+key_set-meets r source key value ok =
+    let f = byte_order_mark r.encoding source in
+    let t = in_encoding r f.encoding in
+    let gs = held_groups_of f.encoding f.body in
+    let held = held_groups_of-meets f.encoding f.body in
+    record {
+      groups = gs;
+      held = held;
+      body = put_in t source key value gs;
+      edited = put-meets t source key value gs (in-turn f.encoding f.body gs ok held) (at_last key (put_change t key value) true gs)
+          (at_last-meets key (put_change t key value) true gs);
+      whole = refl;
+    }
 
--- A source with a key set is what the plan makes, and nothing else is.
+-- and nothing else is.
 pub key_set-is_planned : (r : Repertoire) (source key value result : List ℕ) → is_editable (byte_order_mark r.encoding source).encoding ≡ true
     → IsKeySet r source key value result ↔ (result ≡ with_key_set r source key value)
-key_set-is_planned r source key value result ok =
-    let s = key_set-planned r source key value ok in
-    (λ h. key_set-only r source key value result h ∙ sym s, λ q. subst (IsKeySet r source key value) (sym (q ∙ s)) (key_set-meets r source key value))
+key_set-is_planned r source key value result ok = (only, λ q. subst (IsKeySet r source key value) (sym q) (key_set-meets r source key value ok))
+  where
+    only : IsKeySet r source key value result → result ≡ with_key_set r source key value
+    only h =
+        let f = byte_order_mark r.encoding source in
+        let t = in_encoding r f.encoding in
+        h.whole
+        ∙ ap (λ v. bom_of source ++ v) (put-only t source key value h.groups (in-turn f.encoding f.body h.groups ok h.held) h.body h.edited)
+        ∙ ap (λ gs. bom_of source ++ put_in t source key value gs) (held_groups_of-only f.encoding f.body h.groups h.held)
 
 -- ---- removing a key
 
-pub removal-without : (key : List ℕ) (gs : List (List HeldLine)) → planned (removal key gs) gs ≡ without key gs
-removal-without key [] = refl
-removal-without key (g ∷ gs) = elim (cases_Bool (has_key key g)) [
-  | inl h ↦ rw h (removal-without key gs)
-  | inr h ↦ rw h (ap (λ v. group_bytes g ++ v) (removal-without key gs))
+removal-meets : (key : List ℕ) (gs : List (List HeldLine)) → IsWithout key gs (planned (removal key gs) gs)
+removal-meets key [] = refl
+removal-meets key (g ∷ gs) = elim (cases_Bool (has_key key g)) [
+  | inl h ↦ rw h (inl (has_key-true key g h, removal-meets key gs))
+  | inr h ↦ rw h (inr (has_key-false key g h, planned (removal key gs) gs, refl, removal-meets key gs))
 ]
 
-pub key_removed-planned : (e : Encoding) (source key : List ℕ) → with_key_removed e source key ≡ key_removed e source key
-key_removed-planned e source key =
-    let f = byte_order_mark e source in rw (removal-without key (held_groups_of f.encoding f.body))
+removal-only : (key : List ℕ) (gs : List (List HeldLine)) (rest : List ℕ) → IsWithout key gs rest → rest ≡ planned (removal key gs) gs
+removal-only key [] rest h = h
+removal-only key (g ∷ gs) rest (inl h) = rw (HasKey-test key g h.0) (removal-only key gs rest h.1)
+removal-only key (g ∷ gs) rest (inr h) = rw (no_key-test key g h.0, h.2, removal-only key gs h.1 h.3) refl
 
 -- A source without a key is what the plan makes, and nothing else is.
 pub key_removed-is_planned : (e : Encoding) (source key result : List ℕ) → IsKeyRemoved e source key result ↔ (result ≡ with_key_removed e source key)
-key_removed-is_planned e source key result =
-    let s = key_removed-planned e source key in
-    (λ h. key_removed-only e source key result h ∙ sym s, λ q. subst (IsKeyRemoved e source key) (sym (q ∙ s)) (key_removed-meets e source key))
+key_removed-is_planned e source key result = (only, λ q. subst (IsKeyRemoved e source key) (sym q) meets)
+  where
+    only : IsKeyRemoved e source key result → result ≡ with_key_removed e source key
+    only h =
+        let f = byte_order_mark e source in
+        rw (← held_groups_of-only f.encoding f.body h.groups h.held, h.whole, removal-only key h.groups h.rest h.without) refl
+
+    meets : IsKeyRemoved e source key (with_key_removed e source key)
+    meets =
+        let f = byte_order_mark e source in
+        let gs = held_groups_of f.encoding f.body in
+        record {
+          groups = gs;
+          held = held_groups_of-meets f.encoding f.body;
+          rest = planned (removal key gs) gs;
+          without = removal-meets key gs;
+          whole = refl;
+        }
 
 -- ---- setting a value
 
-value-same : (r : Repertoire) (key value : List ℕ) (gs : List (List HeldLine)) (o : Option KeyPlace) → IsPlace key gs o
-    → IsPlanAt key (value_change r value) true gs o → value_in r key value gs ≡ valued_at r gs key value o
-value-same r key value gs None m k = rw k refl
-value-same r key value gs (Some p) m (cs, k, b) = elim (cases_Bool (has_value value p.group)) [
-  | inl h ↦ rw (k, b, h) (bytes-whole p.before p.group p.after ∙ ap groups_bytes (sym m.division))
-  | inr h ↦ rw (k, b, h) (ap (λ v. groups_bytes p.before ++ v)
-      (append_assoc (front_of r.encoding p.group) (encoded_text r.encoding (value_text r (between_of p.group) value)) (ending_bytes (last_ending p.group) ++ groups_bytes p.after)))
-]
-  where
-    bytes-whole : (before : List (List HeldLine)) (g : List HeldLine) (after : List (List HeldLine))
-        → groups_bytes before ++ (group_bytes g ++ groups_bytes after) ≡ groups_bytes (before ++ g ∷ after)
-    bytes-whole [] g after = refl
-    bytes-whole (f ∷ before) g after = append_assoc (group_bytes f) _ _ ∙ ap (λ v. group_bytes f ++ v) (bytes-whole before g after)
+module _ (r : Repertoire) (key value : List ℕ) (gs : List (List HeldLine)) (ok : is_editable r.encoding ≡ true) (a : AreInTurn r.encoding gs) where
+  decoded : (before : List (List HeldLine)) (g : List HeldLine) (after : List (List HeldLine)) → gs ≡ before ++ g ∷ after → AreDecoded r.encoding g
+  decoded before g after s = let t = turn-at r.encoding before g after (rw s at a) in decoded-by r.encoding t.0 g t.1
 
-pub value_set-planned : (r : Repertoire) (source key value : List ℕ) → with_value_set r source key value ≡ value_set r source key value
-value_set-planned r source key value =
+  -- The last pair with the key has the value, or gets it, or a pair is added.
+  pub valued-meets : (p : Option (List Change)) → IsPlanOf key (value_change r value) true gs p
+      → IsBodyValued r gs key value (planned_or p (value_added r key value gs) gs)
+  valued-meets None m =
+      inr (inr (record { no_pair = m; separator = separator_by key (last_between gs); is_separator = new_separator-meets gs key; bytes = refl }))
+  valued-meets (Some cs) m = elim (cases_Bool (has_value value m.group)) [
+    | inl k ↦
+        inl (record {
+          before = m.before;
+          group = m.group;
+          after = m.after;
+          division = m.division;
+          has_pair = has_value-true key value m.group m.has k;
+          no_later = m.no_later;
+          bytes = (last-stays key (value_change r value) true gs cs m (rw k refl)).0;
+        })
+    | inr k ↦
+        let q = raw-pair key m.group m.has in
+        inr (inl (record {
+          before = m.before;
+          group = m.group;
+          after = m.after;
+          division = m.division;
+          has_key = m.has;
+          other_value = λ h. let t = HasPair-test key value m.group h in absurd (cc);
+          no_later = m.no_later;
+          between = between_of m.group;
+          front = front_of r.encoding m.group;
+          is_front = front_of-meets r.encoding m.group q.0 q.1 ok (decoded m.before m.group m.after m.division) q.2;
+          bytes =
+              rw (m.plan, m.division, k)
+              (planned-at _ m.before m.group m.after ∙ ap (λ v. groups_bytes m.before ++ v) (append_assoc (front_of r.encoding m.group) _ _));
+        }))
+  ]
+
+  -- There is no other such body.
+  valued-only : (body : List ℕ) → IsBodyValued r gs key value body → body ≡ value_in r key value gs
+  valued-only body (inl h) =
+      let plan = at_last-some key (value_change r value) true h.before h.group h.after (value, h.has_pair) h.no_later in
+      rw (h.bytes, h.division, plan, planned-at, HasPair-test key value h.group h.has_pair) (groups_bytes-append h.before (h.group ∷ h.after))
+  valued-only body (inr (inl h)) =
+      let plan = at_last-some key (value_change r value) true h.before h.group h.after h.has_key h.no_later in
+      let other = false_from_ne_true (has_value value h.group) (λ k. h.other_value (has_value-true key value h.group h.has_key k)) in
+      let f = front_of-only r.encoding h.group h.between h.front ok (decoded h.before h.group h.after h.division) h.is_front in
+      rw (h.bytes, h.division, plan, planned-at, other, f.0, f.1)
+      (ap (λ v. groups_bytes h.before ++ v) (sym (append_assoc (front_of r.encoding h.group) _ _)))
+  valued-only body (inr (inr h)) =
+      rw (h.bytes, at_last-none key (value_change r value) true gs h.no_pair, new_separator-only gs key h.separator h.is_separator) refl
+
+-- A source with a value set is what the plan makes,
+abbrev pub value_set-meets : (r : Repertoire) (source key value : List ℕ) → is_editable (byte_order_mark r.encoding source).encoding ≡ true
+    → IsValueSet r source key value (with_value_set r source key value)
+value_set-meets r source key value ok =
     let f = byte_order_mark r.encoding source in
-    let gs = held_groups_of f.encoding f.body in
     let t = in_encoding r f.encoding in
-    rw (value-same t key value gs (last_place key gs) (last_place-meets key gs) (plan-at key (value_change t value) true gs))
+    let gs = held_groups_of f.encoding f.body in
+    let held = held_groups_of-meets f.encoding f.body in
+    record {
+      groups = gs;
+      held = held;
+      body = value_in t key value gs;
+      edited = valued-meets t key value gs ok (in-turn f.encoding f.body gs ok held) (at_last key (value_change t value) true gs)
+          (at_last-meets key (value_change t value) true gs);
+      whole = refl;
+    }
 
--- A source with a value set is what the plan makes, and nothing else is.
+-- and nothing else is.
 pub value_set-is_planned : (r : Repertoire) (source key value result : List ℕ) → is_editable (byte_order_mark r.encoding source).encoding ≡ true
     → IsValueSet r source key value result ↔ (result ≡ with_value_set r source key value)
-value_set-is_planned r source key value result ok =
-    let s = value_set-planned r source key value in
-    (λ h. value_set-only r source key value result ok h ∙ sym s, λ q. subst (IsValueSet r source key value) (sym (q ∙ s)) (value_set-meets r source key value ok))
+value_set-is_planned r source key value result ok = (only, λ q. subst (IsValueSet r source key value) (sym q) (value_set-meets r source key value ok))
+  where
+    only : IsValueSet r source key value result → result ≡ with_value_set r source key value
+    only h =
+        let f = byte_order_mark r.encoding source in
+        let t = in_encoding r f.encoding in
+        h.whole
+        ∙ ap (λ v. bom_of source ++ v) (valued-only t key value h.groups ok (in-turn f.encoding f.body h.groups ok h.held) h.body h.edited)
+        ∙ ap (λ gs. bom_of source ++ value_in t key value gs) (held_groups_of-only f.encoding f.body h.groups h.held)

@@ -1,40 +1,29 @@
--- A value that is set among groups that stand for a body, of which no pair has the key.
-use Rattle.std.proofs.Common.{◌≡◌, ◌≢◌, ℕ, true, List, [], ◌∷◌, ◌++◌, All, Option, Some, None, refl, ap, sym, ◌∙◌, append-nil}
+-- A value that is set among groups that stand for a body.
+use Rattle.std.proofs.Common.{◌≡◌, ◌≢◌, ℕ, Bool, true, List, [], ◌∷◌, ◌++◌, All, Option, Some, None, refl, ap, sym, ◌∙◌, inl, inr, append_assoc, append-nil}
+use Rattle.std.proofs.lemmas.Bool.{cases_Bool}
 use Rattle.properties_format.specs.Text.{scalar, LineEnding, lf, cr, crlf, line_ending_text, line_feed, carriage_return, is_empty}
 use Rattle.properties_format.specs.Encoding.{Encoding, Repertoire}
-use Rattle.properties_format.specs.Lines.{HoldsNoLineEnding}
-use Rattle.properties_format.specs.Body.{HeldLine, held_in, ending_bytes, groups_bytes}
-use Rattle.properties_format.specs.Edited.{is_editable, final_group, separation_by}
+use Rattle.properties_format.specs.Printing.{encoded_text, printed_key}
+use Rattle.properties_format.specs.Body.{HeldLine, held_in, groups_bytes}
+use Rattle.properties_format.specs.Edited.{is_editable, is_empty_line, final_group, separation_by}
 use Rattle.properties_format.specs.Valued.{ending_among}
-use Rattle.properties_format.specs.Plan.{Change, at_last, value_change, value_in}
+use Rattle.properties_format.specs.Plan.{Change, become, at_last, value_change, value_added, value_in}
 use Rattle.properties_format.specs.Computed.Lines.{ends_in_cr}
-use Rattle.properties_format.specs.Computed.Body.{held_groups_of, unended_bytes}
-use Rattle.properties_format.specs.Computed.Valued.{last_between, separator_by}
+use Rattle.properties_format.specs.Computed.Cut.{decoded_line}
+use Rattle.properties_format.specs.Computed.Body.{held_groups_of, held_lines_of, unended_bytes}
+use Rattle.properties_format.specs.Computed.Valued.{last_between, separator_by, has_value}
 use Rattle.properties_format.proofs.Lines.Plain.{plain-no_cr, ends_in_cr-append}
-use Rattle.properties_format.proofs.Body.Groups.{held-body, held_groups_of-meets}
-use Rattle.properties_format.proofs.InTurn.Lines.{AreLinesBy}
-use Rattle.properties_format.proofs.InTurn.Merged.{AreInTurn, merged-final, in-turn}
-use Rattle.properties_format.proofs.Valued.Made.{new_separator-meets}
-use Rattle.properties_format.proofs.Valued.Separators.{added_bytes, added-pair, new_separator-fit}
-use Rattle.properties_format.proofs.Plan.Slots.{AreSlotsOf, groups_after, slots-merged, last-merged, merged_if}
-use Rattle.properties_format.proofs.Plan.Added.{IsSafeAfter, groups_added, plain-fit, slots-added}
-use Rattle.properties_format.proofs.Plan.Values.{slots-value, value-with}
+use Rattle.properties_format.proofs.Printing.Characters.{encoded_text-append}
+use Rattle.properties_format.proofs.InTurn.Lines.{AreLinesBy, unended-some}
+use Rattle.properties_format.proofs.InTurn.Merged.{AreInTurn}
+use Rattle.properties_format.proofs.Valued.Fronts.{front_of-only}
+use Rattle.properties_format.proofs.Valued.Made.{new_separator-meets, one-value}
+use Rattle.properties_format.proofs.Valued.Separators.{IsFitSeparator, IsAddedPair, added_bytes, added_line, added-pair, added-text, new_separator-fit}
+use Rattle.properties_format.proofs.Plan.Slots.{IsGroupText, SayPair, AreSlotsOf, group_of, groups_after, own-slots, slots-final, slots-none, slots-last, Becomes}
+use Rattle.properties_format.proofs.Plan.Added.{IsSafeAfter, plain-held, groups_added, plain-fit, slots-added}
+use Rattle.properties_format.proofs.Plan.Values.{value-fit, value-with}
 
 -- ---- the last line ending fits behind the last group
-
--- A text ends as its last part ends.
-ends-some : (x y : List ℕ) → y ≢ [] → ends_in_cr (x ++ y) ≡ ends_in_cr y
-ends-some x [] n = absurd (n refl)
-ends-some x (c ∷ y) n = ends_in_cr-append x c y
-
-ending-some : (by : LineEnding) (y : List ℕ) → line_ending_text by ++ y ≢ []
-ending-some lf y q = cc
-ending-some cr y q = cc
-ending-some crlf y q = cc
-
-some-right : (x y : List ℕ) → y ≢ [] → x ++ y ≢ []
-some-right [] y n q = n q
-some-right (c ∷ x) y n q = cc
 
 ends-by : (x : List ℕ) (by : LineEnding) → ends_in_cr (x ++ (line_ending_text by ++ [])) ≡ true → by ≡ cr
 ends-by x cr c = refl
@@ -45,32 +34,65 @@ ends-by x crlf c = let q = sym (ends_in_cr-append x carriage_return (line_feed �
 lines-cr : (e : Encoding) (a : LineEnding) (hs : List HeldLine) → AreLinesBy e None hs → ends_in_cr (unended_bytes hs) ≡ true → ending_among a hs ≡ cr
 lines-cr e a [] b c = absurd b
 lines-cr e a (h ∷ []) b c = let q = plain-no_cr h.bytes b.0 in absurd (cc)
-lines-cr e a (h ∷ i ∷ []) (p, s, (by, t, k), b) c = rw (t, b.2) (of-bytes i.bytes b.0 (rw t at c))
+lines-cr e a (h ∷ i ∷ hs) (p, s, (by, t, k), b) c = rw t (of-rest (unended_bytes (i ∷ hs)) refl (rw t at c) (lines-cr e by (i ∷ hs) b))
   where
-    of-bytes : (x : List ℕ) → HoldsNoLineEnding x → ends_in_cr (h.bytes ++ (line_ending_text by ++ x)) ≡ true → by ≡ cr
-    of-bytes [] p c = ends-by h.bytes by c
-    of-bytes (d ∷ x) p c =
-        let q = plain-no_cr (d ∷ x) p in
-        let r = ends-some h.bytes (line_ending_text by ++ d ∷ x) (ending-some by (d ∷ x)) ∙ ends-some (line_ending_text by) (d ∷ x) (λ z. cc) in
-        absurd (cc)
-lines-cr e a (h ∷ i ∷ j ∷ hs) (p, s, (by, t, k), b) c =
-    rw t (lines-cr e by (i ∷ j ∷ hs) b
-    (sym (ends-some h.bytes (ending_bytes h.ending ++ y) (some-right (ending_bytes h.ending) y some) ∙ ends-some (ending_bytes h.ending) y some) ∙ c))
-  where
-    y : List ℕ
-    y = unended_bytes (i ∷ j ∷ hs)
+    alone : (hs : List HeldLine) → AreLinesBy e None (i ∷ hs) → is_empty_line (i ∷ hs) ≡ true → by ≡ cr → ending_among by (i ∷ hs) ≡ cr
+    alone [] b q s = rw b.2 s
+    alone (j ∷ hs) b q s = absurd (cc)
 
-    some : unended_bytes (i ∷ j ∷ hs) ≢ []
-    some = some-right i.bytes (ending_bytes i.ending ++ unended_bytes (j ∷ hs)) (rw b.2.1 (ending-some b.2.0 (unended_bytes (j ∷ hs))))
+    of-rest : (y : List ℕ) → unended_bytes (i ∷ hs) ≡ y → ends_in_cr (h.bytes ++ (line_ending_text by ++ y)) ≡ true
+        → (ends_in_cr (unended_bytes (i ∷ hs)) ≡ true → ending_among by (i ∷ hs) ≡ cr) → ending_among by (i ∷ hs) ≡ cr
+    of-rest [] q c again = alone hs b (unended-some e None (i ∷ hs) b q) (ends-by h.bytes by c)
+    of-rest (d ∷ y) q c again =
+        again (ap ends_in_cr q ∙ sym (ends_in_cr-append (h.bytes ++ line_ending_text by) d y)
+        ∙ ap ends_in_cr (append_assoc h.bytes (line_ending_text by) (d ∷ y)) ∙ c)
 
 among-append : (a : LineEnding) (x y : List HeldLine) → ending_among a (x ++ y) ≡ ending_among (ending_among a x) y
 among-append a [] y = refl
 among-append a (h ∷ x) y = among-append _ x y
 
-groups-cr : (e : Encoding) (a : LineEnding) (gs : List (List HeldLine)) → AreInTurn e gs → ends_in_cr (unended_bytes (final_group gs)) ≡ true → ending_among a (held_in gs) ≡ cr
+groups-cr : (e : Encoding) (a : LineEnding) (gs : List (List HeldLine)) → AreInTurn e gs → ends_in_cr (unended_bytes (final_group gs)) ≡ true
+    → ending_among a (held_in gs) ≡ cr
 groups-cr e a [] b c = absurd b
 groups-cr e a (g ∷ []) b c = ap (ending_among a) (append-nil g) ∙ lines-cr e a g b.0 c
 groups-cr e a (g ∷ h ∷ gs) b c = among-append a g (held_in (h ∷ gs)) ∙ groups-cr e (ending_among a g) (h ∷ gs) b.1 c
+
+-- ---- the new pair is a group
+
+module _ (r : Repertoire) (first : Bool) (key sep value : List ℕ) (ok : is_editable r.encoding ≡ true) (k : All scalar key) (v : All scalar value)
+    (f : IsFitSeparator key sep) where
+  abbrev x : List ℕ
+  x = added_bytes r first key sep value
+
+  made : (by : LineEnding) → IsAddedPair r first key sep value by
+  made by = added-pair r first key sep value by ok k v f
+
+  held : held_lines_of r.encoding x ≡ record { bytes = x; text = decoded_line r.encoding x; ending = None } ∷ []
+  held = plain-held r.encoding x ok (made lf).plain
+
+  pub added-fit : IsGroupText r.encoding x
+  added-fit = plain-fit r.encoding x ok (made lf).plain (made lf).whole
+
+  pub added-some : x ≢ []
+  added-some = (made lf).some
+
+  pub added-said : SayPair r.encoding key value x
+  added-said = rw held (made lf).has_pair
+
+  -- With another value, it is the new pair with that value.
+  pub added-again : (second : List ℕ) (any : Bool) (by : LineEnding)
+      → Becomes x (added_bytes r first key sep second) (value_change r second any (group_of r.encoding x (Some by)))
+  added-again second any by =
+      let p = made by in
+      let g = added_line r first key sep value by ∷ [] in
+      let m = front_of-only r.encoding g p.between _ ok (refl, tt) p.is_front in
+      elim (cases_Bool (has_value second g)) [
+        | inl h ↦ rw (held, h) (inr (refl, ap (λ w. added_bytes r first key sep w) (sym (one-value key value second g p.has_pair h))))
+        | inr h ↦
+            let written = printed_key r first key in
+            rw (held, h) (inl (ap become (rw (← m.0, ← m.1, added-text r p.between sep second p.between_some p.blanks)
+            (sym (encoded_text-append r.encoding (written ++ sep) _) ∙ ap (encoded_text r.encoding) (append_assoc written sep _)))))
+      ]
 
 -- ---- the value is set
 
@@ -87,29 +109,24 @@ module _ (r : Repertoire) (body key value : List ℕ) (gs : List (List HeldLine)
   abbrev all : List (List HeldLine)
   all = held_groups_of r.encoding body
 
-  whole : groups_bytes all ≡ body
-  whole = held-body r.encoding body all ok (held_groups_of-meets r.encoding body)
-
-  final : final_group all ≡ final_group gs
-  final = ap final_group (sym (slots-merged r.encoding body gs ok s)) ∙ merged-final r.encoding gs s.turn
-
   safe : IsSafeAfter (ending_among lf (held_in all)) (final_group gs)
   safe c =
-      rw (groups-cr r.encoding lf all (in-turn r.encoding body all ok (held_groups_of-meets r.encoding body)) (ap (λ g. ends_in_cr (unended_bytes g)) final ∙ c)) refl
+      rw (groups-cr r.encoding lf all (own-slots r.encoding body ok).turn
+      (ap (λ g. ends_in_cr (unended_bytes g)) (slots-final r.encoding body gs ok s) ∙ c)) refl
 
   value-at : (p : Option (List Change)) → at_last key (value_change r value) true gs ≡ p
       → AreSlotsOf r.encoding (value_in r key value all) (groups_valued r all key value gs p)
-  value-at (Some cs) q = slots-value r body key value gs cs ok v s q
+  value-at (Some cs) q =
+      slots-last r.encoding body key (value_change r value) gs ok (λ first p o g a h. value-with r key value first p o g ok a h) s
+      (λ first p g a w h. value-fit r key value first p g ok v a w h) cs q (value_added r key value all)
   value-at None q =
       let by = ending_among lf (held_in all) in
       let sep = separator_by key (last_between all) in
-      let front = groups_bytes all ++ separation_by (line_ending_text by) (final_group all) in
-      let p = added-pair r (is_empty front) key sep value by ok k v (new_separator-fit all key sep (new_separator-meets all key)) in
-      let plan : at_last key (value_change r value) true all ≡ None =
-      ap (at_last key (value_change r value) true) (sym (slots-merged r.encoding body gs ok s))
-      ∙ last-merged r.encoding key (value_change r value) (λ first p o g a h. value-with r key value first p o g ok a h) true gs s.turn ∙ ap (merged_if gs) q in
-      let a = slots-added r.encoding body gs by (added_bytes r (is_empty front) key sep value) by ok s safe (plain-fit r.encoding (added_bytes r (is_empty front) key sep value) ok p.plain p.whole) in
-      rw (plan, whole) (rw whole at a)
+      let first = is_empty (groups_bytes all ++ separation_by (line_ending_text by) (final_group all)) in
+      let fit = added-fit r first key sep value ok k v (new_separator-fit all key sep (new_separator-meets all key)) in
+      let plan = slots-none r.encoding body key (value_change r value) gs ok (λ first p o g a h. value-with r key value first p o g ok a h) s q in
+      let whole = (own-slots r.encoding body ok).bytes in
+      rw (plan, whole) (rw whole at (slots-added r.encoding body gs by (added_bytes r first key sep value) by ok s safe fit))
 
   -- A value that is set among groups that stand for a body is set in the body.
   pub slots-valued : AreSlotsOf r.encoding (value_in r key value all) (groups_valued r all key value gs (at_last key (value_change r value) true gs))

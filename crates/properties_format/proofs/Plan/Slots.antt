@@ -1,25 +1,29 @@
 -- A plan that is carried out on groups in turn, of which a CR may come before a single LF: the result is such groups
 -- again, and its bytes are those of the plan for the groups that their bytes have. So an editor may keep the groups
--- that a plan leaves as they are, and need not read the bytes anew.
-use Rattle.std.proofs.Common.{◌≡◌, ℕ, Bool, true, false, List, [], ◌∷◌, ◌++◌, Option, Some, None, refl, ap, sym, ◌∙◌, inl, inr, append_assoc, append-nil, subst}
+-- that a plan leaves as they are, and need not read the bytes again.
+use Rattle.std.proofs.Common.{◌≡◌, ◌⊎◌, ℕ, Bool, true, false, List, [], ◌∷◌, ◌++◌, Option, Some, None, refl, ap, sym, ◌∙◌, inl, inr, append_assoc, append-nil, subst}
 use Rattle.std.specs.Prelude.{if◌then◌else◌}
 use Rattle.std.proofs.lemmas.Bool.{cases_Bool}
 use Rattle.properties_format.specs.Text.{LineEnding, lf, cr, crlf}
 use Rattle.properties_format.specs.Encoding.{Encoding}
 use Rattle.properties_format.specs.Lines.{IsWhole, joined}
-use Rattle.properties_format.specs.Body.{HeldLine, as_lines, AreGroupsOf, ending_bytes, group_bytes, groups_bytes, last_ending}
-use Rattle.properties_format.specs.Edited.{is_editable}
+use Rattle.properties_format.specs.Body.{HeldLine, HasKey, NoneHasKey, as_lines, AreGroupsOf, ending_bytes, group_bytes, groups_bytes, last_ending}
+use Rattle.properties_format.specs.Edited.{is_editable, final_group}
+use Rattle.properties_format.specs.Valued.{HasPair}
 use Rattle.properties_format.specs.Plan.{Change, stay, go, become, planned, removal, at_last, planned_or, this_or_later, all_stay}
+use Rattle.properties_format.specs.Items.{ignored}
 use Rattle.properties_format.specs.Computed.Items.{outcome_of}
 use Rattle.properties_format.specs.Computed.Lines.{ends_in_cr}
 use Rattle.properties_format.specs.Computed.Cut.{cut_of, decoded_line}
 use Rattle.properties_format.specs.Computed.Body.{held_lines_of, held_groups_of, unended_bytes, has_key, is_pair_with}
 use Rattle.properties_format.proofs.Body.Decoded.{decoded-nil, IsCut-lines}
-use Rattle.properties_format.proofs.Body.Groups.{IsLastFit, held-bytes, held-last, held_groups_of-only}
+use Rattle.properties_format.proofs.Body.Groups.{IsLastFit, groups_bytes-append, held-body, held-bytes, held-last, held_groups_of-meets, held_groups_of-only}
 use Rattle.properties_format.proofs.Cut.Meets.{cut_of-meets}
 use Rattle.properties_format.proofs.Edited.Fronts.{outcome-empty}
-use Rattle.properties_format.proofs.InTurn.Lines.{AreLinesBy, bytes-unended, ending-of, with_ending, texts-with, unended-some, ending-with, bytes-with, lines-with}
-use Rattle.properties_format.proofs.InTurn.Merged.{AreInTurn, IsEndedGroup, IsLastGroup, merged, merged-groups, are_one_ending, IsOneEnding, one-ending, one-bytes, after-lf, last-lines}
+use Rattle.properties_format.proofs.Edited.Made.{has_key-false, HasKey-test}
+use Rattle.properties_format.proofs.InTurn.Lines.{AreLinesBy, bytes-unended, ending-of, with_ending, texts-with, unended-some, unended-with, ending-with, bytes-with, lines-with}
+use Rattle.properties_format.proofs.InTurn.Merged.{AreInTurn, in-turn, turn-first, turn-at, IsEndedGroup, IsLastGroup, merged, merged-final, merged-groups, are_one_ending, IsOneEnding, one-ending, one-bytes, after-lf, last-lines}
+use Rattle.properties_format.proofs.Plan.Last.{first_behind, IsLastPlan, at_last-meets, at_last-some, planned-at}
 
 -- ---- the groups after a plan
 
@@ -48,6 +52,20 @@ merged_plan cs gs = cs
 pub record IsGroupText (e : Encoding) (x : List ℕ) : Type 0 where
   pub whole : IsWhole (as_lines (held_lines_of e x))
   pub no_cr : ends_in_cr x ≡ false
+
+-- The bytes are a pair with this key and this value.
+abbrev pub SayPair : Encoding → List ℕ → List ℕ → List ℕ → Type 0
+SayPair e key value x = HasPair key value (held_lines_of e x)
+
+-- The group is a pair with this key and this value after the change.
+abbrev pub IsPairAfter : Encoding → List ℕ → List ℕ → List HeldLine → Change → Type 0
+IsPairAfter e key value g stay = HasPair key value g
+IsPairAfter e key value g go = ⊥
+IsPairAfter e key value g (become x) = SayPair e key value x
+
+-- The group of such bytes is such a pair, whatever its line ending.
+pub said-group : (e : Encoding) (key value x : List ℕ) (o : Option LineEnding) → SayPair e key value x → HasPair key value (group_of e x o)
+said-group e key value x o h = rw (texts-with o (held_lines_of e x)) h
 
 abbrev pub IsFitChange : Encoding → Change → Type 0
 IsFitChange e (become x) = IsGroupText e x
@@ -92,6 +110,9 @@ module _ (e : Encoding) (ok : is_editable e ≡ true) (x : List ℕ) where
       of-lines [] a = absurd a
       of-lines (h ∷ hs) a = ending-with o h hs
 
+  pub group-unended : (o : Option LineEnding) → unended_bytes (group_of e x o) ≡ x
+  group-unended o = unended-with o (held_lines_of e x) ∙ new-unended
+
   pub group-lines : (o : Option LineEnding) → ends_in_cr x ≡ false → AreLinesBy e o (group_of e x o)
   group-lines o n = lines-with e None o (held_lines_of e x) new-lines (λ c. let q = sym (ap ends_in_cr new-unended) ∙ c in absurd (cc))
 
@@ -123,7 +144,8 @@ bytes-after e (c ∷ d ∷ cs) (g ∷ h ∷ gs) ok p = elim (cases_Bool (are_one
         lf-bytes : (h : List HeldLine) → IsOneEnding g h → group_bytes h ≡ ending_bytes (Some lf)
         lf-bytes h m = bytes-unended h ∙ rw (m.empty, m.by_lf) refl
 
-    two : (c : Change) → are_one_ending g h ≡ false → groups_bytes (groups_after e (d ∷ cs) (h ∷ gs)) ≡ planned (merged_plan (d ∷ cs) (h ∷ gs)) (merged (h ∷ gs))
+    two : (c : Change) → are_one_ending g h ≡ false
+        → groups_bytes (groups_after e (d ∷ cs) (h ∷ gs)) ≡ planned (merged_plan (d ∷ cs) (h ∷ gs)) (merged (h ∷ gs))
         → groups_bytes (groups_after e (c ∷ d ∷ cs) (g ∷ h ∷ gs)) ≡ planned (c ∷ merged_plan (d ∷ cs) (h ∷ gs)) (g ∷ merged (h ∷ gs))
     two stay k i = ap (λ v. group_bytes g ++ v) i
     two go k i = rw k i
@@ -143,12 +165,17 @@ turn-cons e g (h ∷ gs) w a = (w, a)
 pub last-empty : (e : Encoding) → IsLastGroup e (no_line e ∷ [])
 last-empty e = rw (decoded-nil e) ((tt, refl, refl), inl (inr (refl, refl)))
 
--- A group that becomes other bytes ends as it did.
-ended-new : (e : Encoding) (x : List ℕ) (g : List HeldLine) → is_editable e ≡ true → IsGroupText e x → IsEndedGroup e g → IsEndedGroup e (group_of e x (last_ending g))
-ended-new e x g ok f (by, a, w) =
-    rw (ending-of e (Some by) g a) (by, group-lines e ok x (Some by) f.no_cr, rw (texts-with (Some by) (held_lines_of e x)) f.whole)
+-- A group of such bytes with a line ending is an ended one,
+pub text-ended : (e : Encoding) (x : List ℕ) (by : LineEnding) → is_editable e ≡ true → IsGroupText e x → IsEndedGroup e (group_of e x (Some by))
+text-ended e x by ok f = (by, group-lines e ok x (Some by) f.no_cr, rw texts-with f.whole)
 
-last-new : (e : Encoding) (x : List ℕ) (g : List HeldLine) → is_editable e ≡ true → IsGroupText e x → IsLastGroup e g → IsLastGroup e (group_of e x (last_ending g))
+-- and so is a group that becomes such bytes, if it was one.
+ended-new : (e : Encoding) (x : List ℕ) (g : List HeldLine) → is_editable e ≡ true → IsGroupText e x → IsEndedGroup e g
+    → IsEndedGroup e (group_of e x (last_ending g))
+ended-new e x g ok f (by, a, w) = rw (ending-of e (Some by) g a) (text-ended e x by ok f)
+
+last-new : (e : Encoding) (x : List ℕ) (g : List HeldLine) → is_editable e ≡ true → IsGroupText e x → IsLastGroup e g
+    → IsLastGroup e (group_of e x (last_ending g))
 last-new e x g ok f (a, w) =
     rw (ending-of e None g a) (group-lines e ok x None f.no_cr, inl (rw (texts-with None (held_lines_of e x)) f.whole))
 
@@ -187,13 +214,20 @@ removal-merged key (g ∷ h ∷ gs) = elim (cases_Bool (are_one_ending g h)) [
 
 -- ---- what is no pair
 
--- A single LF is no pair.
-pub lf-no_key : (e : Encoding) (o : Option LineEnding) (key : List ℕ) (g : List HeldLine) → AreLinesBy e o g → unended_bytes g ≡ [] → has_key key g ≡ false
-lf-no_key e o key [] a u = absurd a
-lf-no_key e o key (h ∷ []) (p, s, t) u = rw (s, u, decoded-nil e) (ap (is_pair_with key) outcome-empty)
-lf-no_key e o key (h ∷ i ∷ hs) a u = let q = unended-some e o (h ∷ i ∷ hs) a u in absurd (cc)
+-- A single LF is a blank line,
+pub lf-ignored : (e : Encoding) (o : Option LineEnding) (g : List HeldLine) → AreLinesBy e o g → unended_bytes g ≡ []
+    → outcome_of (joined (as_lines g)) ≡ ignored
+lf-ignored e o [] a u = absurd a
+lf-ignored e o (h ∷ []) (p, s, t) u = rw (s, u, decoded-nil e) outcome-empty
+lf-ignored e o (h ∷ i ∷ hs) a u = let q = unended-some e o (h ∷ i ∷ hs) a u in absurd (cc)
 
-lf-stays : (e : Encoding) (o : Option LineEnding) (key : List ℕ) (g : List HeldLine) → AreLinesBy e o g → unended_bytes g ≡ [] → (if has_key key g then go else stay) ≡ stay
+-- and so no pair.
+pub lf-no_key : (e : Encoding) (o : Option LineEnding) (key : List ℕ) (g : List HeldLine) → AreLinesBy e o g → unended_bytes g ≡ []
+    → has_key key g ≡ false
+lf-no_key e o key g a u = ap (is_pair_with key) (lf-ignored e o g a u)
+
+lf-stays : (e : Encoding) (o : Option LineEnding) (key : List ℕ) (g : List HeldLine) → AreLinesBy e o g → unended_bytes g ≡ []
+    → (if has_key key g then go else stay) ≡ stay
 lf-stays e o key g a u = rw (lf-no_key e o key g a u) refl
 
 removal-fit : (e : Encoding) (key : List ℕ) (g : List HeldLine) → IsFitChange e (if has_key key g then go else stay)
@@ -230,9 +264,11 @@ merged_if gs None = None
 merged_if gs (Some cs) = Some (merged_plan cs gs)
 
 module _ (e : Encoding) (key : List ℕ) (change : Bool → List HeldLine → Change)
-    (same : (first : Bool) (p o : Option LineEnding) (g : List HeldLine) → AreLinesBy e p g → has_key key g ≡ true → change first (with_ending o g) ≡ change first g) where
+    (same : (first : Bool) (p o : Option LineEnding) (g : List HeldLine) → AreLinesBy e p g → has_key key g ≡ true
+    → change first (with_ending o g) ≡ change first g) where
   -- One line ending is made of two groups,
-  last-one : (first : Bool) (g h : List HeldLine) (gs : List (List HeldLine)) (p : Option LineEnding) (o : Option (List Change)) → AreLinesBy e p g → are_one_ending g h ≡ true → has_key key h ≡ false
+  last-one : (first : Bool) (g h : List HeldLine) (gs : List (List HeldLine)) (p : Option LineEnding) (o : Option (List Change)) → AreLinesBy e p g
+      → are_one_ending g h ≡ true → has_key key h ≡ false
       → at_last key change false gs ≡ o → at_last key change false (merged gs) ≡ merged_if gs o
       → at_last key change first (with_ending (Some crlf) g ∷ merged gs) ≡ merged_if (g ∷ h ∷ gs) (at_last key change first (g ∷ h ∷ gs))
   last-one first g h gs p (Some cs) a k n s i = rw (i, s, k) refl
@@ -270,44 +306,94 @@ module _ (e : Encoding) (key : List ℕ) (change : Bool → List HeldLine → Ch
     | inl k ↦
         let m = one-ending g h k in
         let r = after-lf e h gs a.1 m.by_lf in
-        rw k (last-one first g h gs (Some a.0.0) (at_last key change false gs) a.0.1 k (no_key-first h gs a.1 m.empty) refl (last-merged false gs r))
+        let b = turn-first e h gs a.1 in
+        rw k (last-one first g h gs (Some a.0.0) (at_last key change false gs) a.0.1 k (lf-no_key e b.0 key h b.1 m.empty)
+        refl (last-merged false gs r))
     | inr k ↦ rw k (last-two first g h gs (at_last key change false (h ∷ gs)) k refl (last-merged false (h ∷ gs) a.1))
   ]
-    where
-      no_key-first : (h : List HeldLine) (gs : List (List HeldLine)) → AreInTurn e (h ∷ gs) → unended_bytes h ≡ [] → has_key key h ≡ false
-      no_key-first h [] a u = lf-no_key e None key h a.0 u
-      no_key-first h (i ∷ gs) a u = lf-no_key e (Some a.0.0) key h a.0.1 u
 
   -- It is a plan, if what becomes of a pair with the key is fit.
-  module _ (fit : (first : Bool) (p : Option LineEnding) (g : List HeldLine) → AreLinesBy e p g → IsLastFit g → has_key key g ≡ true → IsFitChange e (change first g)) where
+  module _ (fit : (first : Bool) (p : Option LineEnding) (g : List HeldLine) → AreLinesBy e p g → IsLastFit g → has_key key g ≡ true
+      → IsFitChange e (change first g)) where
     stay-fit : (gs : List (List HeldLine)) → IsPlanFor e (all_stay gs) gs
     stay-fit [] = tt
     stay-fit (g ∷ gs) = (tt, (λ l u. refl), stay-fit gs)
 
-    last-fit : (first : Bool) (g : List HeldLine) (gs : List (List HeldLine)) (o : Option LineEnding) (p : Option (List Change)) (cs : List Change)
-        → AreLinesBy e o g → IsLastFit g → at_last key change false gs ≡ p → ((ds : List Change) → p ≡ Some ds → IsPlanFor e ds gs)
-        → at_last key change first (g ∷ gs) ≡ Some cs → IsPlanFor e cs (g ∷ gs)
-    last-fit first g gs o (Some ds) cs a w s i q =
-        let t : Some (stay ∷ ds) ≡ Some cs = sym (ap (λ v. this_or_later v (has_key key g) (change first g) gs) s) ∙ q in
-        let u : stay ∷ ds ≡ cs = cc in
-        subst (λ v. IsPlanFor e v (g ∷ gs)) u (tt, (λ l n. refl), i ds refl)
-    last-fit first g gs o None cs a w s i q = elim (cases_Bool (has_key key g)) [
-      | inl k ↦
-          let t : Some (change first g ∷ all_stay gs) ≡ Some cs =
-          sym (ap (λ v. this_or_later v (has_key key g) (change first g) gs) s ∙ ap (λ b. this_or_later None b (change first g) gs) k) ∙ q in
-          let u : change first g ∷ all_stay gs ≡ cs = cc in
-          subst (λ v. IsPlanFor e v (g ∷ gs)) u
-          (fit first o g a w k, (λ l n. let f = lf-no_key e o key g a n in absurd (cc)), stay-fit gs)
-      | inr k ↦
-          let t : None ≡ Some cs = sym (ap (λ v. this_or_later v (has_key key g) (change first g) gs) s ∙ ap (λ b. this_or_later None b (change first g) gs) k) ∙ q in
-          absurd (cc)
-    ]
+    -- A change among groups that stay.
+    plan-among : (c : Change) (before : List (List HeldLine)) (g : List HeldLine) (after : List (List HeldLine)) → IsFitChange e c
+        → (last_ending g ≡ Some lf → unended_bytes g ≡ [] → c ≡ stay) → IsPlanFor e (all_stay before ++ c ∷ all_stay after) (before ++ g ∷ after)
+    plan-among c [] g after f k = (f, k, stay-fit after)
+    plan-among c (h ∷ before) g after f k = (tt, (λ l u. refl), plan-among c before g after f k)
 
     pub last-plan : (first : Bool) (gs : List (List HeldLine)) (cs : List Change) → AreInTurn e gs → at_last key change first gs ≡ Some cs → IsPlanFor e cs gs
-    last-plan first [] cs a q = absurd a
-    last-plan first (g ∷ []) cs a q = last-fit first g [] None None cs a.0 a.1 refl (λ ds r. absurd (cc)) q
-    last-plan first (g ∷ h ∷ gs) cs a q =
-        last-fit first g (h ∷ gs) (Some a.0.0) (at_last key change false (h ∷ gs)) cs a.0.1 (inl a.0.2) refl (λ ds r. last-plan false (h ∷ gs) ds a.1 r) q
+    last-plan first gs cs a q =
+        let m : IsLastPlan key change first gs cs = rw q at (at_last-meets key change first gs) in
+        let (o, b, f) = turn-at e m.before m.group m.after (rw m.division at a) in
+        rw (m.division, m.plan)
+        (plan-among _ m.before m.group m.after (fit (first_behind first m.before) o m.group b f (HasKey-test key m.group m.has))
+        (λ l u. let n = lf-no_key e o key m.group b u in let h = HasKey-test key m.group m.has in absurd (cc)))
+
+-- An empty last line isn't a pair.
+pub no_line-other : (e : Encoding) (key : List ℕ) → ¬ (HasKey key (no_line e ∷ []))
+no_line-other e key = has_key-false key (no_line e ∷ []) (lf-no_key e None key (no_line e ∷ []) (rw (decoded-nil e) (tt, refl, refl)) refl)
+
+-- ---- the groups after the last pair changed
+
+-- The groups that stay are there after it.
+pub all-after : (e : Encoding) (gs : List (List HeldLine)) → groups_after e (all_stay gs) gs ≡ gs
+all-after e [] = refl
+all-after e (g ∷ gs) = ap (λ v. g ∷ v) (all-after e gs)
+
+pub stay-after : (e : Encoding) (before : List (List HeldLine)) (g : List HeldLine) (after : List (List HeldLine))
+    → groups_after e (all_stay before ++ stay ∷ all_stay after) (before ++ g ∷ after) ≡ before ++ g ∷ after
+stay-after e [] g after = ap (λ v. g ∷ v) (all-after e after)
+stay-after e (f ∷ before) g after = ap (λ v. f ∷ v) (stay-after e before g after)
+
+pub become-after : (e : Encoding) (x : List ℕ) (before : List (List HeldLine)) (g : List HeldLine) (after : List (List HeldLine))
+    → groups_after e (all_stay before ++ become x ∷ all_stay after) (before ++ g ∷ after) ≡ before ++ group_of e x (last_ending g) ∷ after
+become-after e x [] g after = ap (λ v. group_of e x (last_ending g) ∷ v) (all-after e after)
+become-after e x (f ∷ before) g after = ap (λ v. f ∷ v) (become-after e x before g after)
+
+-- If the last pair stays, all do.
+pub last-stays : (key : List ℕ) (change : Bool → List HeldLine → Change) (first : Bool) (gs : List (List HeldLine)) (cs : List Change)
+    → (m : IsLastPlan key change first gs cs) → change (first_behind first m.before) m.group ≡ stay
+    → (planned cs gs ≡ groups_bytes gs) × ((e : Encoding) → groups_after e cs gs ≡ gs)
+last-stays key change first gs cs m s = (
+  rw (m.plan, m.division, s) (planned-at stay m.before m.group m.after ∙ sym (groups_bytes-append m.before (m.group ∷ m.after))),
+  λ e. rw (m.plan, m.division, s) (stay-after e m.before m.group m.after),
+)
+
+-- ---- a group that becomes bytes, and then others
+
+-- A group of the bytes x changes: it becomes y, or stays if these are the same.
+abbrev pub Becomes : List ℕ → List ℕ → Change → Type 0
+Becomes x y c = (c ≡ become y) ⊎ (c ≡ stay) × (y ≡ x)
+
+pub becomes-after : (e : Encoding) (x y : List ℕ) (o : Option LineEnding) (c : Change) (before after : List (List HeldLine)) → is_editable e ≡ true
+    → Becomes x y c → groups_after e (all_stay before ++ c ∷ all_stay after) (before ++ group_of e x o ∷ after) ≡ before ++ group_of e y o ∷ after
+becomes-after e x y o c before after ok (inl h) = rw (h, become-after e y before (group_of e x o) after, group-ending e ok x o) refl
+becomes-after e x y o c before after ok (inr h) = rw (h.0, h.1) (stay-after e before (group_of e x o) after)
+
+pub becomes-bytes : (e : Encoding) (x y : List ℕ) (o : Option LineEnding) (c : Change) (before after : List (List HeldLine)) → is_editable e ≡ true
+    → Becomes x y c → planned (all_stay before ++ c ∷ all_stay after) (before ++ group_of e x o ∷ after) ≡ groups_bytes (before ++ group_of e y o ∷ after)
+becomes-bytes e x y o c before after ok (inl h) =
+    rw (h, planned-at, group-ending e ok x o, groups_bytes-append, group-bytes e ok y o)
+    (ap (λ v. groups_bytes before ++ v) (sym (append_assoc y (ending_bytes o) (groups_bytes after))))
+becomes-bytes e x y o c before after ok (inr h) =
+    rw (h.0, h.1, planned-at) (sym (groups_bytes-append before (group_of e x o ∷ after)))
+
+-- The group of the bytes x is the last pair with the key, and changes so.
+pub again-at : (e : Encoding) (key value : List ℕ) (other : Bool → List HeldLine → Change) (before : List (List HeldLine)) (x y : List ℕ)
+    (o : Option LineEnding)
+    (after : List (List HeldLine)) → is_editable e ≡ true → SayPair e key value x → NoneHasKey key after
+    → Becomes x y (other (first_behind true before) (group_of e x o))
+    → (ds : List Change) × (at_last key other true (before ++ group_of e x o ∷ after) ≡ Some ds)
+    × (groups_after e ds (before ++ group_of e x o ∷ after) ≡ before ++ group_of e y o ∷ after)
+again-at e key value other before x y o after ok said none b = (
+  _,
+  at_last-some key other true before (group_of e x o) after (value, said-group e key value x o said) none,
+  becomes-after e x y o (other (first_behind true before) (group_of e x o)) before after ok b,
+)
 
 -- ---- edits in turn
 
@@ -316,9 +402,19 @@ pub record AreSlotsOf (e : Encoding) (body : List ℕ) (gs : List (List HeldLine
   pub turn : AreInTurn e gs
   pub bytes : groups_bytes gs ≡ body
 
+-- So do its own groups.
+pub own-slots : (e : Encoding) (body : List ℕ) → is_editable e ≡ true → AreSlotsOf e body (held_groups_of e body)
+own-slots e body ok =
+    let are = held_groups_of-meets e body in
+    record { turn = in-turn e body (held_groups_of e body) ok are; bytes = held-body e body (held_groups_of e body) ok are }
+
 -- Its groups are these, with each CR and the single LF behind it made one line ending.
 pub slots-merged : (e : Encoding) (body : List ℕ) (gs : List (List HeldLine)) → is_editable e ≡ true → AreSlotsOf e body gs → merged gs ≡ held_groups_of e body
 slots-merged e body gs ok s = held_groups_of-only e body (merged gs) (subst (λ v. AreGroupsOf e v (merged gs)) s.bytes (merged-groups e gs ok s.turn))
+
+pub slots-final : (e : Encoding) (body : List ℕ) (gs : List (List HeldLine)) → is_editable e ≡ true → AreSlotsOf e body gs
+    → final_group (held_groups_of e body) ≡ final_group gs
+slots-final e body gs ok s = ap final_group (sym (slots-merged e body gs ok s)) ∙ merged-final e gs s.turn
 
 -- If a plan is carried out on groups that stand for a body, what comes out stands for what the plan makes of the body.
 pub slots-planned : (e : Encoding) (body : List ℕ) (gs : List (List HeldLine)) (cs ds : List Change) → is_editable e ≡ true → AreSlotsOf e body gs
@@ -333,13 +429,19 @@ slots-removed e body key gs ok s =
     slots-planned e body gs (removal key gs) (removal key (held_groups_of e body)) ok s (removal-plan e key gs s.turn)
     (ap (removal key) (sym (slots-merged e body gs ok s)) ∙ removal-merged key gs)
 
--- So the last pair with a key changes in groups that stand for a body.
-pub slots-last : (e : Encoding) (body key : List ℕ) (change : Bool → List HeldLine → Change) (gs : List (List HeldLine)) (cs : List Change) → is_editable e ≡ true
-    → ((first : Bool) (p o : Option LineEnding) (g : List HeldLine) → AreLinesBy e p g → has_key key g ≡ true → change first (with_ending o g) ≡ change first g)
-    → ((first : Bool) (p : Option LineEnding) (g : List HeldLine) → AreLinesBy e p g → IsLastFit g → has_key key g ≡ true → IsFitChange e (change first g))
-    → AreSlotsOf e body gs → at_last key change true gs ≡ Some cs → (other : List ℕ)
-    → AreSlotsOf e (planned_or (at_last key change true (held_groups_of e body)) other (held_groups_of e body)) (groups_after e cs gs)
-slots-last e body key change gs cs ok same fit s q other =
-    let t : at_last key change true (held_groups_of e body) ≡ Some (merged_plan cs gs) =
-    ap (at_last key change true) (sym (slots-merged e body gs ok s)) ∙ last-merged e key change same true gs s.turn ∙ ap (merged_if gs) q in
-    rw t (slots-planned e body gs cs (merged_plan cs gs) ok s (last-plan e key change same fit true gs cs s.turn q) refl)
+-- So the last pair with a key changes in groups that stand for a body, if there is one.
+module _ (e : Encoding) (body key : List ℕ) (change : Bool → List HeldLine → Change) (gs : List (List HeldLine)) (ok : is_editable e ≡ true)
+    (same : (first : Bool) (p o : Option LineEnding) (g : List HeldLine) → AreLinesBy e p g → has_key key g ≡ true
+    → change first (with_ending o g) ≡ change first g)
+    (s : AreSlotsOf e body gs) where
+  last-held : at_last key change true (held_groups_of e body) ≡ merged_if gs (at_last key change true gs)
+  last-held = ap (at_last key change true) (sym (slots-merged e body gs ok s)) ∙ last-merged e key change same true gs s.turn
+
+  pub slots-none : at_last key change true gs ≡ None → at_last key change true (held_groups_of e body) ≡ None
+  slots-none q = last-held ∙ ap (merged_if gs) q
+
+  pub slots-last : ((first : Bool) (p : Option LineEnding) (g : List HeldLine) → AreLinesBy e p g → IsLastFit g → has_key key g ≡ true
+      → IsFitChange e (change first g)) → (cs : List Change) → at_last key change true gs ≡ Some cs → (other : List ℕ)
+      → AreSlotsOf e (planned_or (at_last key change true (held_groups_of e body)) other (held_groups_of e body)) (groups_after e cs gs)
+  slots-last fit cs q other =
+      rw (last-held, q) (slots-planned e body gs cs (merged_plan cs gs) ok s (last-plan e key change same fit true gs cs s.turn q) refl)

@@ -1,34 +1,34 @@
 -- The laws of setting a value.
-use Rattle.std.proofs.Common.{rules, arith, ◌≡◌, ℕ, ◌+◌, true, List, [], ◌∷◌, ◌++◌, length, Option, Some, None, refl, ap, sym, ◌∙◌, inl, inr, subst}
-use Rattle.std.proofs.lemmas.Bool.{cases_Bool, cond-true, false_from_ne_true}
+use Rattle.std.proofs.Common.{◌≡◌, ℕ, ◌+◌, true, List, [], ◌∷◌, ◌++◌, length, Option, Some, None, refl, ap, sym, ◌∙◌, subst, arith}
+use Rattle.std.proofs.lemmas.Bool.{false_from_ne_true}
 use Rattle.properties_format.specs.Encoding.{Encoding, byte_order_mark, Repertoire, in_encoding}
 use Rattle.properties_format.specs.Lines.{end, joined}
 use Rattle.properties_format.specs.Items.{pair, Entry, item, AreItems, Outcome, ignored, given, broken, IsOutcome}
 use Rattle.properties_format.specs.Computed.Items.{outcome_of, followed, items_of}
 use Rattle.properties_format.specs.Maps.{HasNoPair, IsLastValue, HasValue}
-use Rattle.properties_format.specs.Body.{HeldLine, as_lines, NoneHasKey, groups_bytes}
+use Rattle.properties_format.specs.Body.{HeldLine, HasKey, as_lines, NoneHasKey, groups_bytes}
 use Rattle.properties_format.specs.Edited.{bom_of, edited}
-use Rattle.properties_format.specs.Edits.{put}
+use Rattle.properties_format.specs.Edits.{put, set_value}
 use Rattle.properties_format.specs.EditLaws.{SettingItsOwnValueChangesNothing, SettingAValueTwiceIsSettingItOnce, SettingAValueAgainChangesNothing, SettingAValueGivesIt}
 use Rattle.properties_format.specs.Valued.{HasPair, IsSetValueResult}
+use Rattle.properties_format.specs.Plan.{Change, at_last, planned_or, value_change, value_added, with_value_set}
 use Rattle.properties_format.specs.Computed.Body.{held_groups_of}
-use Rattle.properties_format.specs.Computed.Edited.{KeyPlace, last_place}
 use Rattle.properties_format.specs.Computed.Valued.{has_value}
-use Rattle.properties_format.specs.Laws.{HasOne}
-use Rattle.properties_format.proofs.Laws.{one}
 use Rattle.properties_format.proofs.Items.Unique.{items_of-meets, items_of-only, outcome_of-meets, outcome_of-only}
-use Rattle.properties_format.proofs.Maps.{value_in-only}
+use Rattle.properties_format.proofs.Maps.{value_in, map-meets, value_in-only}
 use Rattle.properties_format.proofs.Body.Groups.{held_groups_of-meets, held-body}
 use Rattle.properties_format.proofs.Body.Numbers.{items_of-groups, entries_in}
-use Rattle.properties_format.proofs.Edited.Made.{last_place-meets}
 use Rattle.properties_format.proofs.Edited.ByteOrderMarks.{source-whole}
-use Rattle.properties_format.proofs.Changed.Laws.{IsReadable, value_set-contents}
-use Rattle.properties_format.proofs.Changed.Read.{readable}
-use Rattle.properties_format.proofs.EditLaws.{result-made, same-results, maps-differ, set-differs}
-use Rattle.properties_format.proofs.Valued.Made.{HasPair-test, value_set-only, set_value_result-meets, set_value_result-only, revalued_at, valued_at, value_set}
-use Rattle.properties_format.proofs.Valued.Groups.{IsNotAt, one-value}
-use Rattle.properties_format.proofs.Valued.Read.{set_value-reads, value_set-again}
-use Rattle.properties_format.proofs.Edited.Results.{result_of}
+use Rattle.properties_format.proofs.Edits.Results.{same-results, edit_result}
+use Rattle.properties_format.proofs.Changed.Laws.{IsReadable, edit-contents}
+use Rattle.properties_format.proofs.Changed.Maps.{same-test}
+use Rattle.properties_format.proofs.Changed.Read.{readable, edit-reads}
+use Rattle.properties_format.proofs.EditLaws.{result-made, maps-differ, set-differs}
+use Rattle.properties_format.proofs.Plan.Slots.{last-stays}
+use Rattle.properties_format.proofs.Plan.Again.{IsNotAt, value_set-twice}
+use Rattle.properties_format.proofs.Plan.Last.{IsPlanOf, at_last-meets}
+use Rattle.properties_format.proofs.Plan.Made.{value_set-is_planned}
+use Rattle.properties_format.proofs.Valued.Made.{HasPair-test, one-value}
 
 -- ---- the value of a key in a source
 
@@ -64,94 +64,98 @@ groups-last key value n [] g after h k a =
     record { before = []; number = n; after = rest; division = s; no_later = none-pairs key (n + length g) after k (rw s at a) }
 groups-last key value n (f ∷ before) g after h k a = search (followed-last, groups-last key value (n + length f) before g after h k)
 
--- If the key has a place, the pair there has the source's value for the key.
-place-value : (e : Encoding) (source key : List ℕ) → IsReadable e source → (p : KeyPlace)
-    → last_place key (held_groups_of (byte_order_mark e source).encoding (byte_order_mark e source).body) ≡ Some p
-    → (value : List ℕ) × HasPair key value p.group × IsLastValue (items_of e source end) key value
-place-value e source key r p s = grind (arith, last_place-meets, items_of-groups, groups-last)
+module _ (e : Encoding) (source key : List ℕ) (r : IsReadable e source) where
+  abbrev groups : List (List HeldLine)
+  groups = held_groups_of (byte_order_mark e source).encoding (byte_order_mark e source).body
 
--- If the pair at that place has a value, the source has it.
-place-has : (e : Encoding) (source key value : List ℕ) → IsReadable e source → (p : KeyPlace)
-    → last_place key (held_groups_of (byte_order_mark e source).encoding (byte_order_mark e source).body) ≡ Some p
-    → has_value value p.group ≡ true → HasValue e source key (Some value)
-place-has e source key value r p s k =
-    let m = place-value e source key r p s in
-    record {
-      entries = items_of e source end;
-      items = items_of-meets e source end;
-      whole = r.no_fault;
-      is = subst (IsLastValue (items_of e source end) key) (one-value key m.0 value p.group m.1 k) m.2;
-    }
+  entries-are : items_of e source end ≡ entries_in 1 groups
+  entries-are = items_of-groups e source
+
+  -- The last pair with the key has the source's value for it.
+  place-value : (before : List (List HeldLine)) (g : List HeldLine) (after : List (List HeldLine)) → groups ≡ before ++ g ∷ after → HasKey key g
+      → NoneHasKey key after → (value : List ℕ) × HasPair key value g × IsLastValue (items_of e source end) key value
+  place-value before g after s (value, h) n =
+      let all = entries-are ∙ ap (entries_in 1) s in
+      (value, h, rw all (groups-last key value 1 before g after h n (rw all at r.no_fault)))
+
+  -- If that pair has a value, the source has it.
+  place-has : (value : List ℕ) (before : List (List HeldLine)) (g : List HeldLine) (after : List (List HeldLine)) → groups ≡ before ++ g ∷ after → HasKey key g
+      → NoneHasKey key after → has_value value g ≡ true → HasValue e source key (Some value)
+  place-has value before g after s h n k =
+      let m = place-value before g after s h n in
+      record {
+        entries = items_of e source end;
+        items = items_of-meets e source end;
+        whole = r.no_fault;
+        is = subst (IsLastValue (items_of e source end) key) (one-value key m.0 value g m.1 k) m.2;
+      }
+
+  -- If the source has the value, the plan changes no group.
+  own-stays : (t : Repertoire) (value : List ℕ) → HasValue e source key (Some value) → (o : Option (List Change))
+      → IsPlanOf key (value_change t value) true groups o → planned_or o (value_added t key value groups) groups ≡ groups_bytes groups
+  own-stays t value h o m = of-plan (value_in-only (items_of e source end) key (Some value) is) o m
+    where
+      is : IsLastValue (items_of e source end) key value
+      is = subst (λ v. IsLastValue v key value) (items_of-only e source end h.entries h.items) h.is
+
+      of-plan : Some value ≡ value_in (items_of e source end) key → (o : Option (List Change)) → IsPlanOf key (value_change t value) true groups o
+          → planned_or o (value_added t key value groups) groups ≡ groups_bytes groups
+      of-plan a None m =
+          let b = value_in-only (items_of e source end) key None (rw entries-are (none-pairs key 1 groups m (rw entries-are at r.no_fault))) in
+          absurd (cc)
+      of-plan a (Some cs) m =
+          let (v, has, last) = place-value m.before m.group m.after m.division m.has m.no_later in
+          let b = value_in-only (items_of e source end) key (Some v) last in
+          let s : v ≡ value = cc in
+          (last-stays key (value_change t value) true groups cs m (rw (HasPair-test key value m.group (rw s at has)) refl)).0
 
 -- If the source has the value, setting that value results in the source.
-own-made : (rep : Repertoire) (source key value : List ℕ) → IsReadable rep.encoding source → HasValue rep.encoding source key (Some value)
-    → value_set rep source key value ≡ source
-own-made rep source key value r h =
-    let f = byte_order_mark rep.encoding source in
+own-made : (t : Repertoire) (source key value : List ℕ) → IsReadable t.encoding source → HasValue t.encoding source key (Some value)
+    → with_value_set t source key value ≡ source
+own-made t source key value r h =
+    let f = byte_order_mark t.encoding source in
     let gs = held_groups_of f.encoding f.body in
-    let is : IsLastValue _ key value = subst (λ v. IsLastValue v key value) (items_of-only rep.encoding source end h.entries h.items) h.is in
+    let change = value_change (in_encoding t f.encoding) value in
     ap (λ v. bom_of source ++ v)
-    (of-place is (last_place key gs) refl ∙ held-body f.encoding f.body gs r.editable (held_groups_of-meets f.encoding f.body))
-    ∙ sym (source-whole rep.encoding source)
-  where
-    of-place : IsLastValue (items_of rep.encoding source end) key value → (o : Option KeyPlace)
-        → (let f = byte_order_mark rep.encoding source in let gs = held_groups_of f.encoding f.body in
-        last_place key gs ≡ o → valued_at (in_encoding rep f.encoding) gs key value o ≡ groups_bytes gs)
-    of-place is None s =
-        let a = value_in-only (items_of rep.encoding source end) key (Some value) is in
-        let b = value_in-only (items_of rep.encoding source end) key None (search (rules, last_place-meets, items_of-groups, none-pairs)) in
-        absurd (cc)
-    of-place is (Some p) s =
-        let m = place-value rep.encoding source key r p s in
-        let a = value_in-only (items_of rep.encoding source end) key (Some value) is in
-        let b = value_in-only (items_of rep.encoding source end) key (Some m.0) m.2 in
-        let t : m.0 ≡ value = cc in
-        let f = byte_order_mark rep.encoding source in
-        cond-true (has_value value p.group) (groups_bytes (held_groups_of f.encoding f.body)) (revalued_at (in_encoding rep f.encoding) value p)
-        (HasPair-test key value p.group (subst (λ w. HasPair key w p.group) t m.1))
+    (own-stays t.encoding source key r (in_encoding t f.encoding) value h (at_last key change true gs) (at_last-meets key change true gs)
+    ∙ held-body f.encoding f.body gs r.editable (held_groups_of-meets f.encoding f.body))
+    ∙ sym (source-whole t.encoding source)
 
 -- ---- the laws
 
 -- Setting a key to the value that it already has changes no byte.
 pub setting-own_value : (r : Repertoire) (source key value : List ℕ) → SettingItsOwnValueChangesNothing r source key value
 setting-own_value r source key value has result h =
-    value_set-only r source key value result h.0 h.2 ∙ own-made r source key value (readable r.encoding source h.0 h.1) has
-
--- Setting a value has one result.
-abbrev one-value_set : (r : Repertoire) (source key value : List ℕ) → HasOne (IsSetValueResult r source key value)
-one-value_set r source key value = one _ (set_value_result-meets r source key value) (set_value_result-only r source key value)
+    (value_set-is_planned r source key value result h.0).0 h.2 ∙ own-made r source key value (readable r.encoding source h.0 h.1) has
 
 -- Setting a value twice equals setting it once, to the later value, if the source doesn't have that value already.
 pub setting-value_twice : (t : Repertoire) (source key first second : List ℕ) → SettingAValueTwiceIsSettingItOnce t source key first second
 setting-value_twice t source key first second k v w other between h result =
     let r = readable t.encoding source h.0 h.1 in
-    let next = (value_set-contents t source key first between r k v h.2).readable in
-    let bytes = value_set-again t source key first second between h.0 k v h.2 (search (rules, false_from_ne_true, place-has)) in
-    let same : result_of t.encoding between (value_set t between key second)
-    ≡ result_of t.encoding source (value_set t source key second) = search (result-made) in
-    same-results _ _ (one-value_set t between key second) (one-value_set t source key second) same result
+    let next = (edit-contents t source (set_value key first) between r (k, v) h.2).readable in
+    let made = (value_set-is_planned t source key first between h.0).0 h.2 in
+    let no : IsNotAt second key (groups t.encoding source key r) =
+    λ before g after s m n. false_from_ne_true (has_value second g) (λ yes. other (place-has t.encoding source key r second before g after s m n yes)) in
+    let bytes = rw (← made) at (value_set-twice t source key first second h.0 k v w no) in
+    let same = result-made t.encoding between _ next ∙ ap edited bytes ∙ sym (result-made t.encoding source _ r) in
+    same-results _ _ (edit_result t between (set_value key second)) (edit_result t source (set_value key second)) same result
 
--- Setting a value a second time changes no byte.
-pub setting-value_again : (rep : Repertoire) (source key value : List ℕ) → SettingAValueAgainChangesNothing rep source key value
-setting-value_again rep source key value k v between h =
-    let f = byte_order_mark rep.encoding source in
-    let r = readable rep.encoding source h.0 h.1 in
-    let next = (value_set-contents rep source key value between r k v h.2).readable in
-    let made : between ≡ value_set rep source key value = value_set-only rep source key value between h.0 h.2 in
-    let bytes : value_set rep between key value ≡ between = of-place made (last_place key (held_groups_of f.encoding f.body)) refl in
-    subst (IsSetValueResult rep between key value) (result-made rep.encoding between _ next ∙ ap edited bytes) (set_value_result-meets rep between key value)
-  where
-    of-place : between ≡ value_set rep source key value → (o : Option KeyPlace)
-        → last_place key (held_groups_of (byte_order_mark rep.encoding source).encoding (byte_order_mark rep.encoding source).body) ≡ o
-        → value_set rep between key value ≡ between
-    of-place made None s = value_set-again rep source key value value between h.0 k v h.2 (subst (IsNotAt value) (sym s) tt) ∙ sym made
-    of-place made (Some p) s = elim (cases_Bool (has_value value p.group)) [
-      | inl t ↦ grind (arith, readable, own-made, place-has)
-      | inr t ↦ value_set-again rep source key value value between h.0 k v h.2 (subst (IsNotAt value) (sym s) t) ∙ sym made
-    ]
+-- Setting a value a second time changes no byte: the source has it then.
+pub setting-value_again : (t : Repertoire) (source key value : List ℕ) → SettingAValueAgainChangesNothing t source key value
+setting-value_again t source key value k v between h =
+    let old = items_of t.encoding source end in
+    let new = items_of t.encoding between end in
+    let next = (edit-contents t source (set_value key value) between (readable t.encoding source h.0 h.1) (k, v) h.2).readable in
+    let are = items_of-meets t.encoding between end in
+    let reads = edit-reads t source (set_value key value) between (k, v) h old new (items_of-meets t.encoding source end) are in
+    let is : IsLastValue new key value = rw (same-test key key refl) at (reads.mapped (value_in old) (map-meets old) key) in
+    let has : HasValue t.encoding between key (Some value) =
+    record { entries = new; items = are; whole = next.no_fault; is = is } in
+    let own = own-made t between key value next has in
+    subst (IsSetValueResult t between key value) (result-made t.encoding between _ next ∙ ap edited own) (edit_result t between (set_value key value)).meets
 
 -- After a value is set, the map has it for the key, and for every other key what it had before.
 pub setting-value_gives : (r : Repertoire) (source key value : List ℕ) → SettingAValueGivesIt r source key value
 setting-value_gives r source key value k v result h old new =
     maps-differ r.encoding source result key (put key value) (Some value) old new
-    (λ before after i j m. (set_value-reads r source key value result k v h before after i j).mapped old m) (set-differs key value)
+    (λ before after i j m. (edit-reads r source (set_value key value) result (k, v) h before after i j).mapped old m) (set-differs key value)

@@ -10,7 +10,8 @@ use Rattle.properties_format.specs.Valued.{new_pair_bytes, value_text, IsFrontOf
 use Rattle.properties_format.proofs.Cut.Byline.{decoded_line-only}
 use Rattle.properties_format.proofs.Printing.Characters.{encoded-ascii}
 use Rattle.properties_format.proofs.ReadBack.Unmarked.{pair-unmarked}
-use Rattle.properties_format.proofs.Body.Groups.{group_bytes-append, AreHeldGroups, held-groups}
+use Rattle.properties_format.proofs.Body.Groups.{group_bytes-append}
+use Rattle.properties_format.proofs.InTurn.Merged.{AreInTurn, in-turn}
 use Rattle.properties_format.proofs.Edited.ByteOrderMarks.{in_force, ending-cut, changed-unmarked, added-unmarked, groups-unmarked}
 use Rattle.properties_format.proofs.Valued.Heads.{ascii-end}
 use Rattle.properties_format.proofs.Valued.Revalued.{front-ends}
@@ -47,7 +48,7 @@ front-valued r group (b ∷ bs) front value f rest more ok h =
     ∙ prefix-unmarked w (m.1 ∷ rest) m.1 (encoded_text r.encoding (value_text r (b ∷ bs) value) ++ more) m.3 (ap begins_like_bom (sym (s rest)) ∙ h)
 
 -- If the last pair gets another value, a body that didn't begin like a byte order mark still doesn't.
-revalued-unmarked : (t : Repertoire) (gs : List (List HeldLine)) (key value body : List ℕ) → is_editable t.encoding ≡ true → AreHeldGroups t.encoding gs
+revalued-unmarked : (t : Repertoire) (gs : List (List HeldLine)) (key value body : List ℕ) → is_editable t.encoding ≡ true → AreInTurn t.encoding gs
     → begins_like_bom (groups_bytes gs) ≡ false → IsRevalued t gs key value body → begins_like_bom body ≡ false
 revalued-unmarked t gs key value body ok k h r =
     let f = r.is_front in
@@ -80,7 +81,7 @@ pub value_set-in_force : (t : Repertoire) (source key value result : List ℕ) �
     → byte_order_mark t.encoding result ≡ record { encoding = (byte_order_mark t.encoding source).encoding; body = h.body }
 value_set-in_force t source key value result ok h =
     let f = byte_order_mark t.encoding source in
-    let gs = held-groups f.encoding f.body h.groups ok h.held in
+    let gs = in-turn f.encoding f.body h.groups ok h.held in
     ap (byte_order_mark t.encoding) h.whole
     ∙ in_force t.encoding source h.body ok (λ n.
     let old = groups-unmarked t.encoding source h.groups ok h.held n in

@@ -1,69 +1,21 @@
--- What a source with a value set contains, what stays unchanged, and the result of setting another value.
-use Rattle.std.proofs.Common.{rules, ◌≡◌, ℕ, true, List, [], ◌∷◌, ◌++◌, refl, ap, ap₂, sym, ◌∙◌, inl, inr, append_assoc, subst, All}
+-- What stays unchanged if a value is set.
+use Rattle.std.proofs.Common.{rules, ◌≡◌, ℕ, true, List, [], ◌∷◌, ◌++◌, refl, ap, sym, ◌∙◌, inl, inr, append_assoc}
 use Rattle.std.proofs.lemmas.List.{append_cancel_right}
-use Rattle.properties_format.specs.Text.{scalar}
-use Rattle.properties_format.specs.Encoding.{Encoding, InForce, byte_order_mark, Repertoire, in_encoding}
+use Rattle.properties_format.specs.Encoding.{Encoding, byte_order_mark, Repertoire, in_encoding}
 use Rattle.properties_format.specs.Printing.{encoded_text}
 use Rattle.properties_format.specs.Body.{HasKey, HeldLine, NoneHasKey, group_bytes, groups_bytes, ending_bytes, last_ending}
-use Rattle.properties_format.specs.Edited.{bom_of, final_group, edited, is_editable, separation_by}
-use Rattle.properties_format.specs.Edits.{put}
-use Rattle.properties_format.specs.Changed.{IsSetIn, map_edited, AreOthersThanLast, ReadsAfter, KeepsOthers}
-use Rattle.properties_format.specs.Valued.{IsAlikeAround, value_text, ending_in, new_pair_bytes, IsFrontOf, IsValueSet, IsSetValueResult, KeepsFront}
-use Rattle.properties_format.specs.Computed.Body.{held_groups_of, unended_bytes}
-use Rattle.properties_format.specs.Computed.Edited.{last_place}
-use Rattle.properties_format.proofs.Body.Groups.{held_groups_of-only, held-body, groups_bytes-append}
+use Rattle.properties_format.specs.Edited.{bom_of, final_group, is_editable, separation_by}
+use Rattle.properties_format.specs.Changed.{AreOthersThanLast, KeepsOthers}
+use Rattle.properties_format.specs.Valued.{IsAlikeAround, value_text, ending_in, new_pair_bytes, IsFrontOf, IsValueSet, KeepsFront}
+use Rattle.properties_format.specs.Computed.Body.{unended_bytes}
+use Rattle.properties_format.proofs.Body.Groups.{held-body, groups_bytes-append}
 use Rattle.properties_format.proofs.Edited.ByteOrderMarks.{source-whole}
-use Rattle.properties_format.proofs.Changed.Laws.{value_set-contents}
-use Rattle.properties_format.proofs.Changed.Read.{readable, reads-after}
-use Rattle.properties_format.proofs.Changed.Maps.{map-edited}
 use Rattle.properties_format.proofs.Changed.Occur.{all-kept, occur-after, occur-alone, others-kept}
 use Rattle.properties_format.proofs.InTurn.Lines.{bytes-unended}
 use Rattle.properties_format.proofs.Valued.Lined.{last_ending-append}
-use Rattle.properties_format.proofs.Valued.Made.{group-decoded, valued_at, value_set}
+use Rattle.properties_format.proofs.Valued.Made.{group-decoded}
 use Rattle.properties_format.proofs.Valued.Fronts.{front_of-meets}
-use Rattle.properties_format.proofs.Valued.Groups.{IsNotAt, IsValued, body-valued}
-use Rattle.properties_format.proofs.Valued.Marks.{front-bytes, value_set-in_force}
-
--- ---- its contents
-
--- What holds for the body.
-valued-body : (r : Repertoire) (source key value result : List ℕ) → is_editable (byte_order_mark r.encoding source).encoding ≡ true → All scalar key
-    → All scalar value → (h : IsValueSet r source key value result)
-    → IsValued (in_encoding r (byte_order_mark r.encoding source).encoding) h.groups key value h.body
-valued-body r source key value result ok k v h = search (body-valued)
-
--- The result of setting a value reads as the source with that value.
-pub set_value-reads : (r : Repertoire) (source key value result : List ℕ) → All scalar key → All scalar value
-    → IsSetValueResult r source key value (edited result) → ReadsAfter (IsSetIn key value) (map_edited (put key value)) r.encoding source result
-set_value-reads r source key value result k v h = search (reads-after, value_set-contents, readable, map-edited)
-
--- ---- another value
-
--- The byte order mark of the result is that of the source.
-bom-same : (r : Repertoire) (source key value result : List ℕ) → is_editable (byte_order_mark r.encoding source).encoding ≡ true
-    → (h : IsValueSet r source key value result) → bom_of result ≡ bom_of source
-bom-same r source key value result ok h =
-    let f = value_set-in_force r source key value result ok h in
-    append_cancel_right (bom_of result) (bom_of source) h.body
-    (ap (λ v. let w : InForce = v in bom_of result ++ w.body) (sym f) ∙ sym (source-whole r.encoding result) ∙ h.whole)
-
--- Setting another value in the result has the same results as in the source, if the source doesn't have that value
--- already.
-pub value_set-again : (r : Repertoire) (source key first second between : List ℕ) → is_editable (byte_order_mark r.encoding source).encoding ≡ true
-    → All scalar key → All scalar first → IsValueSet r source key first between
-    → IsNotAt second (last_place key (held_groups_of (byte_order_mark r.encoding source).encoding (byte_order_mark r.encoding source).body))
-    → value_set r between key second ≡ value_set r source key second
-value_set-again r source key first second between ok k v h other =
-    let f = byte_order_mark r.encoding source in
-    let m = valued-body r source key first between ok k v h in
-    let own = held_groups_of-only f.encoding f.body h.groups h.held in
-    ap (λ w. let g : InForce = w in let gs = held_groups_of g.encoding g.body in bom_of between ++ valued_at (in_encoding r g.encoding) gs key second (last_place key gs))
-    (value_set-in_force r source key first between ok h)
-    ∙ ap₂ (λ x gs. x ++ valued_at (in_encoding r f.encoding) gs key second (last_place key gs)) (bom-same r source key first between ok h) (sym (held_groups_of-only f.encoding h.body m.groups m.held))
-    ∙ ap (λ x. bom_of source ++ x) (m.again second (subst (λ gs. IsNotAt second (last_place key gs)) (sym own) other))
-    ∙ ap (λ gs. bom_of source ++ valued_at (in_encoding r f.encoding) gs key second (last_place key gs)) own
-
--- ---- what stays unchanged
+use Rattle.properties_format.proofs.Valued.Marks.{front-bytes}
 
 -- If a value is set, every group but the last pair with the key is unchanged.
 pub value_set-keeps : (t : Repertoire) (source key value result : List ℕ) → IsValueSet t source key value result
@@ -89,7 +41,8 @@ pair-bytes : (e : Encoding) (group : List HeldLine) (between front : List ℕ) (
 pair-bytes e group between front f =
     front-bytes e group between front f
     ∙ ap (λ v. front ++ v) (bytes-unended (record { bytes = f.tail; text = f.line.text; ending = f.line.ending } ∷ f.more))
-    ∙ ap (λ o. front ++ (after_front f.line f.tail f.more ++ ending_bytes o)) (search (rules) ∙ sym (ap last_ending f.division ∙ last_ending-append f.kept (f.line ∷ f.more) (λ q. cc)))
+    ∙ ap (λ o. front ++ (after_front f.line f.tail f.more ++ ending_bytes o))
+    (search (rules) ∙ sym (ap last_ending f.division ∙ last_ending-append f.kept (f.line ∷ f.more) (λ q. cc)))
 
 -- The front of a pair comes before its last line ending.
 pub front-unended : (e : Encoding) (group : List HeldLine) (between front : List ℕ) (f : IsFrontOf e group between front)
@@ -108,7 +61,8 @@ front-unended e (i ∷ is) between front f =
 -- A source that contains such a pair, divided around the pair's value.
 around-source : (e : Encoding) (source : List ℕ) (before : List (List HeldLine)) (group : List HeldLine) (after : List (List HeldLine)) (between front : List ℕ)
     (f : IsFrontOf (byte_order_mark e source).encoding group between front) → (byte_order_mark e source).body ≡ groups_bytes (before ++ group ∷ after)
-    → source ≡ bom_of source ++ ((groups_bytes before ++ front) ++ (after_front f.line f.tail f.more ++ (ending_bytes (last_ending group) ++ groups_bytes after)))
+    → source ≡ bom_of source ++ ((groups_bytes before ++ front) ++
+    (after_front f.line f.tail f.more ++ (ending_bytes (last_ending group) ++ groups_bytes after)))
 around-source e source before group after between front f s =
     let old = after_front f.line f.tail f.more in
     let by = ending_bytes (last_ending group) in
@@ -157,19 +111,22 @@ value_set-keeps_front t source key value result ok h =
     elim h.edited [
       | inl r ↦
           let p = r.has_pair in
-          let m = front_of-meets f.encoding r.group p.raw_key p.raw_value ok (group-decoded f.encoding f.body h.groups r.before r.group r.after h.held r.division) p.split in
+          let m = front_of-meets f.encoding r.group p.raw_key p.raw_value ok
+          (group-decoded f.encoding f.body h.groups r.before r.group r.after h.held r.division) p.split in
           let s = around-source t.encoding source r.before r.group r.after _ _ m (body ∙ ap groups_bytes r.division) in (
             h.groups,
             h.held,
             inl (alike-around t.encoding source key _ result h.groups r.before r.group r.after _ _
-                r.division (value, r.has_pair) r.no_later body m (h.whole ∙ ap (λ v. bom_of source ++ v) (r.bytes ∙ sym body) ∙ sym (source-whole t.encoding source) ∙ s)),
+                r.division (value, r.has_pair) r.no_later body m
+                (h.whole ∙ ap (λ v. bom_of source ++ v) (r.bytes ∙ sym body) ∙ sym (source-whole t.encoding source) ∙ s)),
           )
       | inr (inl r) ↦
           let back = ending_bytes (last_ending r.group) ++ groups_bytes r.after in
           let new = encoded_text f.encoding (value_text (in_encoding t f.encoding) r.between value) in (
             h.groups,
             h.held,
-            inl (alike-around t.encoding source key new result h.groups r.before r.group r.after r.between r.front r.division r.has_key r.no_later body r.is_front
+            inl (alike-around t.encoding source key new result h.groups r.before r.group r.after r.between r.front
+                r.division r.has_key r.no_later body r.is_front
                 (h.whole ∙ ap (λ v. bom_of source ++ v) (r.bytes ∙ sym (append_assoc (groups_bytes r.before) r.front (new ++ back))))),
           )
       | inr (inr r) ↦

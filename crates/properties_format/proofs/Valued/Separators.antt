@@ -15,7 +15,7 @@ use Rattle.properties_format.specs.Printing.{printed_key, encoded_text, printed_
 use Rattle.properties_format.proofs.ReadBack.Values.{BeginsAfter, value-loose, loose-means, loosely-plain, loosely-closed, value-begins}
 use Rattle.properties_format.specs.Body.{HeldLine, as_lines}
 use Rattle.properties_format.specs.Edited.{is_editable}
-use Rattle.properties_format.specs.Valued.{shortened_after, separator_after, IsNewSeparator, IsFrontOf, HasPair}
+use Rattle.properties_format.specs.Valued.{value_text, shortened_after, separator_after, IsNewSeparator, IsFrontOf, HasPair}
 use Rattle.properties_format.proofs.Lines.Plain.{plain-append}
 use Rattle.properties_format.proofs.Groups.Joined.{joined-closed}
 use Rattle.properties_format.proofs.Split.Unique.{separator-full}
@@ -249,3 +249,8 @@ added-pair r first key sep value by ok k v f =
       between_some = n.some;
       blanks = n.blanks;
     }
+
+-- A new pair after a front, with the same text between key and value.
+pub added-text : (r : Repertoire) (between sep value : List ℕ) → between ≢ [] → is_blanks between ≡ is_blanks sep
+    → value_text r between value ≡ printed_value r (is_blanks sep) value
+added-text r between sep value h1 h2 = grind (arith)

@@ -32,8 +32,6 @@ pub same-characters : (x y : List ℕ) → IsUtf8 x → IsUtf8 y → bytes_eq x 
 same-characters x y u v = same_from_decides _ _ (bytes_eq-Decides x y)
     (Decides-like _ (λ e. sym (encodes-chars x u) ∙ ap encodes e ∙ encodes-chars y v) (ap chars) (bytes_eq-Decides (chars x) (chars y)))
 
-pub ruleset alike = (same-characters)
-
 -- a key of characters is looked up by its bytes
 compares_encoded : (key : List ℕ) → all_scalars key ≡ true → (x : List ℕ) → IsUtf8 x → bytes_eq key (chars x) ≡ bytes_eq (encode_utf8_all key) x
 compares_encoded key s x is =

@@ -14,14 +14,14 @@ use crate::propedit::error::Failure;
 use crate::propedit::request::{Change, Conversion, Edits};
 use crate::propedit::sound::{refuse_bytes, refuse_unsound};
 use crate::propedit::values::values_of;
-use java_properties::{Edit, Encoding, convert, edit_pairs};
+use java_properties::{Comments, Edit, Encoding, SourceOptions, convert, edit_with};
 use std::alloc::{AllocError, Global};
 
 /// Returns the bytes of a source after a change.
 ///
-/// It refuses a source for its bytes: lines that are ill-formed in the encoding in force, or U+0000 if UTF-8 is in force
-/// without a byte order mark. Edits refuse a malformed escape in a pair too, then UTF-16, and then, if that is asked for,
-/// the first key to set that no pair of the source has. A conversion keeps what is malformed.
+/// It refuses a source for its bytes: lines that are ill-formed in the encoding in force, or U+0000 if UTF-8 is in
+/// force without a byte order mark. Edits refuse a malformed escape in a pair too, then UTF-16, and then, if that is
+/// asked for, the first key to set that no pair of the source has. A conversion keeps what is malformed.
 ///
 /// ```text
 /// let edits = Change::Edits(Edits {
@@ -63,7 +63,12 @@ fn edited(
     ensures { ChangesByEdits (encoding_of encoding) source.now edits.now result }
 {
     refuse_bytes(source, encoding)?;
-    match edit_pairs(alloc, source, encoding, edits.ascii_only, &edits.list) {
+    let options = SourceOptions {
+        encoding,
+        ascii_only: edits.ascii_only,
+        comments: Comments::PassedOver,
+    };
+    match edit_with(alloc, source, options, &edits.list) {
         Ok(bytes) => {
             if edits.existing {
                 refuse_absent(alloc, source, encoding, &edits.list)?;

@@ -112,7 +112,8 @@ fn push_first(
     })?)
 }
 
-// Returns what is said of the first ill-formed line of a source. If it has U+0000, that line's words have said what helps.
+// Returns what is said of the first ill-formed line of a source. If it has U+0000, that line's words have said what
+// helps.
 fn words_for(source: &[u8], encoding: Encoding, has_zero: bool) -> Words
     ensures { result ≡ first_words (encoding_of encoding) source.now has_zero }
 {

@@ -24,8 +24,8 @@ pub(crate) struct Place {
 
 /// The keys that came, each held once, in one text, and with the number of the line in which it came first.
 ///
-/// Each key has one of the slots, by its hash. A slot has the place of one key. The others with this slot are in a sorted
-/// map, so that no choice of keys makes it slow.
+/// Each key has one of the slots, by its hash. A slot has the place of one key. The others with this slot are in a
+/// sorted map, so that no choice of keys makes it slow.
 #[derive(Drop)]
 pub(crate) struct FirstKeys {
     /// The keys, each with the byte that ends it.

@@ -80,8 +80,8 @@ pub fn print_reading<E: CountedWrite>(errors: &mut E)
     print_line(errors, READING);
 }
 
-/// Returns the line that says, of an answer with this status, which word may have been meant as a file: a PREFIX that no
-/// key begins with, if no file is named, or a KEY that no pair has, if it is one of the `files`.
+/// Returns the line that says, of an answer with this status, which word may have been meant as a file: a PREFIX that
+/// no key begins with, if no file is named, or a KEY that no pair has, if it is one of the `files`.
 pub(crate) fn hint(
     alloc: Global,
     job: &Job,

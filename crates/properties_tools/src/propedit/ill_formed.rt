@@ -21,15 +21,15 @@ use std::alloc::Global;
 pub enum Flaw {
     /// They are ill-formed in the encoding in force. In windows-1252 none are.
     IllFormed,
-    /// One of them is 0, as every other one is in ASCII characters of UTF-16. It is sought only if UTF-8 is in force, and
-    /// no byte order mark says so.
+    /// One of them is 0, as every other one is in ASCII characters of UTF-16. It is sought only if UTF-8 is in force,
+    /// and no byte order mark says so.
     Zero,
     /// They are well-formed, and have a character that isn't ASCII.
     NonAscii,
 }
 
-/// Returns the numbers of the natural lines that are ill-formed in the encoding in force, in order. Fails only if memory
-/// runs out.
+/// Returns the numbers of the natural lines that are ill-formed in the encoding in force, in order. Fails only if
+/// memory runs out.
 ///
 /// ```text
 /// let numbers = ill_formed_lines(alloc, b"a=1\nb=caf\xe9\n", Encoding::UTF_8)?; // line 2

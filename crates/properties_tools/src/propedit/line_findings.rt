@@ -30,8 +30,8 @@ pub(crate) struct LineFindings {
     pub keys: FirstKeys,
 }
 
-/// Returns the malformed escapes of a source and the pairs that repeat a key, each in the order of the lines. Unless the
-/// source is well-formed, a key with U+FFFD repeats no other.
+/// Returns the malformed escapes of a source and the pairs that repeat a key, each in the order of the lines. Unless
+/// the source is well-formed, a key with U+FFFD repeats no other.
 pub(crate) fn line_findings(
     alloc: Global,
     source: &[u8],

@@ -10,7 +10,8 @@ use java_properties::{Encoding, MalformedEscape, malformed_escapes_of};
 use properties_text::encoding::byte_order_mark::encoding_in_force;
 use std::alloc::Global;
 
-/// Refuses a source for its bytes, or else one that has a malformed escape in a pair. The failure has the first of them.
+/// Refuses a source for its bytes, or else one that has a malformed escape in a pair. The failure has the first of
+/// them.
 pub fn refuse_unsound(alloc: Global, source: &[u8], encoding: Encoding) -> Result<(), Failure>
     ensures { RefusesUnsound (encoding_of encoding) source.now result }
 {
@@ -35,8 +36,8 @@ fn first_in_pair(escapes: &[MalformedEscape]) -> Option<MalformedEscape>
 }
 
 /// Refuses a source for its bytes: UTF-8 is in force without a byte order mark, and it has U+0000; or else a line is
-/// ill-formed in the encoding in force. The failure has the first such line. A source with U+0000 may be in UTF-16. That
-/// comes first, since it is often not UTF-8 either, and no other encoding reads it right.
+/// ill-formed in the encoding in force. The failure has the first such line. A source with U+0000 may be in UTF-16.
+/// That comes first, since it is often not UTF-8 either, and no other encoding reads it right.
 pub fn refuse_bytes(source: &[u8], encoding: Encoding) -> Result<(), Failure>
     ensures { RefusesBytes (encoding_of encoding) source.now result }
 {

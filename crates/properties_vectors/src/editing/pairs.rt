@@ -1,26 +1,30 @@
 // Edits that pass over comments, and values that are looked up among the pairs of a source.
 
-use crate::editing::{Lists, Run, edited, runs};
+use crate::editing::{Run, edited, runs};
 use crate::items::error_text;
 use crate::notation::{Clause, Halt, Row, Source, quoted, text};
 use crate::outcome::Outcome;
-use java_properties::{PropertiesError, edit_all, edit_pairs, value_among_pairs, value_of};
+use java_properties::{
+    Comments, Document, Edit, PropertiesError, SourceOptions, edit_all, edit_with,
+    value_among_pairs, value_of,
+};
 use std::alloc::{AllocError, Global};
 use std::slice;
 
-/// The edits are made as lists and one at a time, and what is got is looked up in what came. Where comments can be
-/// read, edits that read them give the same.
+/// The edits are made as lists, one at a time and by a document, and what is got is looked up in what came. Where
+/// comments can be read, edits that read them give the same.
 pub fn check_edit_pairs(row: Row<'_>, outcome: &mut Outcome) -> Result<(), Halt> {
     let (source, steps) = row.source()?;
     let runs = runs(row.alloc, steps)?;
     let runs = runs.as_slice();
-    let by_lists = edited(source, runs, Lists::EditPairs);
+    let by_lists = edited(source, runs, Comments::PassedOver);
     let came = shown(source, by_lists, steps)?;
     outcome.compare("by lists of edits", &came)?;
     let came = shown(source, one_at_a_time(source, runs), steps)?;
     outcome.compare("one edit at a time", &came)?;
+    check_document(source, runs, steps, outcome)?;
     if edit_all(row.alloc, source.bytes, row.encoding, &[]).is_ok() {
-        let came = shown(source, edited(source, runs, Lists::EditAll), steps)?;
+        let came = shown(source, edited(source, runs, Comments::Read), steps)?;
         outcome.compare("where comments are read", &came)?;
     }
     Ok(())
@@ -65,19 +69,71 @@ fn key_of(step: &Clause) -> Option<&Vec<u8>> {
 // An empty list comes first, which refuses what no edit can be made to.
 fn one_at_a_time(source: Source<'_>, runs: &[Run]) -> Result<Vec<u8>, PropertiesError> {
     let (alloc, encoding) = (source.alloc, source.encoding);
-    let mut bytes = edit_pairs(alloc, source.bytes, encoding, false, &[])?;
+    let options = SourceOptions {
+        comments: Comments::PassedOver,
+        ..SourceOptions::new(encoding)
+    };
+    let mut bytes = edit_with(alloc, source.bytes, options, &[])?;
     for run in runs {
         for edit in &run.edits {
-            bytes = edit_pairs(
-                alloc,
-                &bytes,
-                encoding,
-                run.ascii_only,
-                slice::from_ref(edit),
-            )?;
+            let options = SourceOptions {
+                ascii_only: run.ascii_only,
+                ..options
+            };
+            bytes = edit_with(alloc, &bytes, options, slice::from_ref(edit))?;
         }
     }
     Ok(bytes)
+}
+
+// A document has the bytes, and the values that are got of them.
+fn check_document(
+    source: Source<'_>,
+    runs: &[Run],
+    steps: &[Clause],
+    outcome: &mut Outcome,
+) -> Result<(), Halt> {
+    let (alloc, encoding) = (source.alloc, source.encoding);
+    match document_of(source, runs) {
+        Err(error) => outcome.compare("by a document", error_text(alloc, &error)?.as_str())?,
+        Ok(document) => {
+            let bytes = document.to_bytes()?;
+            for step in steps {
+                if let Some(key) = key_of(step) {
+                    let key = text(key)?;
+                    let value = value_among_pairs(alloc, &bytes, encoding, key);
+                    let is_same = value.is_ok_and(|value| value.as_deref() == document.get(key));
+                    if !is_same {
+                        outcome.fail(format!(in alloc; "a document has another value of {key:?}")?);
+                    }
+                }
+            }
+            let came = shown(source, Ok(bytes), steps)?;
+            outcome.compare("by a document", &came)?;
+        }
+    }
+    Ok(())
+}
+
+fn document_of(source: Source<'_>, runs: &[Run]) -> Result<Document, PropertiesError> {
+    let options = SourceOptions {
+        comments: Comments::PassedOver,
+        ..SourceOptions::new(source.encoding)
+    };
+    let mut document = Document::parse_with(source.alloc, source.bytes, options)?;
+    for run in runs {
+        document.set_ascii_only(run.ascii_only);
+        for edit in &run.edits {
+            match edit {
+                Edit::Put(key, value) => document.put(key, value)?,
+                Edit::SetValue(key, value) => document.set_value(key, value)?,
+                Edit::Remove(key) => {
+                    let _ = document.remove(key);
+                }
+            }
+        }
+    }
+    Ok(document)
 }
 
 // The bytes and the values that are got of them, or the error.

@@ -5,7 +5,7 @@ use Rattle.properties_editing.proofs.Editing.{returns-removed}
 use Rattle.properties_editing.proofs.edit.remove_key.Goals as goal
 
 pub returns-clause-removes : goal.returns-clause-removes
-returns-clause-removes c = returns-removed (encoding_of c.args.encoding) c.args.source.now (chars c.args.key.now) _ (rw c.all_of.ensures at c.remove_key_with.ensures)
+returns-clause-removes c = returns-removed (encoding_of c.args.encoding) c.args.source.now (chars c.args.key.now) _ (rw c.new.ensures at c.edit_once.ensures)
 
 pub returns-clause-splitting : goal.returns-clause-splitting
 returns-clause-splitting c = splitting-commutes (encoding_of c.args.encoding) c.args.source.now

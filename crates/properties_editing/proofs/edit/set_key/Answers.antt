@@ -9,7 +9,7 @@ use Rattle.properties_format.specs.Encoding.{all_of}
 pub returns-clause-sets : goal.returns-clause-sets
 returns-clause-sets c =
     returns-set (all_of (encoding_of c.args.encoding)) c.args.source.now (chars c.args.key.now) (chars c.args.value.now)
-    (chars-scalars c.args.key.now c.utf8.key) (chars-scalars c.args.value.now c.utf8.value) _ (rw c.all_of.ensures at c.set_key_with.ensures)
+    (chars-scalars c.args.key.now c.utf8.key) (chars-scalars c.args.value.now c.utf8.value) _ (rw c.new.ensures at c.edit_once.ensures)
 
 pub returns-clause-splitting : goal.returns-clause-splitting
 returns-clause-splitting c = splitting-commutes (encoding_of c.args.encoding) c.args.source.now

@@ -2,7 +2,7 @@ use Rattle.std.proofs.Common.{◌∙◌, ap, arith, subst, sym}
 use Rattle.std.specs.Str.{IsUtf8}
 use Rattle.properties_text.specs.Encoding.{encoding_of}
 use Rattle.properties_editing.proofs.BodyValues.{IsTaken, taken, taken-sizes, walking-begins, walking-found, walking-on}
-use Rattle.properties_editing.proofs.BodyKeys.{editable-bytes}
+use Rattle.properties_editing.proofs.Editing.{editable-bytes}
 use Rattle.properties_editing.proofs.layout.front_size.Goals as goal
 use Rattle.properties_editing.proofs.layout.front_size.Goals.{After-added_by-added}
 

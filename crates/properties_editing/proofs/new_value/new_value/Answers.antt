@@ -1,7 +1,7 @@
 use Rattle.std.specs.Str.{chars}
 use Rattle.properties_format.proofs.Edited.Pair.{editable-own}
 use Rattle.properties_text.specs.Encoding.{encoding_of}
-use Rattle.properties_editing.proofs.BodyKeys.{editable-bytes}
+use Rattle.properties_editing.proofs.Editing.{editable-bytes}
 use Rattle.properties_editing.proofs.BodyValues.{before-value, value-new}
 use Rattle.properties_editing.proofs.new_value.new_value.Goals as goal
 

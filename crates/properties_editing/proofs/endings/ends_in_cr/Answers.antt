@@ -1,6 +1,0 @@
-use Rattle.std.proofs.Common.{sym, ◌∙◌}
-use Rattle.properties_editing.proofs.BodyKeys.{last-cr}
-use Rattle.properties_editing.proofs.endings.ends_in_cr.Goals as goal
-
-pub returns : goal.returns
-returns c = last-cr c.args.bytes.now (sym c.is_empty.ensures ∙ c.if-is_empty.false)

@@ -1,0 +1,110 @@
+// Pairs that are taken out of the parts.
+
+ghost use Rattle.std.specs.Prelude.{◌≡◌, false, ◌≤◌, ◌<◌, ◌++◌, drop, length, take, None, Some};
+ghost use Rattle.std.specs.BTreeMap.{IsOrdered};
+ghost use Rattle.std.specs.String.{string_cmp};
+ghost use Rattle.std.specs.Str.{chars};
+ghost use Rattle.properties_format.specs.Text.{is_empty};
+ghost use Rattle.properties_editing.specs.Private.BodyParts.{AreTextsWithin, IsTextWithin, taken_out, taken_all, without_lf, without_lf_first, places_in};
+ghost use Rattle.properties_editing.specs.Private.RemovedParts.{AreBelow, RemovesPairs, key_places, without_empty_end};
+
+use super::{KeyPlaces, Part, PartKind, PartText, Parts, is_empty};
+use crate::bytes::BodySpan;
+use crate::groups::Closing;
+use properties_items::line::LineEnding;
+
+impl Parts {
+    /// Removes the pairs with a key, and returns whether there were any. Allocates nothing.
+    pub fn remove(&mut self, body: &[u8], key: &str) -> bool
+        requires ordered { IsOrdered string_cmp self.old.keys.places }
+        requires within { AreTextsWithin body.now self.old.parts.items }
+        requires places { AreBelow (length self.old.parts.items) (key_places self.old (chars key.now)) }
+        ensures { RemovesPairs body.now (chars key.now) self.old result self.new }
+    {
+        let Some(places) = self.keys.places.remove(key) else {
+            return false;
+        };
+        if places.is_empty() {
+            return false;
+        }
+        take_all_out(body, &mut self.parts, &places);
+        let size = self.parts.len();
+        drop_empty_end(&mut self.parts);
+        if self.parts.len() < size {
+            // No part stands for the last group: it is an empty line.
+            self.closing = Closing::Nothing;
+        }
+        true
+    }
+}
+
+// Removes the parts in these places, one after another.
+fn take_all_out(body: &[u8], parts: &mut Vec<Part>, places: &KeyPlaces)
+    requires within { AreTextsWithin body.now parts.old.items }
+    requires places { AreBelow (length parts.old.items) (places_in places.now) }
+    ensures { parts.new.items ≡ taken_all body.now (places_in places.now) parts.old.items }
+{
+    for place in &places.earlier {
+        take_out(body, parts, *place);
+    }
+    if let Some(last) = places.last {
+        take_out(body, parts, last);
+    }
+}
+
+// Drops the empty parts at the end, so that a key that is added and removed again leaves none.
+#[tactic(auto, using(crate::proofs::PartEnds::empty_end, crate::proofs::PartEnds::some_end))]
+fn drop_empty_end(parts: &mut Vec<Part>)
+    ensures { parts.new.items ≡ without_empty_end parts.old.items }
+{
+    let mut size = parts.len();
+    while size > 0 && is_empty(&parts[size - 1]) {
+        size -= 1;
+    }
+    parts.truncate(size);
+}
+
+// Removes the part in this place, with its line ending, and an LF behind it if that belongs to the line ending.
+#[tactic(auto, using(crate::proofs::PartLists::set_behind, crate::proofs::PartLists::set_alone))]
+fn take_out(body: &[u8], parts: &mut Vec<Part>, place: usize)
+    requires within { AreTextsWithin body.now parts.old.items }
+    requires place { place < length parts.old.items }
+    ensures { parts.new.items ≡ taken_out body.now place parts.old.items }
+{
+    if let Some(LineEnding::CR) = parts[place].ending {
+        drop_line_feed(body, parts, place + 1);
+    }
+    parts[place] = Part {
+        text: PartText::Span(BodySpan { start: 0, end: 0 }),
+        ending: None,
+        kind: PartKind::Others(None),
+    };
+}
+
+// Removes an LF that comes first in the parts from this place on: it is part of a CR LF.
+#[tactic(auto, using(crate::proofs::PartLists::within_at, crate::proofs::PartLists::first_cut, crate::proofs::PartLists::empty_passed))]
+fn drop_line_feed(body: &[u8], parts: &mut Vec<Part>, from: usize)
+    requires within { AreTextsWithin body.now parts.old.items }
+    requires from { from ≤ length parts.old.items }
+    ensures { parts.new.items ≡ take from parts.old.items ++ without_lf_first body.now (drop from parts.old.items) }
+{
+    let mut place = from;
+    while place < parts.len() && is_empty(&parts[place]) {
+        place += 1;
+    }
+    if place < parts.len() {
+        drop_first(body, &mut parts[place]);
+    }
+}
+
+// Removes an LF at the front of a part.
+fn drop_first(body: &[u8], part: &mut Part)
+    requires { IsTextWithin body.now part.old.text }
+    ensures { part.new ≡ without_lf body.now part.old }
+{
+    if let PartText::Span(span) = &mut part.text {
+        if span.start < span.end && body[span.start] == b'\n' {
+            span.start += 1;
+        }
+    }
+}

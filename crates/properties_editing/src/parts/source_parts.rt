@@ -1,0 +1,168 @@
+// A source in parts: its byte order mark, and its body.
+
+ghost use Rattle.std.specs.Prelude.{◌≡◌, ◌≤◌, ◌++◌, ◌==◌, ◌&&◌, ◌||◌, drop, length, min, nat_le, not, take, IfOk, OnOk};
+ghost use Rattle.std.specs.BTreeMap.{IsOrdered};
+ghost use Rattle.std.specs.String.{string_cmp};
+ghost use Rattle.std.specs.Str.{chars};
+ghost use Rattle.properties_format.specs.Encoding.{begins_like_bom};
+ghost use Rattle.properties_text.specs.Encoding.{encoding_of};
+ghost use Rattle.properties_lines.specs.LineSearch.{unit_size};
+ghost use Rattle.properties_editing.specs.Private.BodyParts.{AreTextsWithin, AreUnplaced, IsTextWithin, part_bytes, parts_bytes, text_bytes};
+ghost use Rattle.properties_editing.specs.Private.RemovedParts.{AreBelow, key_places};
+ghost use Rattle.properties_editing.specs.Private.SourceParts.{GuardsParts, ReadsSource, RemovesKey, empty_front, first_text, source_bytes};
+
+use super::{NamedKeys, Part, Parts, bytes_of, is_empty};
+use crate::source::{BodyStart, Comments};
+use properties_items::error::PropertiesError;
+use properties_items::line::ending_text;
+use properties_text::encoding::byte_order_mark::begins_like_byte_order_mark;
+use std::alloc::{AllocError, Global};
+use std::cmp::min;
+
+/// A source in parts. The bytes that were read are passed to each call.
+#[derive(Drop)]
+pub struct SourceParts {
+    /// How it was opened.
+    pub opened: BodyStart,
+    /// The parts of its body.
+    pub parts: Parts,
+    /// How many parts at the front are empty.
+    pub empty: usize,
+    /// Whether an LF comes first, so that the rest isn't taken for a byte order mark.
+    pub guarded: bool,
+}
+
+impl SourceParts {
+    /// Reads a source. No key has places yet. The encoding's units are one byte long.
+    pub fn read(
+        alloc: Global,
+        opened: BodyStart,
+        comments: Comments,
+        body: &[u8],
+        keys: NamedKeys,
+    ) -> Result<SourceParts, PropertiesError>
+        requires bytes { unit_size (encoding_of opened.encoding) ≡ 1 }
+        requires unplaced { AreUnplaced keys }
+        ensures { ReadsSource comments opened body.now keys result }
+    {
+        let parts = Parts::read(alloc, opened.encoding, comments, body, keys)?;
+        let empty = first_some(&parts.parts, 0);
+        Ok(SourceParts {
+            opened,
+            parts,
+            empty,
+            guarded: false,
+        })
+    }
+
+    /// Returns whether nothing comes before this place.
+    pub fn is_first(&self, place: usize) -> bool
+        ensures { result ≡ (not self.now.guarded && nat_le place self.now.empty) }
+    {
+        !self.guarded && place <= self.empty
+    }
+
+    /// Removes the pairs with a key, and returns whether there were any. Allocates nothing.
+    pub fn remove(&mut self, body: &[u8], key: &str) -> bool
+        requires ordered { IsOrdered string_cmp self.old.parts.keys.places }
+        requires within { AreTextsWithin body.now self.old.parts.parts.items }
+        requires places { AreBelow (length self.old.parts.parts.items) (key_places self.old.parts (chars key.now)) }
+        requires front { self.old.empty ≡ empty_front self.old.parts.parts.items }
+        ensures { RemovesKey body.now (chars key.now) self.old result self.new }
+    {
+        let told = self.parts.remove(body, key);
+        self.guard_front(body);
+        told
+    }
+
+    // Counts the empty parts at the front, and puts an LF first if the rest would be taken for a byte order mark.
+    fn guard_front(&mut self, body: &[u8])
+        requires within { AreTextsWithin body.now self.old.parts.parts.items }
+        requires front { min self.old.empty (length self.old.parts.parts.items) ≤ empty_front self.old.parts.parts.items }
+        ensures { GuardsParts body.now self.old self.new }
+    {
+        let parts = &self.parts.parts;
+        self.empty = first_some(parts, min(self.empty, parts.len()));
+        self.guarded = self.guarded
+            || self.opened.start == 0 && begin_like_mark(body, parts, self.empty);
+    }
+
+    /// Returns the bytes of the source, from those that were read. Their memory is taken before the first is copied.
+    #[tactic(auto, using(crate::proofs::PartLists::within_at))]
+    pub fn to_bytes(&self, alloc: Global, source: &[u8]) -> Result<Vec<u8>, AllocError>
+        requires start { self.now.opened.start ≤ length source.now }
+        requires within { AreTextsWithin (drop self.now.opened.start source.now) self.now.parts.parts.items }
+        ensures { IfOk result (λ bytes. bytes.items ≡ source_bytes source.now self.now) }
+    {
+        let (mark, body) = source.split_at(self.opened.start);
+        let parts = &self.parts.parts;
+        let mut bytes = Vec::with_capacity(alloc, self.size(body))?;
+        bytes.extend_from_slice(mark)?;
+        if self.guarded {
+            bytes.push(b'\n')?;
+        }
+        for part in parts {
+            push_part(&mut bytes, body, part)?;
+        }
+        Ok(bytes)
+    }
+
+    // Returns how many bytes the source has.
+    #[tactic(auto, using(crate::proofs::PartLists::within_at))]
+    fn size(&self, body: &[u8]) -> usize
+        requires { AreTextsWithin body.now self.now.parts.parts.items }
+    {
+        let mut size = self.opened.start.saturating_add(usize::from(self.guarded));
+        for part in &self.parts.parts {
+            size = size.saturating_add(part_size(body, part));
+        }
+        size
+    }
+}
+
+// Returns the place of the first part that isn't empty. All before `from` are.
+#[tactic(auto, using(crate::proofs::PartFronts::front_from, crate::proofs::PartFronts::front_next, crate::proofs::PartFronts::front_ends, crate::proofs::PartFronts::front_all))]
+fn first_some(parts: &Vec<Part>, from: usize) -> usize
+    requires within { from ≤ length parts.now.items }
+    requires empty { from ≤ empty_front parts.now.items }
+    ensures { result ≡ empty_front parts.now.items }
+{
+    let mut place = from;
+    while place < parts.len() && is_empty(&parts[place]) {
+        place += 1;
+    }
+    place
+}
+
+// Returns whether the parts would be taken for a byte order mark. `first` is the place of the first that isn't empty.
+#[tactic(auto, using(crate::proofs::PartLists::within_at, crate::proofs::PartFronts::front_text, crate::proofs::PartFronts::front_none))]
+fn begin_like_mark(body: &[u8], parts: &Vec<Part>, first: usize) -> bool
+    requires within { AreTextsWithin body.now parts.now.items }
+    requires first { first ≡ empty_front parts.now.items }
+    ensures { result ≡ begins_like_bom (first_text body.now parts.now.items) }
+{
+    first < parts.len() && begins_like_byte_order_mark(bytes_of(body, &parts[first].text))
+}
+
+// Appends the bytes of a part.
+fn push_part(bytes: &mut Vec<u8>, body: &[u8], part: &Part) -> Result<(), AllocError>
+    requires { IsTextWithin body.now part.now.text }
+    ensures { OnOk result (bytes.new.items ≡ bytes.old.items ++ part_bytes body.now part.now) }
+{
+    bytes.extend_from_slice(bytes_of(body, &part.text))?;
+    if let Some(ending) = part.ending {
+        bytes.extend_from_slice(ending_text(ending).as_bytes())?;
+    }
+    Ok(())
+}
+
+// Returns how many bytes a part has.
+fn part_size(body: &[u8], part: &Part) -> usize
+    requires { IsTextWithin body.now part.now.text }
+{
+    let ending = match part.ending {
+        Some(ending) => ending_text(ending).len(),
+        None => 0,
+    };
+    bytes_of(body, &part.text).len().saturating_add(ending)
+}
