@@ -26,6 +26,7 @@ use Rattle.properties_editing.specs.Private.BodyGroups.{closing_of}
 use Rattle.properties_editing.specs.Private.BodyParts.{StandFor, is_empty_part, parts_bytes, pieces_groups}
 use Rattle.properties_editing.specs.Private.ChangedParts.{AddsPair, ClosesLast, HasAdded, IsAsBefore, closed_as, has_to_close, key_place, with_last}
 use Rattle.properties_editing.specs.Private.EditedParts.{AreEditedParts, EditsParts, StandForSource}
+use Rattle.properties_editing.specs.Private.PartBounds.{AreBounds}
 use Rattle.properties_editing.specs.Private.SourceParts.{empty_front, lf_if}
 use Rattle.properties_editing.specs.Private.Sound.{AreSound}
 use Rattle.properties_editing.specs.declared.parts.PartKind.{PartKind}
@@ -36,6 +37,7 @@ use Rattle.properties_editing.specs.declared.parts.source_parts.SourceParts.{Sou
 use Rattle.properties_editing.specs.Private.Sources.{printed_in}
 use Rattle.properties_editing.proofs.Editing.{bom-front, editable, not_first, printed-own}
 use Rattle.properties_editing.proofs.EditedParts.{encoding-own, pair-text, slots-own, some-between, source-edited}
+use Rattle.properties_editing.proofs.PartBounds.{bounds-added}
 use Rattle.properties_editing.proofs.PartsAppended.{stands-added, stands-kept}
 use Rattle.properties_editing.proofs.PartsRemoved.{AllOther, line-other, tail-back}
 use Rattle.properties_editing.proofs.PartsReplaced.{IsPairText, divided, none-changes, none-last, own-other}
@@ -167,6 +169,7 @@ module _ {r : Repertoire} {read now : List ℕ} {named : List ℕ → Bool} {gs 
       (stands-added f s.in_force.editable d named key value gs old.parts new s.turn s.stand by ending bytes h t is)
       (ap empty_front h.parts ∙ front-push (with_last h.closed items) _ refl
       ∙ front-closed d named f gs old.parts s.stand s.turn by h.closed h.closes ∙ sym s.empty)
+      (bounds-added d key value old.bounds by ending bytes old.parts new h s.bounds)
 
   -- Nothing changed.
   pub source-kept : (new : Parts) → IsAsBefore old.parts new → StandForSource r read now named gs (record old { parts = new })
@@ -178,6 +181,7 @@ module _ {r : Repertoire} {read now : List ℕ} {named : List ℕ → Bool} {gs 
     turn = s.turn;
     stand = stands-kept d named gs old.parts new s.stand h;
     empty = s.empty ∙ ap empty_front (sym h.parts);
+    bounds = subst (AreBounds d old.bounds) (sym h.parts) s.bounds;
   }
 
   -- ---- a key is set

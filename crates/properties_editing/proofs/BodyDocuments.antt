@@ -283,6 +283,7 @@ ascii-turned d i only =
             turn = s.turn;
             stand = s.stand;
             empty = s.empty;
+            bounds = s.bounds;
           };
           sound = i.parts.sound;
         };

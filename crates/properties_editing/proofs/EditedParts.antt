@@ -29,6 +29,7 @@ use Rattle.properties_editing.specs.Private.BodyParts as parts
 use Rattle.properties_editing.specs.Private.BodyParts.{StandFor, is_empty_part, no_part}
 use Rattle.properties_editing.specs.Private.ChangedParts.{HasBytes, key_place, with_bytes}
 use Rattle.properties_editing.specs.Private.EditedParts.{AreEditedParts, StandForSource}
+use Rattle.properties_editing.specs.Private.PartBounds.{AreBounds}
 use Rattle.properties_editing.specs.Private.SourceParts.{empty_front}
 use Rattle.properties_editing.specs.Private.Sound.{AreSound}
 use Rattle.properties_editing.specs.Private.Sources.{IsInForce, printed_in}
@@ -37,6 +38,7 @@ use Rattle.properties_editing.specs.declared.parts.Part.{Part}
 use Rattle.properties_editing.specs.declared.parts.Parts.{Parts}
 use Rattle.properties_editing.specs.declared.parts.source_parts.SourceParts.{SourceParts}
 use Rattle.properties_editing.proofs.Editing.{again, bom-front, editable, printed-own}
+use Rattle.properties_editing.proofs.PartBounds.{bounds-set}
 use Rattle.properties_editing.proofs.PartsReplaced.{IsLastOwn, IsPairText, found, found-division, found-own, found-plan, front, held, plan-last, rest, rest-other, stands-replaced}
 use Rattle.properties_editing.proofs.SoundParts.{sound-changed}
 use Rattle.properties_editing.proofs.PartsWithout.{empty-none}
@@ -63,8 +65,9 @@ pub source-edited : {r : Repertoire} {read now : List ℕ} {named : List ℕ →
     (next : List (List HeldLine)) (new : Parts) → StandForSource r read now named gs old → IsEdited r now edit result → result ≡ bom_of now ++ body
     → AreSlotsIn r.encoding result (guarded (encoding_of old.opened.encoding) old.guarded next) → next ≢ []
     → StandFor (drop old.opened.start read) named next new → empty_front new.parts.items ≡ old.empty
+    → AreBounds (drop old.opened.start read) old.bounds new.parts.items
     → StandForSource r read result named next (record old { parts = new })
-source-edited {r} {read} {now} {named} {gs} {old} edit result body next new s edited whole slots some stand front =
+source-edited {r} {read} {now} {named} {gs} {old} edit result body next new s edited whole slots some stand front bounds =
     let f = encoding_of old.opened.encoding in
     let start = old.opened.start in
     let force : IsInForce result r old.opened = edited-in_force edit s.in_force edited in
@@ -80,6 +83,7 @@ source-edited {r} {read} {now} {named} {gs} {old} edit result body next new s ed
       turn = turn-behind f old.guarded next some own.turn;
       stand = stand;
       empty = sym front;
+      bounds = bounds;
     }
 
 -- ---- a pair with other bytes
@@ -190,11 +194,12 @@ module _ {r : Repertoire} {read now : List ℕ} {named : List ℕ → Bool} {gs 
       (found-plan f s.in_force.editable d named key gs old.parts s.turn s.stand place k (λ first g. become bytes.items)) in
       let stand_is : groups_after f cs gs ≡ next = ap (groups_after f cs) division ∙ become-after f bytes.items before k.group after in
       let next_place : place + 1 ≡ suc place = omega arith in
+      let set = h.parts ∙ ap (λ n. take place items ++ with_bytes bytes (get_or items place no_part) ∷ drop n items) next_place in
       source-edited edit result body next new s edited whole (subst (AreSlotsIn r.encoding result) slots_are are_slots)
       (some-between before (group_of f bytes.items (last_ending k.group)) after)
       (subst (λ v. StandFor d named v new) stand_is stands)
-      (ap empty_front (h.parts ∙ ap (λ n. take place items ++ with_bytes bytes (get_or items place no_part) ∷ drop n items) next_place)
-      ∙ front-set items place (with_bytes bytes (get_or items place no_part)) no_part own-within full-part refl ∙ sym s.empty)
+      (ap empty_front set ∙ front-set items place (with_bytes bytes (get_or items place no_part)) no_part own-within full-part refl ∙ sym s.empty)
+      (bounds-set d old.bounds place bytes items new.parts.items set s.bounds)
 
 -- ---- a printed pair
 

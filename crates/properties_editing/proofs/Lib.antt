@@ -10,6 +10,7 @@ pub mod BodyDocuments
 pub mod PartEnds
 pub mod PartFronts
 pub mod PartsLeft
+pub mod PartBounds
 pub mod PartsWithout
 pub mod SourceParts
 pub mod EditedParts

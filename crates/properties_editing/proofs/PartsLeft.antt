@@ -1,16 +1,16 @@
 -- The groups that are left after the pairs with a key went, and the parts that stand for them.
-use Rattle.std.proofs.Common.{◌≡◌, ◌≢◌, ◌<◌, ◌==◌, ℕ, zero, suc, ◌+◌, true, false, List, [], ◌∷◌, ◌++◌, Option, Some, None, length, take, drop, refl, ap, ◌∙◌, inl, inr, length-append, arith}
+use Rattle.std.proofs.Common.{◌≡◌, ◌≢◌, ◌<◌, ◌==◌, ℕ, zero, suc, ◌+◌, List, [], ◌∷◌, ◌++◌, Option, Some, None, length, take, drop, refl, ap, ◌∙◌, inl, inr, length-append, arith}
 use Rattle.std.specs.Prelude.{get_or}
 use Rattle.std.proofs.lemmas.Bool.{cases_Bool}
 use Rattle.std.proofs.lemmas.Bool.Decides.{nat_tests}
-use Rattle.properties_format.specs.Text.{is_empty}
 use Rattle.properties_items.specs.declared.line.LineEnding as declared
 use Rattle.properties_items.specs.declared.line.LineEnding.TheVariants.{CR, LF, CRLF}
-use Rattle.properties_editing.specs.Private.BodyParts.{AreTextsWithin, IsTextWithin, cut_text, begins_so, is_empty_part, no_part, parts_behind, taken_all, taken_out, without_lf_first}
+use Rattle.properties_editing.specs.Private.BodyParts.{AreTextsWithin, IsTextWithin, all_places, cut_text, begins_so, is_empty_part, no_part, parts_behind, taken_all, taken_out, without_lf_first}
 use Rattle.properties_editing.specs.Private.RemovedParts.{AreBelow}
 use Rattle.properties_editing.specs.declared.parts.PartText.{PartText}
 use Rattle.properties_editing.specs.declared.parts.PartText.TheVariants as text
 use Rattle.properties_editing.specs.declared.parts.Part.{Part}
+use Rattle.properties_editing.specs.declared.parts.Places.{Places}
 
 -- ---- texts stay within the body, and parts in their places
 
@@ -96,10 +96,9 @@ taking-next d places ps i left now t = record {
 
 -- ---- whether there are places
 
-pub are-none : (places : List ℕ) → is_empty places ≡ true → places ≡ []
-are-none [] e = refl
-are-none (i ∷ is) e = absurd (cc)
-
-pub are-some : (places : List ℕ) → is_empty places ≡ false → places ≢ []
-are-some [] n q = absurd (cc)
-are-some (i ∷ is) n q = absurd (cc)
+pub have-places : (p : Places) → all_places p ≢ []
+have-places p none = of-list p.earlier.items none
+  where
+    of-list : (xs : List ℕ) → xs ++ p.last ∷ [] ≢ []
+    of-list [] q = cc
+    of-list (x ∷ xs) q = cc

@@ -28,6 +28,7 @@ use Rattle.properties_text.specs.Encoding.{encoding_of}
 use Rattle.properties_editing.specs.Private.BodyParts as parts
 use Rattle.properties_editing.specs.Private.BodyParts.{ArePartsOf, AreTextsWithin, Piece, StandFor, is_empty_part, is_named, part_bytes, parts_bytes, pieces_groups, value_among}
 use Rattle.properties_editing.specs.Private.SourceParts.{ReadsSource, RemovesKey, empty_front, first_text, lf_if, source_bytes}
+use Rattle.properties_editing.specs.Private.PartBounds.{AreBounds}
 use Rattle.properties_editing.specs.Private.RemovedParts.{AreBelow, key_places}
 use Rattle.properties_editing.specs.Private.EditedParts.{StandForSource}
 use Rattle.properties_editing.specs.Private.Sound.{AreSoundFor}
@@ -174,6 +175,7 @@ source-read r read comments opened keys p h reads =
         turn = rw reads.1 (in-turn f d gs h.editable meets);
         stand = rw reads.1 reads.0.1;
         empty = reads.2;
+        bounds = rw reads.1 reads.4;
       },
       reads.0.2,
     )
@@ -183,9 +185,10 @@ pub source-removable : {r : Repertoire} {read now : List ℕ} {named : List ℕ 
     → StandForSource r read now named gs p
     → IsOrdered string_cmp p.parts.keys.places × AreTextsWithin (drop p.opened.start read) p.parts.parts.items
     × AreBelow (length p.parts.parts.items) (key_places p.parts key) × (p.empty ≡ empty_front p.parts.parts.items)
+    × AreBounds (drop p.opened.start read) p.bounds p.parts.parts.items
 source-removable {read = read} {named = named} {gs = gs} {p = p} key s =
     let asked = removable (drop p.opened.start read) named key gs p.parts s.stand in
-    (s.stand.placed.ordered, asked.0, asked.1, s.empty)
+    (s.stand.placed.ordered, asked.0, asked.1, s.empty, s.bounds)
 
 -- ---- what comes first
 
@@ -277,8 +280,8 @@ pub source-again : {r : Repertoire} {read now : List ℕ} {named : List ℕ → 
     → byte_order_mark r.encoding result ≡ record { encoding = (byte_order_mark r.encoding now).encoding; body = body } → new.opened ≡ old.opened
     → body ≡ lf_if new.guarded ++ groups_bytes left → AreInTurn (encoding_of old.opened.encoding) left
     → StandFor (drop old.opened.start read) named left new.parts → new.empty ≡ empty_front new.parts.parts.items
-    → StandForSource r read result named left new
-source-again {r = r} {read = read} {now = now} {old = old} result body s whole force opened body_is turn stand empty =
+    → AreBounds (drop old.opened.start read) new.bounds new.parts.parts.items → StandForSource r read result named left new
+source-again {r = r} {read = read} {now = now} {old = old} result body s whole force opened body_is turn stand empty bounds =
     let start = old.opened.start in
     let again_in : IsInForce result r old.opened = again result body s.in_force whole force in
     let front = bom-front s.in_force in
@@ -293,6 +296,7 @@ source-again {r = r} {read = read} {now = now} {old = old} result body s whole f
       turn = rw opened turn;
       stand = rw opened stand;
       empty = empty;
+      bounds = rw opened bounds;
     }
 
 -- ---- a key is removed
@@ -348,7 +352,7 @@ source-removed {r} {read} {now} {named} {gs} {old} key told new is s removes =
     let body_is : body ≡ lf_if new.guarded ++ groups_bytes left =
     ap (λ v. guarding_lf now v ++ v) rest_is ∙ guards now old.guarded (groups_bytes left)
     ∙ ap (λ b. lf_if (old.guarded || b) ++ groups_bytes left) (sym marked) ∙ ap (λ b. lf_if b ++ groups_bytes left) (sym removes.guarded) in (
-      source-again result body s whole force removes.opened body_is turn removed.0 removes.empty,
+      source-again result body s whole force removes.opened body_is turn removed.0 removes.empty removes.bounds,
       removed.1,
       removed.2,
     )

@@ -204,7 +204,7 @@ module _ {r : Repertoire} {read now : List ℕ} {named : List ℕ → Bool} {gs 
         parts = record {
           groups = gs;
           stand = source-edited (set_value key value) result valued_body gs old.parts s edited refl (subst (AreSlotsIn r.encoding result) same (slots-valued cs plan))
-              (λ q. some-between (before s key place own) own.group back (sym (division s key place own) ∙ q)) s.stand (sym s.empty);
+              (λ q. some-between (before s key place own) own.group back (sym (division s key place own) ∙ q)) s.stand (sym s.empty) s.bounds;
           sound = sound;
         };
       }

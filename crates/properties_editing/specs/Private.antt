@@ -3,6 +3,7 @@ pub mod BodyValues
 pub mod BodyParts
 pub mod ChangedParts
 pub mod PartEndings
+pub mod PartBounds
 pub mod BodyDocuments
 pub mod RemovedParts
 pub mod SourceParts

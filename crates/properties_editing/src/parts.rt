@@ -50,12 +50,19 @@ pub struct Part {
 /// The parts that are pairs with a key.
 #[derive(Drop)]
 pub struct KeyPlaces {
-    /// The place of the last one, if there is one.
-    pub last: Option<usize>,
-    /// The places of those before it, in order.
-    pub earlier: Vec<usize>,
+    /// Their places, if there are such parts.
+    pub places: Option<Places>,
     /// The value of the last one, if every key is named.
     pub value: String,
+}
+
+/// The places of parts, of which there is one at least.
+#[derive(Drop)]
+pub struct Places {
+    /// The last one. A key with one pair takes no memory for others.
+    pub last: usize,
+    /// Those before it, in order.
+    pub earlier: Vec<usize>,
 }
 
 /// The keys whose pairs have parts of their own.
@@ -78,6 +85,17 @@ pub struct Parts {
     pub keys: NamedKeys,
     /// What separates a new pair from the last group.
     pub closing: Closing,
+}
+
+/// Places that say which parts edits needn't look at. They spare that many edits each pass over the same parts.
+#[derive(Clone, Copy)]
+pub struct Bounds {
+    /// No part from here on begins with an LF.
+    pub feeds: usize,
+    /// No part from here up to `end` has a pair.
+    pub pairs: usize,
+    /// Where these parts end. Those behind were added.
+    pub end: usize,
 }
 
 // Returns the bytes of a part's text.

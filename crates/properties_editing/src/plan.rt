@@ -218,7 +218,7 @@ fn add_value(
     ensures all { edited.new.parts.keys.all ≡ edited.old.parts.keys.all }
 {
     let body = &source[edited.opened.start..];
-    let last = edited.parts.last_pair(body);
+    let last = edited.parts.last_pair(body, edited.pairs_end());
     let separator = separator_of(alloc, edited.opened.encoding, last, key)?;
     let first = edited.is_first(edited.parts.parts.len());
     let mut line = LineBuffer::new(alloc);

@@ -35,6 +35,7 @@ use Rattle.properties_editing.specs.declared.parts.PartText.TheVariants as text
 use Rattle.properties_editing.specs.declared.parts.PartKind.TheVariants as kind
 use Rattle.properties_editing.specs.declared.parts.Part.{Part}
 use Rattle.properties_editing.specs.declared.parts.KeyPlaces.{KeyPlaces}
+use Rattle.properties_editing.specs.declared.parts.Places.{Places}
 use Rattle.properties_editing.specs.declared.parts.NamedKeys.{NamedKeys}
 use Rattle.properties_editing.specs.declared.parts.Parts.{Parts}
 use Rattle.properties_editing.specs.declared.parts.read.Gap.{Gap}
@@ -133,12 +134,15 @@ abbrev pub stored_of : {Y : Type 0} → List (String Y × KeyPlaces) → List �
 stored_of entries key = lookup (λ k. bytes_eq key (characters k)) entries
 
 -- the places of the pairs with a key
-abbrev pub last_in : Option ℕ → List ℕ
-last_in None = []
-last_in (Some place) = place ∷ []
+abbrev pub all_places : Places → List ℕ
+all_places p = p.earlier.items ++ p.last ∷ []
+
+abbrev pub listed : Option Places → List ℕ
+listed None = []
+listed (Some p) = all_places p
 
 abbrev pub places_in : KeyPlaces → List ℕ
-places_in p = p.earlier.items ++ last_in p.last
+places_in p = listed p.places
 
 abbrev pub places_of : Option KeyPlaces → List ℕ
 places_of None = []

@@ -34,7 +34,7 @@ abbrev pub with_bytes : Vec ℕ → Part → Part
 with_bytes bytes p = record { text = text.Own bytes; ending = p.ending; kind = p.kind }
 
 abbrev pub with_value : String Global → KeyPlaces → KeyPlaces
-with_value value p = record { last = p.last; earlier = p.earlier; value = value }
+with_value value p = record { places = p.places; value = value }
 
 -- what separates a new pair from the last group, after a part that ends so got the bytes of a closed group: the last
 -- group is the one without a line ending

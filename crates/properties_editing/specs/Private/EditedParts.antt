@@ -10,6 +10,7 @@ use Rattle.properties_text.specs.Encoding.{encoding_of}
 use Rattle.properties_format.specs.Edits.{Edit, IsEdited, put, remove, set_value}
 use Rattle.properties_editing.specs.Private.BodyParts.{StandFor, value_among}
 use Rattle.properties_editing.specs.Private.BodyValues.{IsGroupAlone}
+use Rattle.properties_editing.specs.Private.PartBounds.{AreBounds}
 use Rattle.properties_editing.specs.Private.SourceParts.{empty_front, lf_if}
 use Rattle.properties_editing.specs.Private.Sound.{AreSound}
 use Rattle.properties_editing.specs.Private.Sources.{IsInForce}
@@ -25,6 +26,7 @@ pub record StandForSource (r : Repertoire) (read now : List ℕ) (named : List �
   pub turn : AreInTurn (encoding_of p.opened.encoding) gs
   pub stand : StandFor (drop p.opened.start read) named gs p.parts
   pub empty : p.empty ≡ empty_front p.parts.parts.items
+  pub bounds : AreBounds (drop p.opened.start read) p.bounds p.parts.parts.items
 
 -- ---- edits
 

@@ -5,6 +5,7 @@ use Rattle.properties_format.specs.Encoding.{begins_like_bom}
 use Rattle.properties_text.specs.Encoding.{encoding_of}
 use Rattle.properties_items.specs.declared.error.PropertiesError.{PropertiesError}
 use Rattle.properties_editing.specs.Private.BodyParts.{ReadsParts, is_empty_part, parts_bytes, text_bytes}
+use Rattle.properties_editing.specs.Private.PartBounds.{AreBounds}
 use Rattle.properties_editing.specs.Private.RemovedParts.{RemovesPairs}
 use Rattle.properties_editing.specs.declared.source.BodyStart.{BodyStart}
 use Rattle.properties_editing.specs.declared.source.Comments.{Comments}
@@ -31,11 +32,13 @@ abbrev pub source_bytes : List ℕ → SourceParts → List ℕ
 source_bytes read source =
     let start = source.opened.start in take start read ++ (lf_if source.guarded ++ parts_bytes (drop start read) source.parts.parts.items)
 
--- A source was read into parts, of which those at the front that are empty were counted; or an error says why not.
+-- A source was read into parts, of which those at the front that are empty were counted, and its bounds are right; or
+-- an error says why not.
 abbrev pub ReadsSource : Comments → BodyStart → List ℕ → NamedKeys → Result SourceParts PropertiesError → Type 0
 ReadsSource comments opened d keys (Ok source) =
     ReadsParts comments (encoding_of opened.encoding) d keys (Ok source.parts)
     × (source.opened ≡ opened) × (source.empty ≡ empty_front source.parts.parts.items) × (source.guarded ≡ false)
+    × AreBounds d source.bounds source.parts.parts.items
 ReadsSource comments opened d keys (Err error) = ReadsParts comments (encoding_of opened.encoding) d keys (Err error)
 
 -- The empty parts at the front were counted. An LF comes first if one did, or if the source has no mark and the rest
@@ -45,6 +48,7 @@ pub record GuardsParts (d : List ℕ) (old new : SourceParts) : Type 0 where
   pub parts : new.parts ≡ old.parts
   pub empty : new.empty ≡ empty_front old.parts.parts.items
   pub guarded : new.guarded ≡ (old.guarded || (old.opened.start == 0) && begins_like_bom (first_text d old.parts.parts.items))
+  pub bounds : new.bounds ≡ old.bounds
 
 -- The pairs with a key went, if there were any.
 pub record RemovesKey (d : List ℕ) (key : List ℕ) (old : SourceParts) (told : Bool) (new : SourceParts) : Type 0 where
@@ -52,3 +56,4 @@ pub record RemovesKey (d : List ℕ) (key : List ℕ) (old : SourceParts) (told 
   pub opened : new.opened ≡ old.opened
   pub empty : new.empty ≡ empty_front new.parts.parts.items
   pub guarded : new.guarded ≡ (old.guarded || (old.opened.start == 0) && begins_like_bom (first_text d new.parts.parts.items))
+  pub bounds : AreBounds d new.bounds new.parts.parts.items

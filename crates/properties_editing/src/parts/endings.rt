@@ -4,6 +4,7 @@ ghost use Rattle.std.specs.Prelude.{◌≡◌, false, ◌≤◌, ◌++◌, ◌�
 ghost use Rattle.std.specs.Option.{option_map};
 ghost use Rattle.properties_format.specs.Text.{is_empty, line_ending_text, line_feed};
 ghost use Rattle.properties_editing.specs.Private.BodyParts.{AreTextsWithin, IsTextWithin, bytes_in, part_bytes, parts_bytes};
+ghost use Rattle.properties_editing.specs.Private.PartBounds.{AreBehindPairs};
 ghost use Rattle.properties_editing.specs.Private.PartEndings.{ArePartsWithin, FindsEnding, IsEndingIn, IsPartWithin, cr_end, last_some, part_cr_end, part_pair};
 ghost use Rattle.properties_editing.specs.Private.BodyValues.{IsLastEnding};
 ghost use Rattle.properties_format.specs.Computed.Lines.{ends_in_cr};
@@ -24,13 +25,14 @@ pub struct FoundEnding {
 }
 
 impl Parts {
-    /// Returns the last pair, whatever its key.
+    /// Returns the last pair, whatever its key. No part from `end` on has one.
     #[tactic(auto, using(crate::proofs::PartEndings::part_within))]
-    pub fn last_pair<'a>(&'a self, body: &'a [u8]) -> Option<&'a [u8]>
-        requires { ArePartsWithin body.now self.now.parts.items }
+    pub fn last_pair<'a>(&'a self, body: &'a [u8], end: usize) -> Option<&'a [u8]>
+        requires within { ArePartsWithin body.now self.now.parts.items }
+        requires end { AreBehindPairs end self.now.parts.items }
         ensures { option_map (λ pair. pair.now) result ≡ last_some (part_pair body.now) self.now.parts.items }
     {
-        let mut place = self.parts.len();
+        let mut place = end;
         while place > 0 {
             place -= 1;
             if let Some(pair) = last_pair_of(body, &self.parts[place]) {

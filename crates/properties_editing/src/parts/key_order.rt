@@ -43,9 +43,12 @@ impl KeyPlaces {
     fn first_place(&self) -> Option<usize>
         ensures { result ≡ slice_get (places_in self.now) 0 }
     {
-        match self.earlier.first() {
-            Some(place) => Some(*place),
-            None => self.last,
+        match &self.places {
+            Some(places) => match places.earlier.first() {
+                Some(place) => Some(*place),
+                None => Some(places.last),
+            },
+            None => None,
         }
     }
 }

@@ -4,45 +4,42 @@ ghost use Rattle.std.specs.Prelude.{◌≡◌, ℕ, List, ◌^◌, ◌%◌, fals
 ghost use Rattle.std.specs.BTreeMap.{IsOrdered};
 ghost use Rattle.std.specs.String.{string_cmp};
 ghost use Rattle.std.specs.Str.{chars};
-ghost use Rattle.properties_format.specs.Text.{is_empty};
 ghost use Rattle.properties_editing.specs.Private.BodyParts.{AddsPlace, AreMasked, AreUnplaced, HasPlaceAdded, NamesKey, MayHave, is_named, places_in};
 ghost use Rattle.properties_editing.specs.Private.ChangedParts.{AreKept, HasValue, key_place, last_place};
 
-use super::{KeyPlaces, NamedKeys};
+use super::{KeyPlaces, NamedKeys, Places};
 use std::alloc::{AllocError, Global};
 use std::collections::BTreeMap;
 use std::collections::btree_map::Entry;
 
 impl KeyPlaces {
     // Adds a place behind the others.
-    fn add(&mut self, place: usize) -> Result<(), AllocError>
+    fn add(&mut self, alloc: Global, place: usize) -> Result<(), AllocError>
         ensures places { OnOk result (places_in self.new ≡ places_in self.old ++ place ∷ []) }
-        ensures first { self.old.last ≡ None → IsOk result }
+        ensures first { self.old.places ≡ None → IsOk result }
         ensures value { self.new.value ≡ self.old.value }
     {
-        if let Some(last) = self.last {
-            self.earlier.push(last)?;
+        if let Some(places) = &mut self.places {
+            places.earlier.push(places.last)?;
+            places.last = place;
+            return Ok(());
         }
-        self.last = Some(place);
+        self.places = Some(Places {
+            last: place,
+            earlier: Vec::new(alloc),
+        });
         Ok(())
     }
 
     /// Returns the place of the last pair.
-    #[tactic(auto, using(crate::proofs::PartsFound::last_pushed, crate::proofs::PartsFound::last_is, crate::proofs::PartsFound::no_more))]
+    #[tactic(auto, using(crate::proofs::PartsFound::last_pushed))]
     pub fn last_place(&self) -> Option<usize>
         ensures { result ≡ last_place (places_in self.now) }
     {
-        match self.last {
-            Some(last) => Some(last),
-            None => self.earlier.last().copied(),
+        match &self.places {
+            Some(places) => Some(places.last),
+            None => None,
         }
-    }
-
-    /// Returns whether no pair has the key.
-    pub fn is_empty(&self) -> bool
-        ensures { result ≡ is_empty (places_in self.now) }
-    {
-        self.last.is_none() && self.earlier.is_empty()
     }
 }
 
@@ -75,8 +72,7 @@ impl NamedKeys {
         ensures { OnOk result (NamesKey (chars key.now) self.old self.new) }
     {
         let places = KeyPlaces {
-            last: None,
-            earlier: Vec::new(alloc),
+            places: None,
             value: String::new(alloc),
         };
         self.places.insert(String::from_str(alloc, key)?, places)?;
@@ -115,7 +111,7 @@ impl NamedKeys {
         let Some(places) = self.places.get_mut(key) else {
             return Ok(false);
         };
-        places.add(place)?;
+        places.add(alloc, place)?;
         Ok(true)
     }
 
@@ -136,13 +132,15 @@ impl NamedKeys {
         match self.places.entry(key)? {
             Entry::Occupied(entry) => {
                 let places = entry.into_mut();
-                places.add(place)?;
+                places.add(alloc, place)?;
                 places.value = value;
             }
             Entry::Vacant(entry) => {
                 entry.insert(KeyPlaces {
-                    last: Some(place),
-                    earlier: Vec::new(alloc),
+                    places: Some(Places {
+                        last: place,
+                        earlier: Vec::new(alloc),
+                    }),
                     value,
                 });
             }

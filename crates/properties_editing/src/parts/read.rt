@@ -122,7 +122,7 @@ impl Parts {
             return Ok(gap.with_group(group.start, None));
         }
         // Most keys have another length than those that are named, and most lines no backslash. These need no look-up.
-        if !has_backslash(line.as_bytes()) {
+        if !self.keys.all && !has_backslash(line.as_bytes()) {
             let Some(size) = plain_key_size(line) else {
                 return Ok(gap.with_group(group.start, None));
             };

@@ -4,30 +4,32 @@ ghost use Rattle.std.specs.Prelude.{◌≡◌, false, ◌≤◌, ◌<◌, ◌++�
 ghost use Rattle.std.specs.BTreeMap.{IsOrdered};
 ghost use Rattle.std.specs.String.{string_cmp};
 ghost use Rattle.std.specs.Str.{chars};
-ghost use Rattle.properties_format.specs.Text.{is_empty};
-ghost use Rattle.properties_editing.specs.Private.BodyParts.{AreTextsWithin, IsTextWithin, taken_out, taken_all, without_lf, without_lf_first, places_in};
+ghost use Rattle.properties_editing.specs.Private.BodyParts.{AreTextsWithin, IsTextWithin, taken_out, taken_all, without_lf, without_lf_first, all_places};
+ghost use Rattle.properties_editing.specs.Private.PartBounds.{ArePlainFrom};
 ghost use Rattle.properties_editing.specs.Private.RemovedParts.{AreBelow, RemovesPairs, key_places, without_empty_end};
 
-use super::{KeyPlaces, Part, PartKind, PartText, Parts, is_empty};
+use super::{Part, PartKind, PartText, Parts, Places, is_empty};
 use crate::bytes::BodySpan;
 use crate::groups::Closing;
 use properties_items::line::LineEnding;
 
 impl Parts {
-    /// Removes the pairs with a key, and returns whether there were any. Allocates nothing.
-    pub fn remove(&mut self, body: &[u8], key: &str) -> bool
+    /// Removes the pairs with a key, and returns whether there were any. No part from `feeds` on begins with an LF.
+    /// Allocates nothing.
+    pub fn remove(&mut self, body: &[u8], key: &str, feeds: usize) -> bool
         requires ordered { IsOrdered string_cmp self.old.keys.places }
         requires within { AreTextsWithin body.now self.old.parts.items }
         requires places { AreBelow (length self.old.parts.items) (key_places self.old (chars key.now)) }
+        requires plain { ArePlainFrom body.now feeds self.old.parts.items }
         ensures { RemovesPairs body.now (chars key.now) self.old result self.new }
     {
-        let Some(places) = self.keys.places.remove(key) else {
+        let Some(stored) = self.keys.places.remove(key) else {
             return false;
         };
-        if places.is_empty() {
+        let Some(places) = &stored.places else {
             return false;
-        }
-        take_all_out(body, &mut self.parts, &places);
+        };
+        take_all_out(body, &mut self.parts, places, feeds);
         let size = self.parts.len();
         drop_empty_end(&mut self.parts);
         if self.parts.len() < size {
@@ -39,17 +41,16 @@ impl Parts {
 }
 
 // Removes the parts in these places, one after another.
-fn take_all_out(body: &[u8], parts: &mut Vec<Part>, places: &KeyPlaces)
+fn take_all_out(body: &[u8], parts: &mut Vec<Part>, places: &Places, feeds: usize)
     requires within { AreTextsWithin body.now parts.old.items }
-    requires places { AreBelow (length parts.old.items) (places_in places.now) }
-    ensures { parts.new.items ≡ taken_all body.now (places_in places.now) parts.old.items }
+    requires places { AreBelow (length parts.old.items) (all_places places.now) }
+    requires plain { ArePlainFrom body.now feeds parts.old.items }
+    ensures { parts.new.items ≡ taken_all body.now (all_places places.now) parts.old.items }
 {
     for place in &places.earlier {
-        take_out(body, parts, *place);
+        take_out(body, parts, *place, feeds);
     }
-    if let Some(last) = places.last {
-        take_out(body, parts, last);
-    }
+    take_out(body, parts, places.last, feeds);
 }
 
 // Drops the empty parts at the end, so that a key that is added and removed again leaves none.
@@ -66,13 +67,14 @@ fn drop_empty_end(parts: &mut Vec<Part>)
 
 // Removes the part in this place, with its line ending, and an LF behind it if that belongs to the line ending.
 #[tactic(auto, using(crate::proofs::PartLists::set_behind, crate::proofs::PartLists::set_alone))]
-fn take_out(body: &[u8], parts: &mut Vec<Part>, place: usize)
+fn take_out(body: &[u8], parts: &mut Vec<Part>, place: usize, feeds: usize)
     requires within { AreTextsWithin body.now parts.old.items }
     requires place { place < length parts.old.items }
+    requires plain { ArePlainFrom body.now feeds parts.old.items }
     ensures { parts.new.items ≡ taken_out body.now place parts.old.items }
 {
     if let Some(LineEnding::CR) = parts[place].ending {
-        drop_line_feed(body, parts, place + 1);
+        drop_line_feed(body, parts, place + 1, feeds);
     }
     parts[place] = Part {
         text: PartText::Span(BodySpan { start: 0, end: 0 }),
@@ -83,16 +85,18 @@ fn take_out(body: &[u8], parts: &mut Vec<Part>, place: usize)
 
 // Removes an LF that comes first in the parts from this place on: it is part of a CR LF.
 #[tactic(auto, using(crate::proofs::PartLists::within_at, crate::proofs::PartLists::first_cut, crate::proofs::PartLists::empty_passed))]
-fn drop_line_feed(body: &[u8], parts: &mut Vec<Part>, from: usize)
+fn drop_line_feed(body: &[u8], parts: &mut Vec<Part>, from: usize, feeds: usize)
     requires within { AreTextsWithin body.now parts.old.items }
     requires from { from ≤ length parts.old.items }
+    requires plain { ArePlainFrom body.now feeds parts.old.items }
     ensures { parts.new.items ≡ take from parts.old.items ++ without_lf_first body.now (drop from parts.old.items) }
 {
+    let end = feeds.min(parts.len());
     let mut place = from;
-    while place < parts.len() && is_empty(&parts[place]) {
+    while place < end && is_empty(&parts[place]) {
         place += 1;
     }
-    if place < parts.len() {
+    if place < end {
         drop_first(body, &mut parts[place]);
     }
 }

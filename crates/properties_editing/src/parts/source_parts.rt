@@ -1,6 +1,6 @@
 // A source in parts: its byte order mark, and its body.
 
-ghost use Rattle.std.specs.Prelude.{◌≡◌, ◌≤◌, ◌++◌, ◌==◌, ◌&&◌, ◌||◌, drop, length, min, nat_le, not, take, IfOk, OnOk};
+ghost use Rattle.std.specs.Prelude.{◌≡◌, ◌≤◌, ◌++◌, ◌==◌, ◌&&◌, ◌||◌, true, false, drop, length, min, nat_le, not, take, IfOk, OnOk};
 ghost use Rattle.std.specs.BTreeMap.{IsOrdered};
 ghost use Rattle.std.specs.String.{string_cmp};
 ghost use Rattle.std.specs.Str.{chars};
@@ -8,10 +8,11 @@ ghost use Rattle.properties_format.specs.Encoding.{begins_like_bom};
 ghost use Rattle.properties_text.specs.Encoding.{encoding_of};
 ghost use Rattle.properties_lines.specs.LineSearch.{unit_size};
 ghost use Rattle.properties_editing.specs.Private.BodyParts.{AreTextsWithin, AreUnplaced, IsTextWithin, part_bytes, parts_bytes, text_bytes};
+ghost use Rattle.properties_editing.specs.Private.PartBounds.{AreBehindPairs, AreBounds, ArePairBounds, ArePlainFrom, HasNoPair, HaveNoPair, IsPlain};
 ghost use Rattle.properties_editing.specs.Private.RemovedParts.{AreBelow, key_places};
 ghost use Rattle.properties_editing.specs.Private.SourceParts.{GuardsParts, ReadsSource, RemovesKey, empty_front, first_text, source_bytes};
 
-use super::{NamedKeys, Part, Parts, bytes_of, is_empty};
+use super::{Bounds, NamedKeys, Part, PartKind, PartText, Parts, bytes_of, is_empty};
 use crate::source::{BodyStart, Comments};
 use properties_items::error::PropertiesError;
 use properties_items::line::ending_text;
@@ -30,6 +31,8 @@ pub struct SourceParts {
     pub empty: usize,
     /// Whether an LF comes first, so that the rest isn't taken for a byte order mark.
     pub guarded: bool,
+    /// Parts that edits needn't look at.
+    pub bounds: Bounds,
 }
 
 impl SourceParts {
@@ -47,11 +50,17 @@ impl SourceParts {
     {
         let parts = Parts::read(alloc, opened.encoding, comments, body, keys)?;
         let empty = first_some(&parts.parts, 0);
+        let size = parts.parts.len();
         Ok(SourceParts {
             opened,
             parts,
             empty,
             guarded: false,
+            bounds: Bounds {
+                feeds: size,
+                pairs: size,
+                end: size,
+            },
         })
     }
 
@@ -68,11 +77,26 @@ impl SourceParts {
         requires within { AreTextsWithin body.now self.old.parts.parts.items }
         requires places { AreBelow (length self.old.parts.parts.items) (key_places self.old.parts (chars key.now)) }
         requires front { self.old.empty ≡ empty_front self.old.parts.parts.items }
+        requires bounds { AreBounds body.now self.old.bounds self.old.parts.parts.items }
         ensures { RemovesKey body.now (chars key.now) self.old result self.new }
     {
-        let told = self.parts.remove(body, key);
+        self.bounds.feeds = feeds_end(body, &self.parts.parts, self.bounds.feeds);
+        let told = self.parts.remove(body, key, self.bounds.feeds);
+        self.bounds = narrowed(&self.parts.parts, self.bounds);
         self.guard_front(body);
         told
+    }
+
+    /// Returns a place behind the last pair. No part from there on has one.
+    pub fn pairs_end(&self) -> usize
+        requires { ArePairBounds self.now.bounds self.now.parts.parts.items }
+        ensures { AreBehindPairs result self.now.parts.parts.items }
+    {
+        if self.bounds.end == self.parts.parts.len() {
+            self.bounds.pairs
+        } else {
+            self.parts.parts.len()
+        }
     }
 
     // Counts the empty parts at the front, and puts an LF first if the rest would be taken for a byte order mark.
@@ -132,6 +156,59 @@ fn first_some(parts: &Vec<Part>, from: usize) -> usize
         place += 1;
     }
     place
+}
+
+// Returns a place from which on no part begins with an LF, as none does from `end` on.
+#[tactic(auto, using(crate::proofs::PartLists::within_at))]
+fn feeds_end(body: &[u8], parts: &Vec<Part>, end: usize) -> usize
+    requires within { AreTextsWithin body.now parts.now.items }
+    requires plain { ArePlainFrom body.now end parts.now.items }
+    ensures { ArePlainFrom body.now result parts.now.items }
+{
+    let mut place = end.min(parts.len());
+    while place > 0 && !begins_with_line_feed(body, &parts[place - 1]) {
+        place -= 1;
+    }
+    place
+}
+
+// Returns whether a part begins with an LF that could go.
+fn begins_with_line_feed(body: &[u8], part: &Part) -> bool
+    requires { IsTextWithin body.now part.now.text }
+    ensures { result ≡ false → IsPlain body.now part.now }
+{
+    match &part.text {
+        PartText::Span(span) => span.start < span.end && body[span.start] == b'\n',
+        PartText::Own(_) => false,
+    }
+}
+
+// Returns the bounds of parts that others became, some of which went.
+fn narrowed(parts: &Vec<Part>, old: Bounds) -> Bounds
+    requires { HaveNoPair old.pairs old.end parts.now.items }
+    ensures feeds { result.feeds ≡ old.feeds }
+    ensures pairs { ArePairBounds result parts.now.items }
+{
+    let end = old.end.min(parts.len());
+    let mut pairs = old.pairs.min(end);
+    while pairs > 0 && has_no_pair(&parts[pairs - 1]) {
+        pairs -= 1;
+    }
+    Bounds {
+        feeds: old.feeds,
+        pairs,
+        end,
+    }
+}
+
+// Returns whether a part has no pair.
+fn has_no_pair(part: &Part) -> bool
+    ensures { result ≡ true → HasNoPair part.now }
+{
+    match part.kind {
+        PartKind::Others(None) => true,
+        PartKind::Pair | PartKind::Others(Some(_)) => false,
+    }
 }
 
 // Returns whether the parts would be taken for a byte order mark. `first` is the place of the first that isn't empty.

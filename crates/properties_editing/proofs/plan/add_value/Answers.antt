@@ -14,8 +14,11 @@ use Rattle.properties_editing.proofs.LastParts.{source-last}
 use Rattle.properties_editing.proofs.SourceParts.{source-removable}
 use Rattle.properties_editing.proofs.plan.add_value.Goals as goal
 
-pub last_pair-last-requires : goal.last_pair-last-requires
-last_pair-last-requires c = rw (take_rest c.args.source.now c.args.edited.now.opened.start) (source-last c.requires.parts.parts.stand).0
+pub pairs_end-requires : goal.pairs_end-requires
+pairs_end-requires c = c.requires.parts.parts.stand.bounds.1
+
+pub last_pair-last-requires-clause-within : goal.last_pair-last-requires-clause-within
+last_pair-last-requires-clause-within c = rw (take_rest c.args.source.now c.args.edited.now.opened.start) (source-last c.requires.parts.parts.stand).0
 
 pub separator_of-requires-clause-unit : goal.separator_of-requires-clause-unit
 separator_of-requires-clause-unit c = editable-unit _ c.requires.parts.parts.stand.in_force.editable

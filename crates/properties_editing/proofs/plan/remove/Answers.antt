@@ -20,6 +20,9 @@ remove-requires-clause-places c = (source-removable (chars c.args.key.now) c.req
 pub remove-requires-clause-front : goal.remove-requires-clause-front
 remove-requires-clause-front c = c.requires.parts.stand.empty
 
+pub remove-requires-clause-bounds : goal.remove-requires-clause-bounds
+remove-requires-clause-bounds c = rw (take_rest c.args.source.now c.args.edited.now.opened.start) c.requires.parts.stand.bounds
+
 pub returns-clause-parts : goal.returns-clause-parts
 returns-clause-parts c = λ r now named is p.
     let key = chars c.args.key.now in

@@ -21,7 +21,7 @@ returns-in_ok-add-in-Occupied-clause-added c =
     let utf8 = IsUtf8-string_bytes key in
     let same : string_bytes key ≡ c.args.key.now = c.in_ok-key.ensures.ok in
     let said : string_bytes c.in_ok-value.value ≡ c.args.value.now = c.in_ok-value.ensures.ok in
-    let next : KeyPlaces = record { last = c.add.new.self.last; earlier = c.add.new.self.earlier; value = c.in_ok-value.value } in
+    let next : KeyPlaces = record { places = c.add.new.self.places; value = c.in_ok-value.value } in
     let put = rw c.in-Occupied.is at c.in_ok-entry.ensures.update in
     let made = c.self-in-Occupied-2-1.given.1 (sym (rw c.in-Occupied.is at c.in_ok-entry.ensures.same_map)) in
     let found = at_chars-sorted old.places (string_bytes key) utf8 ∙ sym c.in_ok-entry.ensures.value

@@ -1,5 +1,6 @@
 use Rattle.std.proofs.Common.{◌<◌, ◌-◌, Some, None, length, ap, sym, subst, ◌∙◌, arith}
 use Rattle.properties_editing.specs.Private.PartEndings.{IsPartWithin, part_pair}
+use Rattle.properties_editing.proofs.PartBounds.{none-behind}
 use Rattle.properties_editing.proofs.PartEndings.{part_within, step-back}
 use Rattle.properties_editing.proofs.parts.Parts.last_pair.Goals as goal
 
@@ -7,7 +8,10 @@ pub last_pair_of-requires : goal.last_pair_of-requires
 last_pair_of-requires c =
     let ps = c.args.self.now.parts.items in
     let inside : c.loop-place.place - 1 < length ps = let inv = c.loop-place.invariant in omega arith in
-    subst (IsPartWithin c.args.body.now) (sym c.index.ensures) (part_within c.args.body.now ps (c.loop-place.place - 1) c.index.result.now c.requires inside)
+    subst (IsPartWithin c.args.body.now) (sym c.index.ensures) (part_within c.args.body.now ps (c.loop-place.place - 1) c.index.result.now c.requires.within inside)
+
+pub loop-place-init : goal.loop-place-init
+loop-place-init c = (c.requires.end.0, none-behind c.args.body.now c.args.end c.args.self.now.parts.items c.requires.end.1)
 
 pub returns-in-Some : goal.returns-in-Some
 returns-in-Some c =

@@ -3,10 +3,10 @@ use Rattle.std.specs.Prelude.{None, nat_lt, if◌then◌else◌}
 use Rattle.std.specs.Str.{chars}
 use Rattle.std.proofs.lemmas.Bool.{le-ltb, lt-ltb}
 use Rattle.properties_items.proofs.TextMaps.Values.{at_chars-sorted, at_chars-updated}
-use Rattle.properties_editing.specs.Private.BodyParts.{places_of, taken_all}
+use Rattle.properties_editing.specs.Private.BodyParts.{listed, places_of, taken_all}
 use Rattle.properties_editing.specs.Private.RemovedParts.{AreBelow, ForgetsKey, key_places, without_empty_end}
 use Rattle.properties_editing.specs.declared.groups.Closing.TheVariants.{Nothing}
-use Rattle.properties_editing.proofs.PartsLeft.{are-none, are-some}
+use Rattle.properties_editing.proofs.PartsLeft.{have-places}
 use Rattle.properties_editing.proofs.parts.Parts.remove.Goals as goal
 use Rattle.properties_editing.proofs.parts.Parts.remove.Goals.{then-len-size, else-len-size}
 
@@ -23,8 +23,8 @@ returns-in_default c =
       record { none = ap places_of none; parts = refl; closing = refl },
     )
 
-pub returns-then-is_empty : goal.returns-then-is_empty
-returns-then-is_empty c =
+pub returns-in_default-places : goal.returns-in_default-places
+returns-in_default-places c =
     let old = c.args.self.now.keys.places in
     let key = c.args.key.now in
     let found = at_chars-sorted old key c.utf8.key ∙ sym c.in-Some.ensures.value in (
@@ -33,13 +33,13 @@ returns-then-is_empty c =
         all = refl;
         ordered = c.in-Some.ensures.ordered;
       },
-      record { none = ap places_of found ∙ are-none _ (sym c.is_empty.ensures ∙ c.if-is_empty.true); parts = refl; closing = refl },
+      record { none = ap places_of found ∙ ap listed c.in_default-places.is; parts = refl; closing = refl },
     )
 
 pub take_all_out-requires-clause-places : goal.take_all_out-requires-clause-places
 take_all_out-requires-clause-places c =
     let found = at_chars-sorted c.args.self.now.keys.places c.args.key.now c.utf8.key ∙ sym c.in-Some.ensures.value in
-    subst (AreBelow (length c.args.self.now.parts.items)) (ap places_of found) c.requires.places
+    subst (AreBelow (length c.args.self.now.parts.items)) (ap places_of found ∙ ap listed c.in-Some-places.is) c.requires.places
 
 pub returns : goal.returns
 returns c =
@@ -48,10 +48,10 @@ returns c =
     let key = c.args.key.now in
     let d = c.args.body.now in
     let found = at_chars-sorted old key c.utf8.key ∙ sym c.in-Some.ensures.value in
-    let places = ap places_of found in
+    let places = ap places_of found ∙ ap listed c.in-Some-places.is in
     let taken = c.take_all_out.ensures ∙ ap (λ v. taken_all d v was.parts.items) (sym places) in
     let items = c.drop_empty_end.ensures ∙ ap without_empty_end taken in
-    let some : key_places was (chars key) ≢ [] = λ none. are-some _ (sym c.is_empty.ensures ∙ c.if-is_empty.false) (sym places ∙ none) in
+    let some : key_places was (chars key) ≢ [] = λ none. have-places c.in-Some-places.places (sym places ∙ none) in
     let forgets : ForgetsKey (chars key) was.keys (record { all = was.keys.all; places = c.remove.new.self; lengths = was.keys.lengths }) = record {
       stored = at_chars-updated old c.remove.new.self key c.utf8.key None c.in-Some.ensures.updates;
       all = refl;

@@ -1,0 +1,35 @@
+-- Parts that edits needn't look at: they have no LF at their front that could go, or no pair.
+use Rattle.std.specs.Prelude.{◌≡◌, ◌≤◌, ◌<◌, ℕ, List, length, get_or, None}
+use Rattle.properties_editing.specs.declared.parts.PartKind.TheVariants as kind
+use Rattle.properties_editing.specs.declared.parts.Part.{Part}
+use Rattle.properties_editing.specs.declared.parts.Bounds.{Bounds}
+use Rattle.properties_editing.specs.Private.BodyParts.{no_part, without_lf}
+
+-- The part has no LF at its front that could go.
+abbrev pub IsPlain : List ℕ → Part → Type 0
+IsPlain d p = without_lf d p ≡ p
+
+-- No part from this place on has.
+abbrev pub ArePlainFrom : List ℕ → ℕ → List Part → Type 0
+ArePlainFrom d n ps = (i : ℕ) → n ≤ i → IsPlain d (get_or ps i no_part)
+
+-- The part has no pair.
+abbrev pub HasNoPair : Part → Type 0
+HasNoPair p = p.kind ≡ kind.Others None
+
+-- No part from one place up to another has.
+abbrev pub HaveNoPair : ℕ → ℕ → List Part → Type 0
+HaveNoPair n end ps = (i : ℕ) → n ≤ i → i < end → HasNoPair (get_or ps i no_part)
+
+-- No part from this place on has a pair.
+abbrev pub AreBehindPairs : ℕ → List Part → Type 0
+AreBehindPairs n ps = (n ≤ length ps) × HaveNoPair n (length ps) ps
+
+pub record ArePairBounds (b : Bounds) (ps : List Part) : Type 0 where
+  pub none : HaveNoPair b.pairs b.end ps
+  pub ordered : b.pairs ≤ b.end
+  pub within : b.end ≤ length ps
+
+-- The parts are as the bounds say.
+abbrev pub AreBounds : List ℕ → Bounds → List Part → Type 0
+AreBounds d b ps = ArePlainFrom d b.feeds ps × ArePairBounds b ps
