@@ -108,12 +108,12 @@ same-place : (start stop n : ℕ) → start ≤ stop → n ≡ stop - start → 
 same-place start stop n h k = grind (arith, nat_tests)
 
 -- How many bytes the line and its ending have.
-record HasSizes (body : List ℕ) (new : GroupReader) (ending : Option text.LineEnding) : Type 0 where
-  line : length (bytes_of body new.scanner.line) ≡ new.scanner.line.end - new.scanner.line.start
-  ending_size : length (ending_bytes ending) ≡ new.scanner.at - new.scanner.line.end
-  within : new.scanner.at ≤ length body
+pub record HasSizes (body : List ℕ) (new : GroupReader) (ending : Option text.LineEnding) : Type 0 where
+  pub line : length (bytes_of body new.scanner.line) ≡ new.scanner.line.end - new.scanner.line.start
+  pub ending_size : length (ending_bytes ending) ≡ new.scanner.at - new.scanner.line.end
+  pub within : new.scanner.at ≤ length body
 
-has-sizes : (body : List ℕ) (old new : GroupReader) (k : TakesLine body old new) → HasSizes body new k.ending
+pub has-sizes : (body : List ℕ) (old new : GroupReader) (k : TakesLine body old new) → HasSizes body new k.ending
 has-sizes body old new k =
     let ordered = k.ordered in
     let placed = k.placed in
@@ -150,7 +150,7 @@ not_left-closes true opened h = refl
 not_left-closes false true h = absurd (cc)
 not_left-closes false false h = refl
 
-joined-alone : (l : Line) → (not (is_comment_line l.text) && is_open l.text) ≡ false → joined (l ∷ []) ≡ l.text
+pub joined-alone : (l : Line) → (not (is_comment_line l.text) && is_open l.text) ≡ false → joined (l ∷ []) ≡ l.text
 joined-alone l h = elim (cases_Bool (is_comment_line l.text)) [
   | inl k ↦ joined-comment_line l [] k
   | inr k ↦ joined-closed l (rw k at h)

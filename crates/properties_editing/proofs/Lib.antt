@@ -2,6 +2,11 @@ pub mod PassedOver
 pub mod BodyGroups
 pub mod GroupsRead
 pub mod BodyValues
+pub mod BodyCuts
+pub mod CutMeanings
+pub mod CutOrder
+pub mod PlainGroups
+pub mod BodyViews
 pub mod NamedKeys
 pub mod NewPairs
 pub mod LastPairs

@@ -1,4 +1,6 @@
 pub mod BodyGroups
+pub mod BodyCuts
+pub mod BodyViews
 pub mod BodyValues
 pub mod BodyParts
 pub mod ChangedParts

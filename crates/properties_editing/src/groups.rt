@@ -4,7 +4,7 @@ ghost use Rattle.std.specs.Prelude.{◌≡◌, ℕ, List, false, IfOk};
 ghost use Rattle.properties_lines.specs.Private.HeldLines.{IsInBody};
 ghost use Rattle.properties_text.specs.Encoding.{encoding_of};
 ghost use Rattle.properties_lines.specs.LineSearch.{unit_size};
-ghost use Rattle.properties_lines.specs.LogicalLine.{TellsLine};
+ghost use Rattle.properties_lines.specs.LogicalLine.{TellsLine, is_natural};
 ghost use Rattle.properties_lines.specs.Scanner.{HasRightFlags};
 ghost use Rattle.properties_editing.specs.Private.BodyGroups.{closing_of, IsWithin, FindsLine, GivesGroup, IsBegun, JoinsGroup, IsFirstGroup, text_of, IsTextHeld};
 ghost use Rattle.properties_editing.specs.Private.BodyParts.{span_of_group};
@@ -106,6 +106,23 @@ impl GroupReader {
         }
     }
 
+    /// Starts where another reader was in this state.
+    pub fn from_state(alloc: Global, scanner: Scanner) -> GroupReader
+        ensures { result.scanner ≡ scanner }
+    {
+        GroupReader {
+            scanner,
+            line: LogicalLine::new(alloc),
+        }
+    }
+
+    /// Returns the state between two groups.
+    pub fn state(&self) -> Scanner
+        ensures { result ≡ self.now.scanner }
+    {
+        self.scanner
+    }
+
     /// Returns the logical line of the group that was returned last.
     pub fn line<'a>(&'a self, body: &'a [u8], group: Group) -> &'a str
         requires { IsTextHeld body.now self.now group }
@@ -114,11 +131,32 @@ impl GroupReader {
         self.line.as_str(&body[group.start..group.end])
     }
 
+    /// Returns whether the text of the group that was returned last is its bytes as they are.
+    pub fn is_borrowed(&self) -> bool
+        ensures { result ≡ is_natural self.now.line.place }
+    {
+        self.line.is_borrowed()
+    }
+
     /// Returns the position after the group that was returned last.
     pub fn place(&self) -> usize
         ensures { result ≡ self.now.scanner.at }
     {
         self.scanner.place()
+    }
+
+    /// Returns the number of the natural line that was found last, or 0.
+    pub fn number(&self) -> usize
+        ensures { result ≡ self.now.scanner.passed }
+    {
+        self.scanner.number()
+    }
+
+    /// Returns the encoding.
+    pub fn encoding(&self) -> Encoding
+        ensures { result ≡ self.now.scanner.encoding }
+    {
+        self.scanner.encoding()
     }
 
     /// Returns the next group, or `None` after the last one.
@@ -190,8 +228,8 @@ impl GroupReader {
     }
 }
 
-// Returns whether a line with these bytes is in windows-1252 or in well-formed UTF-8.
-fn is_line(encoding: Encoding, line: RawLine, bytes: &[u8]) -> bool
+/// Returns whether a line with these bytes is in windows-1252 or in well-formed UTF-8.
+pub fn is_line(encoding: Encoding, line: RawLine, bytes: &[u8]) -> bool
     requires { HasRightFlags (encoding_of encoding) bytes.now line }
     ensures { TellsLine (encoding_of encoding) bytes.now result }
 {

@@ -6,6 +6,7 @@
 #![tactic(auto)]
 
 mod bytes;
+mod cuts;
 mod document;
 mod edit;
 mod groups;
@@ -16,6 +17,7 @@ mod new_value;
 mod parts;
 mod plan;
 mod source;
+mod view;
 
 pub use document::Document;
 pub use edit::{Edit, edit_all, edit_with, remove_key, set_key, set_value};

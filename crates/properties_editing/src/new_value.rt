@@ -51,7 +51,7 @@ pub fn new_value(
     if has_value(alloc, line, separator, value)? {
         return Ok(None);
     }
-    let front_size = front_size(alloc, opened.encoding, pair, separator.end)?;
+    let front_size = front_size(alloc, opened.encoding, pair, &line[..separator.end])?;
     let mut bytes = LineBuffer::new(alloc);
     print_value_after(&mut bytes, opened, separator.cut(line), value)?;
     Ok(Some(NewValue { front_size, bytes }))

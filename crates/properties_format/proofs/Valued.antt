@@ -11,8 +11,5 @@ pub mod Marks
 pub mod Read
 pub mod Laws
 pub mod Unended
-pub mod Sizes
-pub mod Steps
-pub mod Walks
 pub mod InAscii
 pub mod Anew

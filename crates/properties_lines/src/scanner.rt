@@ -106,8 +106,19 @@ impl Scanner {
         ensures place { result.at ≡ 0 }
         ensures encoding { result.encoding ≡ encoding }
     {
+        Scanner::in_body_at(encoding, 0)
+    }
+
+    /// Starts at this position of an input in this encoding, which is after its byte order mark.
+    pub fn in_body_at(encoding: Encoding, place: usize) -> Scanner
+        ensures state { (held : List ℕ) → scanner_state result held ≡ record (start (encoding_of encoding)) { is_decided = true; held = drop place held } }
+        ensures fits { (held : List ℕ) → place ≤ length held → Fits result held }
+        ensures place { result.at ≡ place }
+        ensures encoding { result.encoding ≡ encoding }
+    {
         Scanner {
             front: Front::Nothing,
+            at: place,
             ..Scanner::new(encoding)
         }
     }

@@ -1,3 +1,4 @@
 pub mod First
 pub mod Escapes
 pub mod Searches
+pub mod FirstMalformed

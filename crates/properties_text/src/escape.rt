@@ -7,6 +7,7 @@ ghost use Rattle.memchr.specs.Find.{IsFirstByte, is_byte};
 ghost use Rattle.properties_format.specs.Text.{backslash};
 ghost use Rattle.properties_format.specs.Lines.{ending_backslashes};
 ghost use Rattle.properties_text.specs.declared.escape.UnescapeError.TheVariants.{Memory};
+ghost use Rattle.properties_text.specs.MalformedEscapes.{FindsMalformed};
 ghost use Rattle.properties_text.specs.Escaping.{IsWell, Checks, holds_backslash, is_borrowed_result, Unescapes, Appends, ResolvesFront};
 
 use crate::encoding::{LineEncoding, put_character};
@@ -153,6 +154,22 @@ pub fn check_escapes(encoding: LineEncoding, text: &[u8]) -> Result<(), Malforme
         rest = &escapes[escape.length..];
     }
     Ok(())
+}
+
+/// Returns the position of the first malformed escape of a well-formed text, and how it is malformed, if it has one.
+pub fn first_malformed(encoding: LineEncoding, text: &[u8]) -> Option<(usize, Malformed)>
+    requires { IsWell encoding text.now }
+    ensures { FindsMalformed encoding text.now result }
+{
+    let mut at = 0;
+    while let Some(next) = find_next(&text[at..]) {
+        at += next;
+        match read_escape(encoding, &text[at..]) {
+            Ok(escape) => at += escape.length,
+            Err(how) => return Some((at, how)),
+        }
+    }
+    None
 }
 
 // Appends part of a text. Between adjacent escapes it is empty.

@@ -1,8 +1,7 @@
 -- How the value of a key is set in a body that is held in memory: where the value of a pair begins, and how a new pair
 -- is laid out.
-use Rattle.std.specs.Prelude.{◌≡◌, ℕ, ◌-◌, ◌≤◌, Bool, true, false, if◌then◌else◌, List, [], ◌∷◌, ◌++◌, length, take, drop, Option, Some, None}
-use Rattle.std.specs.Global.{Vec}
-use Rattle.std.specs.Str.{chars, encode_utf8_all}
+use Rattle.std.specs.Prelude.{◌≡◌, ℕ, ◌≤◌, Bool, true, false, List, [], ◌∷◌, ◌++◌, length, take, drop, Option, Some, None}
+use Rattle.std.specs.Str.{chars}
 use Rattle.properties_format.specs.Text as text
 use Rattle.properties_format.specs.Encoding.{Encoding, Repertoire}
 use Rattle.properties_format.specs.Lines.{joined}
@@ -37,14 +36,14 @@ abbrev pub IsBetweenIn : List ℕ → Option Span → Type 0
 IsBetweenIn line None = between_if_pair (split_of (chars line)) (chars line) ≡ None
 IsBetweenIn line (Some span) = IsBetweenAt line span
 
--- The bytes are one group, and this many bytes come before the value in its logical line.
-pub record IsBeforeValue (e : Encoding) (bytes : List ℕ) (before : ℕ) : Type 0 where
+-- The bytes are one group, and this text comes before the value in its logical line.
+pub record IsBeforeValue (e : Encoding) (bytes before : List ℕ) : Type 0 where
   pub group : List HeldLine
   pub is_group : held_groups_of e bytes ≡ group ∷ []
   pub key : List ℕ
   pub value : List ℕ
   pub is_pair : IsPair (joined (as_lines group)) key value
-  pub size : length (encode_utf8_all (before_value (joined (as_lines group)))) ≡ before
+  pub text : before_value (joined (as_lines group)) ≡ before
 
 -- The bytes are one group, and its front has this size.
 pub record IsFrontSize (e : Encoding) (bytes : List ℕ) (size : ℕ) : Type 0 where

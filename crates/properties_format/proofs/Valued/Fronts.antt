@@ -175,17 +175,17 @@ IsSome true q = ¬ (AreBlanks q)
 IsSome false q = q ≢ []
 
 -- In a later line, the text without its indentation doesn't begin with a blank.
-indent-full : (first : Bool) (x q r : List ℕ) → first ≡ false → without_indent first x ≡ q ++ r → begins is_blank q ≡ false
+pub indent-full : (first : Bool) (x q r : List ℕ) → first ≡ false → without_indent first x ≡ q ++ r → begins is_blank q ≡ false
 indent-full true x q r f s = absurd (cc)
 indent-full false x q r f s = begins-front is_blank q r (ap (begins is_blank) (sym s) ∙ (without_leading_blanks-meets x).begins_full)
 
 -- Such a text is what is left of itself with blanks before it, without the indentation.
-indent-only : (first : Bool) (b q : List ℕ) → AreBlanks b → (first ≡ true → b ≡ []) → (first ≡ false → begins is_blank q ≡ false)
+pub indent-only : (first : Bool) (b q : List ℕ) → AreBlanks b → (first ≡ true → b ≡ []) → (first ≡ false → begins is_blank q ≡ false)
     → without_indent first (b ++ q) ≡ q
 indent-only first b q h k m = grind (arith, without_leading_blanks-only)
 
 -- The indentation of a first line doesn't count.
-indent-none : (first : Bool) (x : List ℕ) → first ≡ true → (indented first x).indent ≡ []
+pub indent-none : (first : Bool) (x : List ℕ) → first ≡ true → (indented first x).indent ≡ []
 unfolding indented
 indent-none true x f = refl
 indent-none false x f = absurd (cc)

@@ -1,6 +1,6 @@
 -- The parts of a logical line that an edit keeps when it sets a value: the front of a pair, and the separator and the
 -- sizes of a new one, computed from the first character.
-use Rattle.std.specs.Prelude.{ℕ, suc, ◌-◌, nat_le, nat_lt, Bool, true, false, if◌then◌else◌, List, [], ◌∷◌, ◌++◌, length, take, drop, Option, Some, None, bytes_eq}
+use Rattle.std.specs.Prelude.{ℕ, ◌-◌, nat_le, Bool, true, false, List, [], ◌∷◌, ◌++◌, length, take, drop, Option, Some, None, bytes_eq}
 use Rattle.properties_format.specs.Text.{equals_sign, without_leading_blanks, Piece}
 use Rattle.properties_format.specs.Encoding.{Encoding}
 use Rattle.properties_format.specs.Computed.Encoding.{pieces_of}
@@ -110,15 +110,3 @@ is_pair_to value outcome = false
 -- whether the group is a pair with the value
 abbrev pub has_value : List ℕ → List HeldLine → Bool
 has_value value group = is_pair_to value (outcome_of (joined (as_lines group)))
-
--- ---- sizes in bytes
-
--- the number of ASCII characters among these
-abbrev pub ascii_count : List ℕ → ℕ
-ascii_count [] = 0
-ascii_count (b ∷ d) = if nat_lt b 0x80 then suc (ascii_count d) else ascii_count d
-
--- the index after this many ASCII characters at the front
-abbrev pub after_ascii : ℕ → List ℕ → ℕ
-after_ascii (suc n) (b ∷ d) = if nat_lt b 0x80 then suc (after_ascii n d) else suc (after_ascii (suc n) d)
-after_ascii n d = 0

@@ -27,7 +27,7 @@ other-byte : (b : ℕ) → (b == backslash) ≡ false → (windows_1252_characte
 other-byte b h = ne_eqb (windows_1252_character b) backslash (λ is. eqb-false b backslash h (own-byte b backslash is (lit< tt)))
 
 -- Bytes without one are a text without one.
-no-backslash : (bs : List ℕ) → holds_backslash bs ≡ false → HoldsNoBackslash (characters_of bs)
+pub no-backslash : (bs : List ℕ) → holds_backslash bs ≡ false → HoldsNoBackslash (characters_of bs)
 no-backslash [] h = tt
 no-backslash (b ∷ bs) h = let p = or_parts (b == backslash) (holds_backslash bs) h in (other-byte b p.0, no-backslash bs p.1)
 

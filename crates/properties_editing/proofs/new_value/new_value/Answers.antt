@@ -1,3 +1,4 @@
+use Rattle.std.proofs.Common.{◌≡◌, ◌-◌, arith}
 use Rattle.std.specs.Str.{chars}
 use Rattle.properties_format.proofs.Edited.Pair.{editable-own}
 use Rattle.properties_text.specs.Encoding.{encoding_of}
@@ -7,7 +8,9 @@ use Rattle.properties_editing.proofs.new_value.new_value.Goals as goal
 
 pub front_size-requires-clause-before : goal.front_size-requires-clause-before
 front_size-requires-clause-before c =
-    before-value c.line-line.result.now c.in-Some.separator c.line-line.utf8 c.line-line.ensures c.in_ok-groups.ensures c.requires.alone c.in-Some.ensures
+    let all : c.in-Some.separator.end - 0 ≡ c.in-Some.separator.end = omega arith in
+    rw (c.range.ensures.value, all)
+    (before-value c.line-line.result.now c.in-Some.separator c.line-line.ensures c.in_ok-groups.ensures c.requires.alone c.in-Some.ensures)
 
 pub returns : goal.returns
 returns c =
