@@ -5,9 +5,10 @@
  *     puts(port.status == TODRENVAL_OK ? port.bytes : todrenval_reason(port.status, reason));
  *     free(port.bytes);
  *
- * docs/C.md has whole programs, and says how to build and link. The functions are written and proved in Rattle; only
- * what is `static inline` here is C. Each call has two forms: todrenval_get writes into memory of the caller, and
- * todrenval_get_new, which calls it, takes memory for the result by malloc. todrenval_status_text has the first alone.
+ * bindings/c/example.c is a program, and docs/C.md says how to build and link. The functions are written and proved in
+ * Rattle; only what is `static inline` here is C. Each call has two forms: todrenval_get writes into memory of the
+ * caller, and todrenval_get_new, which calls it, takes memory for the result by malloc. todrenval_status_text has the
+ * first alone.
  *
  * What every call into memory of the caller has in common:
  *
@@ -26,14 +27,14 @@
  * that is too little, the call is to be made again with the room that *length says; it then does all its work again. A
  * call with room for 0 bytes asks for the length.
  *
- * What the caller owes:
+ * The caller's obligations:
  *
  * - A pointer to no bytes may be null. Every other pointer is valid.
  * - `out` has `room` bytes, and they overlap no input, nor *length nor *line; those two are two variables.
  * - Nothing else changes the inputs or uses `out`, *length or *line during the call.
  * - A bool is true or false.
  *
- * Any bytes may be in the inputs: a source, a key or a list that is no good gives a status and does no harm.
+ * The inputs may be any bytes: an invalid source, key or list does no harm and returns an error status.
  *
  * Any thread may make any call at any time: there is no state, nothing to set up and nothing to free. A call takes
  * memory by malloc, and has freed it when it returns. Don't call from a signal handler.
@@ -94,8 +95,8 @@ enum todrenval_target {
     TODRENVAL_TO_ASCII = 18 /* reads the same in ISO 8859-1, windows-1252 and UTF-8 */
 };
 
-/* What a call does otherwise than without flags: 0, one of these, or several, as in TODRENVAL_ASCII_ONLY |
- * TODRENVAL_READABLE. A call that has no use for a flag refuses it, as it refuses flags that there are not. */
+/* Flags: 0, one of these, or several, as in TODRENVAL_ASCII_ONLY | TODRENVAL_READABLE. A call refuses a flag that it has
+ * no use for, and any other bit. */
 enum todrenval_flag {
     /* Each non-ASCII character that is put in is an escape: todrenval_set_value, _set_key, _edit, _write. */
     TODRENVAL_ASCII_ONLY = 1,

@@ -1204,19 +1204,24 @@ def try_examples(count):
     count.failed += failed
 
 
-def try_page(count):
-    """The programs of docs/C.md: that in C is the example, and that in Python prints what the page says."""
-    page = (TOP / "docs/C.md").read_text(encoding="utf-8")
-    blocks = dict(re.findall(r"^```(\S+)\n(.*?)^```$", page, re.MULTILINE | re.DOTALL))
-    count.check(blocks.get("c") == (TOP / "bindings/c/example.c").read_text(), "docs/C.md has another program in C")
+def try_pages(count):
+    """The functions of docs/C.md are those of the example, and the program of docs/PYTHON.md prints what the page says."""
+
+    def blocks(page):
+        text = (TOP / page).read_text(encoding="utf-8")
+        return dict(re.findall(r"^```(\S+)\n(.*?)^```$", text, re.MULTILINE | re.DOTALL))
+
+    shown, example = blocks("docs/C.md").get("c"), (TOP / "bindings/c/example.c").read_text()
+    count.check(bool(shown) and shown in example, "docs/C.md has other functions in C")
+    python = blocks("docs/PYTHON.md")
     printed, here = io.StringIO(), os.getcwd()
     with tempfile.TemporaryDirectory() as folder, contextlib.redirect_stdout(printed):
         os.chdir(folder)
         try:
-            exec(compile(blocks["python"], "docs/C.md", "exec"), {})
+            exec(compile(python["python"], "docs/PYTHON.md", "exec"), {})
         finally:
             os.chdir(here)
-    count.check(printed.getvalue() == blocks["stdout"], f"docs/C.md, in Python: {printed.getvalue()}")
+    count.check(printed.getvalue() == python["stdout"], f"docs/PYTHON.md: {printed.getvalue()}")
 
 
 def main():
@@ -1225,7 +1230,7 @@ def main():
     for test in (
         try_arguments, try_files, try_special_files, try_file_errors, try_documents, try_shared_documents, try_zeros, try_types,
         try_errors, try_lists, try_newer, try_room, try_findings, try_comments, try_short_files, try_round_trips, try_random,
-        try_conversions, try_threads, try_header, try_examples, try_page,
+        try_conversions, try_threads, try_header, try_examples, try_pages,
     ):
         try:
             test(count)
