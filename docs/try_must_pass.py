@@ -1,13 +1,14 @@
 #!/usr/bin/env python3
-"""Proves the harmless changes of crates/*/must-pass/, each of which stands beside the must-fail edit of its name.
+"""Proves the harmless changes of crates/*/must-pass.edits, each of which stands beside the must-fail edit of its name.
 
     docs/try_must_pass.py [CRATE ..]
 
 An edit that the prover refuses says something of a contract only if it accepts a harmless change in the same place.
-This makes all harmless changes of a crate on a copy of the repository, and proves the crate there: one check a crate,
-over what earlier checks kept in out/. (In a fresh clone this proves the crates below it first.) Edits that change the
-same line are made in different rounds, and a round that isn't proved is divided, to name the change. Exit status 1 if
-a change is missing, stands in another place, or isn't proved.
+So a harmless change is a line `edit: NAME` and then, for each `old:` of that edit, a line `new:` with what is put there
+instead. This makes all harmless changes of a crate on a copy of the repository, and proves the crate there: one check
+a crate, over what earlier checks kept in out/. (In a fresh clone this proves the crates below it first.) Edits that
+change the same line are made in different rounds, and a round that isn't proved is divided, to name the change. Exit
+status 1 if a change is missing, has no edit or other lines than it, can't be made, or isn't proved.
 """
 import os
 import shutil
@@ -18,37 +19,49 @@ import tempfile
 ROOT = os.path.dirname(os.path.dirname(os.path.realpath(__file__)))
 
 
-def pairs_of(path):
-    """Returns the changes of an edit: a file, the text that stands in it, and the one that takes its place."""
-    file, old, pairs = "", "", []
+def edits_of(crate):
+    """Returns the must-fail edits of a crate: the texts that each changes, in order, with their files."""
+    at, edits = f"{ROOT}/crates/{crate}/must-fail", {}
+    for file in sorted(os.listdir(at)) if os.path.isdir(at) else []:
+        name, kind = os.path.splitext(file)
+        if kind == ".edit":
+            edits[name] = texts_of(f"{at}/{file}")
+    return edits
+
+
+def texts_of(path):
+    file, texts = "", []
     with open(path, encoding="utf-8") as edit:
         for line in edit.read().split("\n"):
             if line.startswith("file: "):
                 file = line[len("file: "):].strip()
             elif line.startswith("old: "):
-                old = line[len("old: "):]
+                texts.append((file, line[len("old: "):]))
+    return texts
+
+
+def twins_of(crate):
+    """Returns the harmless changes of a crate: what each puts in the place of the texts of its edit, in order."""
+    path, twins = f"{ROOT}/crates/{crate}/must-pass.edits", {}
+    if not os.path.exists(path):
+        return twins
+    with open(path, encoding="utf-8") as lines:
+        for line in lines.read().split("\n"):
+            if line.startswith("edit: "):
+                news = twins.setdefault(line[len("edit: "):].strip(), [])
             elif line.startswith("new:"):
-                pairs.append((file, old, line[len("new: "):]))
-    return pairs
+                news.append(line[len("new: "):])
+    return twins
 
 
-def names(crate, folder):
-    at = f"{ROOT}/crates/{crate}/{folder}"
-    return sorted(it for it in os.listdir(at) if it.endswith(".edit")) if os.path.isdir(at) else []
-
-
-def places(crate, folder, name):
-    return [(file, old) for file, old, _ in pairs_of(f"{ROOT}/crates/{crate}/{folder}/{name}")]
-
-
-def rounds_of(crate, edits):
-    """Divides the edits so that in each round every text is found once in what the round has made before."""
-    left = edits
+def rounds_of(crate, changes):
+    """Divides the changes so that in each round every text is found once in what the round has made before."""
+    left = changes
     while left:
-        texts, made, later = {}, [], []
-        for name in left:
+        texts, made, later = {}, {}, {}
+        for name, change in left.items():
             changed = dict(texts)
-            for file, old, new in pairs_of(f"{ROOT}/crates/{crate}/must-pass/{name}"):
+            for file, old, new in change:
                 if file not in changed:
                     with open(f"{ROOT}/crates/{crate}/{file}", encoding="utf-8") as source:
                         changed[file] = source.read()
@@ -56,9 +69,9 @@ def rounds_of(crate, edits):
                 if changed[file] is None:
                     break
             if None in changed.values():
-                later.append(name)
+                later[name] = change
             else:
-                texts, made = changed, [*made, name]
+                texts, made[name] = changed, change
         if not made:
             print(f"{crate}: can't be made: {' '.join(later)}")
             return
@@ -104,18 +117,33 @@ def proved(crate, texts):
         return ran.returncode == 0
 
 
-def made_of(crate, edits):
+def made_of(crate, changes):
     """Returns how many of these changes are proved, and names the others."""
     made = 0
-    for part, texts in rounds_of(crate, edits):
+    for part, texts in rounds_of(crate, changes):
+        names = list(part)
         if proved(crate, texts):
-            made += len(part)
-        elif len(part) == 1:
-            print(f"{crate}: NOT PROVED: {part[0]}")
+            made += len(names)
+        elif len(names) == 1:
+            print(f"{crate}: NOT PROVED: {names[0]}")
         else:
-            half = len(part) // 2
-            made += made_of(crate, part[:half]) + made_of(crate, part[half:])
+            half = len(names) // 2
+            made += made_of(crate, {name: part[name] for name in names[:half]})
+            made += made_of(crate, {name: part[name] for name in names[half:]})
     return made
+
+
+def changes_of(crate):
+    """Returns the harmless changes that stand beside an edit, by name, and whether these are all."""
+    edits, twins, changes = edits_of(crate), twins_of(crate), {}
+    for name in sorted(set(edits) ^ set(twins)):
+        print(f"{crate}/{name}: {'no harmless change' if name in edits else 'no must-fail edit'} of this name")
+    for name in sorted(set(edits) & set(twins)):
+        if len(edits[name]) == len(twins[name]) > 0:
+            changes[name] = [(file, old, new) for (file, old), new in zip(edits[name], twins[name])]
+        else:
+            print(f"{crate}/{name}: {len(twins[name])} lines `new:` for {len(edits[name])} of the edit")
+    return changes, len(changes) == len(set(edits) | set(twins))
 
 
 def main(crates):
@@ -126,19 +154,12 @@ def main(crates):
             print(f"{crate}: there is no such crate")
             good = False
             continue
-        edits, twins = names(crate, "must-fail"), names(crate, "must-pass")
-        for name in sorted(set(edits) ^ set(twins)):
-            print(f"{crate}/{name}: {'no harmless change' if name in edits else 'no must-fail edit'} of this name")
-            good = False
-        for name in sorted(set(edits) & set(twins)):
-            at = places(crate, "must-pass", name)
-            if not at or at != places(crate, "must-fail", name):
-                print(f"{crate}/{name}: the harmless change stands in another place")
-                good = False
-        if twins:
-            made = made_of(crate, twins)
-            print(f"{crate}: {made} of {len(twins)} harmless changes are proved")
-            good = good and made == len(twins)
+        changes, all_given = changes_of(crate)
+        good = good and all_given
+        if changes:
+            made = made_of(crate, changes)
+            print(f"{crate}: {made} of {len(changes)} harmless changes are proved")
+            good = good and made == len(changes)
     return 0 if good else 1
 
 
