@@ -21,12 +21,28 @@ for section in re.split("^## ", "\n".join(pages), flags=re.M):
     named = re.findall(r"`crates/calling/specs/(\w+\.antt)`.*?^```antt\n(.*?)^```", section, re.S | re.M)
     definitions += named
 crate = top / "crates/calling"
-wrong = [name for name, text in examples if text.strip() not in (crate / "src" / name).read_text()]
+
+
+def is_part(text, source):
+    """Whether the source has the text, where a line `// ..` of the text stands for what is left out there."""
+    at = 0
+    for part in text.split("// ..\n"):
+        at = source.find(part.strip(), at)
+        if at < 0:
+            return False
+        at += len(part.strip())
+    return True
+
+
+wrong = [name for name, text in examples if not is_part(text, (crate / "src" / name).read_text())]
 wrong += [name for name, text in definitions if text.strip() not in (crate / "specs" / name).read_text()]
-missing = {path.name for path in (crate / "src").glob("*.rt")} - {"lib.rt"} - {name for name, _ in examples}
+# CALLING links to the files that it doesn't show.
+named = set(re.findall(r"\(../crates/calling/src/(\w+\.rt)\)", "\n".join(pages)))
+missing = {path.name for path in (crate / "src").glob("*.rt")} - {"lib.rt"} - {name for name, _ in examples} - named
+wrong += sorted(name for name in named if not (crate / "src" / name).exists())
 missing |= {path.name for path in (crate / "specs").glob("*.antt")} - {"Lib.antt"} - {name for name, _ in definitions}
 if wrong or missing:
-    sys.exit(f"try_calling.sh: not as their sources: {wrong}; not shown: {sorted(missing)}")
+    sys.exit(f"try_calling.sh: not as their sources: {wrong}; neither shown nor named: {sorted(missing)}")
 print(f"{len(examples)} examples and {len(definitions)} parts of pages of definitions are as their sources")
 PY
 

@@ -5,7 +5,7 @@
 
 It prints what doesn't hold, how many rows are left out and why, and last how many checks passed and failed. LENGTH is how
 long the files are that are made of each choice of a few characters: 6 if it isn't given; 7 takes half a minute more.
-CONTRIBUTING, "Rows of tables", has the notation.
+docs/TABLES.md has the notation.
 """
 import array
 import contextlib
