@@ -1,4 +1,4 @@
-# Completes propedit and propfilter in Bash. Made by docs/completions.py.
+# Completes propedit and propfilter in Bash. Made by tools/completions.py.
 
 # Sets `wanted` to the words that a command takes, and `own` to its options.
 _propedit_after() {

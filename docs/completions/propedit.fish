@@ -1,4 +1,4 @@
-# Completes propedit and propfilter in fish. Made by docs/completions.py.
+# Completes propedit and propfilter in fish. Made by tools/completions.py.
 
 # Prints the words that a command takes.
 function __propedit_after

@@ -1,7 +1,7 @@
 #!/usr/bin/env python3
 """Proves the harmless changes of crates/*/must-pass.edits, each of which stands beside the must-fail edit of its name.
 
-    docs/try_must_pass.py [CRATE ..]
+    tests/try_must_pass.py [CRATE ..]
 
 An edit that the prover refuses says something of a contract only if it accepts a harmless change in the same place.
 So a harmless change is a line `edit: NAME` and then, for each `old:` of that edit, a line `new:` with what is put there

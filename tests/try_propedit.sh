@@ -2,7 +2,7 @@
 # Tries the built program propedit: its commands, options, exit statuses and messages, and files that are edited in place.
 # It prints how many checks passed, and stops with status 1 at the first that fails.
 #
-#     docs/try_propedit.sh crates/propedit/out/propedit
+#     tests/try_propedit.sh crates/propedit/out/propedit
 #
 # Run as root, it also tries files and folders of another user, and a mount point. With a JDK, it has Java read what -a
 # and convert write. With strace, it tries what is synced and calls of the system that fail, with setfacl access control

@@ -1,10 +1,10 @@
 #!/usr/bin/env python3
 """Checks that specs/ shows what is a promise.
 
-    docs/spec_pages.py            prints a line for each finding; the exit status is 0 if there is none, else 1
-    docs/spec_pages.py --list     lists the pages of each crate that public clauses reach, and those that none reaches
-    docs/spec_pages.py --why X    says how public clauses reach page X, such as java_properties.specs.ReadLines
-    docs/spec_pages.py --root R   does so in another clone
+    tools/spec_pages.py [--check]    prints a line for each finding; the exit status is 0 if there is none, else 1
+    tools/spec_pages.py --list       lists the pages of each crate that public clauses reach, and those that none reaches
+    tools/spec_pages.py --why X      says how public clauses reach page X, such as java_properties.specs.ReadLines
+    tools/spec_pages.py --root R     does so in another clone
 
 A public clause is a clause of a public function, a ghost member of a public trait or of its impl for a public type, or
 the ghost value by which contracts see a public type. Views and invariants are private. A clause reaches the pages of

@@ -1,8 +1,8 @@
 #!/usr/bin/env python3
-"""Prints a crate's root with each example of the libraries' doc comments as a test: docs/examples.py > src/lib.rt.
+"""Prints a crate's root with each example of the libraries' doc comments as a test: tools/examples.py > src/lib.rt.
 
 An example uses names that its reader knows: `alloc`, `rt`, an `input`, a `map`. They are given before it, where it doesn't make
-them itself. docs/try_calling.sh runs these tests.
+them itself. tests/try_calling.sh runs these tests.
 """
 import pathlib
 import re

@@ -1,9 +1,9 @@
 #!/usr/bin/env python3
 """Wraps the prose of the Markdown pages at one width, and leaves code, tables, headings and quotes as they are.
 
-    docs/wrap.py            wraps all pages
-    docs/wrap.py --check    names the pages that aren't wrapped so, and rows of tables that are too long to read, and ends with 1
-                            if there is one
+    tools/wrap.py            wraps all pages
+    tools/wrap.py --check    names the pages that aren't wrapped so, and rows of tables that are too long to read, and ends with 1
+                             if there is one
 """
 import pathlib
 import re

@@ -1,7 +1,7 @@
 #!/usr/bin/env python3
 """Runs the commands that README and the pages of docs/ show, and compares what they print.
 
-    docs/try_pages.py PROPEDIT PROPFILTER    the built programs, such as crates/propedit/out/propedit, which rt run makes
+    tests/try_pages.py PROPEDIT PROPFILTER    the built programs, such as crates/propedit/out/propedit, which rt run makes
 
 A line of an indented block that begins with "$ " is a command, and lines after it that begin with "> " continue it. What
 stands below, up to the next command or to the end of the block, is all that it prints. Blocks without a command aren't run.
@@ -89,11 +89,11 @@ def run(page, programs):
 
 def main():
     if len(sys.argv) != 3:
-        sys.exit("usage: docs/try_pages.py PROPEDIT PROPFILTER")
+        sys.exit("usage: tests/try_pages.py PROPEDIT PROPFILTER")
     programs = dict(zip(("propedit", "propfilter"), (pathlib.Path(word).resolve() for word in sys.argv[1:])))
     for program in programs.values():
         if not program.is_file():
-            sys.exit(f"docs/try_pages.py: no program {program}")
+            sys.exit(f"tests/try_pages.py: no program {program}")
     results = [run(page, programs) for page in [TOP / "README.md", *sorted(TOP.glob("docs/*.md"))]]
     return 0 if all(results) else 1
 

@@ -1,8 +1,8 @@
 #!/usr/bin/env python3
 """Writes docs/completions/*, by which Bash, zsh and fish complete the words of propedit and propfilter.
 
-    docs/completions.py            writes the files
-    docs/completions.py --check    compares them, and ends with 1 if one is not what it would write
+    tools/completions.py            writes the files
+    tools/completions.py --check    compares them, and ends with 1 if one is not what it would write
 
 Commands, options and their words are those of the tables in propedit_arguments/src/command_line.rt. Keys are those of the
 file that the command line names, as `propedit list` prints them.
@@ -58,7 +58,7 @@ def names(kind=None, command=None):
             yield from ([f"-{row['short']}"] if row["short"] else []) + [f"--{row['long']}"]
 
 
-BASH = r"""# Completes propedit and propfilter in Bash. Made by docs/completions.py.
+BASH = r"""# Completes propedit and propfilter in Bash. Made by tools/completions.py.
 
 # Sets `wanted` to the words that a command takes, and `own` to its options.
 _propedit_after() {
@@ -180,7 +180,7 @@ complete -F _propfilter propfilter
 """
 
 ZSH = r"""#compdef propedit propfilter
-# Completes propedit and propfilter in zsh. Made by docs/completions.py.
+# Completes propedit and propfilter in zsh. Made by tools/completions.py.
 
 # Adds the keys of the file that the options name.
 _propedit_keys() {
@@ -246,7 +246,7 @@ propfilter) _arguments '1:encoding:(@ENCODINGS@)' '2:ascii:(@FILTERED@)' ;;
 esac
 """
 
-FISH = r"""# Completes propedit and propfilter in fish. Made by docs/completions.py.
+FISH = r"""# Completes propedit and propfilter in fish. Made by tools/completions.py.
 
 # Prints the words that a command takes.
 function __propedit_after
@@ -391,7 +391,7 @@ def main():
     kinds = {word.rstrip(".") for row in COMMANDS for word in words_after(row).split()} | {row["value"] for row in OPTIONS}
     unknown = kinds - KINDS - {"EDIT", ""}
     if unknown or not (COMMANDS and OPTIONS and EDITS and ENCODINGS and TARGETS):
-        sys.exit(f"docs/completions.py: the tables in command_line.rt have another form, or other words: {sorted(unknown)}")
+        sys.exit(f"tools/completions.py: the tables in command_line.rt have another form, or other words: {sorted(unknown)}")
     status = 0
     for name, template in (("propedit.bash", BASH), ("_propedit", ZSH), ("propedit.fish", FISH)):
         target, text = FOLDER / name, filled(template)
@@ -401,7 +401,7 @@ def main():
         elif target.exists() and target.read_text() == text:
             print(f"docs/completions/{name} has the words of command_line.rt")
         else:
-            print(f"docs/completions/{name} has not the words of command_line.rt: run docs/completions.py")
+            print(f"docs/completions/{name} has not the words of command_line.rt: run tools/completions.py")
             status = 1
     return status
 

@@ -3,8 +3,8 @@
 # runs the programs of CALLING and of README, and the examples of the libraries' doc comments. It compares the examples of
 # CALLING and of PROVING_CALLERS with their sources, and docs/API.md and the manual pages with theirs too.
 #
-#     docs/try_calling.sh            a minute or two: compiles and runs, and proves nothing
-#     docs/try_calling.sh --check    proves the two programs too, which takes a quarter of an hour or more
+#     tests/try_calling.sh            a minute or two: compiles and runs, and proves nothing
+#     tests/try_calling.sh --check    proves the two programs too, which takes a quarter of an hour or more
 set -eu
 top=$(cd "$(dirname "${BASH_SOURCE[0]}")/.." && pwd)
 
@@ -46,8 +46,8 @@ if wrong or missing:
 print(f"{len(examples)} examples and {len(definitions)} parts of pages of definitions are as their sources")
 PY
 
-"$top/docs/api.py" --check
-"$top/docs/manual.py" --check
+"$top/tools/api.py" --check
+"$top/tools/manual.py" --check
 
 work=$(mktemp -d)
 trap 'rm -rf "$work"' EXIT
@@ -102,7 +102,7 @@ echo 8080 >"$work/port"
 try readme /dev/null "$work/port"
 try value_of /dev/null "$work/port" --data app.properties="$PWD/crates/my_program/stdin" -- app.properties port
 mkdir -p crates/examples/src
-"$top/docs/examples.py" >crates/examples/src/lib.rt
+"$top/tools/examples.py" >crates/examples/src/lib.rt
 # The examples are of three crates more, which callers of the library don't need.
 for name in single_lines properties_tools propedit_arguments; do
     cp -r "../todrenval/crates/$name" crates/

@@ -2,8 +2,8 @@
 """Writes docs/API.md, the public names of each crate with their signatures and the first sentence of what is said of each, from
 the sources.
 
-    docs/api.py            writes the page
-    docs/api.py --check    compares it, and ends with 1 where it is not what the sources say
+    tools/api.py            writes the page
+    tools/api.py --check    compares it, and ends with 1 where it is not what the sources say
 
 A name is public where `lib.rt` of its crate, or a public module of it, has or re-exports it. What a crate re-exports of another
 one is shown with it, and left out of that other one's section.
@@ -253,7 +253,7 @@ def page():
         "First come the crates that programs call, and the library before the others; then those that these stand on. What",
         "`properties_c` exports to programs in C is in docs/C.md.",
         "",
-        "`docs/api.py` makes this page from the sources, and `docs/api.py --check` compares it with them. Before a name stands the",
+        "`tools/api.py` makes this page from the sources, and `tools/api.py --check` compares it with them. Before a name stands the",
         "first sentence of what its source says of it, and its module, if that isn't the crate's root. A comment after a type names",
         "what it implements. Contracts are left out: they are beside the functions, and docs/PROMISES.md explains them.",
     ]
@@ -271,7 +271,7 @@ if __name__ == "__main__":
     text = page()
     if "--check" in sys.argv[1:]:
         if not target.exists() or target.read_text() != text:
-            sys.exit("docs/API.md is not what the sources say: run docs/api.py")
+            sys.exit("docs/API.md is not what the sources say: run tools/api.py")
         print("docs/API.md is what the sources say")
     else:
         target.write_text(text)

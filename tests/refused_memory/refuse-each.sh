@@ -1,7 +1,7 @@
 #!/bin/sh
 # Refuses each allocation of each call, one in each run, and lists the calls that don't recover.
 #
-#     refused_memory/refuse-each.sh
+#     tests/refused_memory/refuse-each.sh
 #
 # The program in src/ makes the calls. It is no crate of the gate, where no memory can be refused: this script builds
 # it in a copy of the repository, once, and proves nothing. `rt try --fail-alloc MOST` refuses allocation number MOST
@@ -19,7 +19,7 @@ trap 'rm -rf "$work"' EXIT
 # The copy: the library without what was built of it, and the program as a crate over it.
 crate=$work/copy/crates/refused_memory
 mkdir -p "$crate/src"
-(cd "$here/.." && tar cf - --exclude=out --exclude='must-*' crates crates.txt HANDLES) | (cd "$work/copy" && tar xf -)
+(cd "$here/../.." && tar cf - --exclude=out --exclude='must-*' crates crates.txt HANDLES) | (cd "$work/copy" && tar xf -)
 echo 'refused_memory: counted_io properties_text properties_lines single_lines java_properties properties_tools propedit_arguments' \
     >>"$work/copy/crates.txt"
 for file in "$here"/src/*.rt.txt; do

@@ -1,8 +1,8 @@
 #!/usr/bin/env python3
 """Writes the manual pages docs/propedit.1 and docs/propfilter.1 from docs/PROPEDIT.md and docs/PROPFILTER.md.
 
-    docs/manual.py            writes the manual pages
-    docs/manual.py --check    compares them, and ends with 1 where one is not what its page says
+    tools/manual.py            writes the manual pages
+    tools/manual.py --check    compares them, and ends with 1 where one is not what its page says
 
 What stands before a page's first section is left out. A point that begins with code and a colon is an entry of a list of
 terms, and so is a row of a table: its first cell, and what the others say. The version and the date are those of CHANGELOG.md.
@@ -97,7 +97,7 @@ def blocks(text):
 def manual(page, name):
     text = (TOP / "docs" / page).read_text()
     version, date = re.search(r"^## (\d+\.\d+\.\d+), (\S+)$", (TOP / "CHANGELOG.md").read_text(), re.M).groups()
-    out = [rf'.\" Made by docs/manual.py from docs/{page}.']
+    out = [rf'.\" Made by tools/manual.py from docs/{page}.']
     out.append(f'.TH {name.upper()} 1 {date} "Todrenval {version}" "User Commands"')
     # Lines aren't stretched to the right margin, and no word is divided: that would change what code looks like.
     out += [".ad l", ".nh"]
@@ -135,7 +135,7 @@ def main():
         elif target.exists() and target.read_text() == text:
             print(f"docs/{name}.1 is what docs/{page} says")
         else:
-            print(f"docs/{name}.1 is not what docs/{page} says: run docs/manual.py")
+            print(f"docs/{name}.1 is not what docs/{page} says: run tools/manual.py")
             status = 1
     return status
 

@@ -1,8 +1,8 @@
 #!/usr/bin/env python3
 """Draws docs/architecture.svg, the picture that docs/ARCHITECTURE.md begins with: the crates, and the way of the data.
 
-    docs/architecture.py            draws it
-    docs/architecture.py --check    compares it, and ends with 1 if it isn't what this script would draw
+    tools/architecture.py            draws it
+    tools/architecture.py --check    compares it, and ends with 1 if it isn't what this script would draw
 
 The crates, and what each uses, are those of crates.txt: a crate stands above those that it uses. A line joins two crates unless
 others lead from one to the other. The tables below say what a crate is for, where in its row it stands, and which crates the
@@ -208,7 +208,7 @@ def main():
     used = uses()
     for crate in [crate for _, _, steps, _ in WAYS for _, crate in steps]:
         if crate not in used:
-            sys.exit(f"docs/architecture.py: crates.txt has no {crate}")
+            sys.exit(f"tools/architecture.py: crates.txt has no {crate}")
     if "--check" in sys.argv[1:]:
         is_same = PICTURE.exists() and PICTURE.read_text() == picture()
         print(f"docs/architecture.svg {'shows' if is_same else 'does NOT show'} the crates of crates.txt")
