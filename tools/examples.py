@@ -20,8 +20,8 @@ HEAD = """// Examples of doc comments, each as a test.
 use byte_blocks::{Byte, Either, LineEndings, find};
 use counted_io::{Counted, CountedRead, CountedWrite, ScriptedReader, ScriptedSink, SinkFault, Tail, send};
 use java_properties::{
-    Call, Cause, Comments, ContentRef, Document, Edit, Encoding, LineContent, LineEnding, PropertiesError, PropertiesIter,
-    PropertiesWriter, SourceOptions, Spelling, convert, edit_all, edit_with, first_malformed_escape, key_lines, key_lines_of, laws, malformed_escapes, malformed_escapes_of, read, read_lines, read_sorted, read_source, remove_key, run_calls,
+    Call, Cause, Comments, ContentRef, Document, Edit, Encoding, GroupKind, LineContent, LineEnding, PropertiesError, PropertiesIter,
+    PropertiesWriter, SourceOptions, Spelling, View, convert, edit_all, edit_with, first_malformed_escape, key_lines, key_lines_of, laws, malformed_escapes, malformed_escapes_of, read, read_lines, read_sorted, read_source, remove_key, run_calls,
     set_key, set_value, value_among_pairs, value_of, write, write_sorted, write_source,
 };
 use properties_text::encoding::TextBuffer;

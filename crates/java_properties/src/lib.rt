@@ -2,7 +2,8 @@
 //!
 //! [`PropertiesIter`] reads the comments and pairs of a file, each with its line number. [`PropertiesWriter`] writes
 //! comments and pairs. [`set_key`], [`set_value`], [`remove_key`], [`edit_all`] and [`Document`] edit the pairs of a
-//! file, and so does [`edit_with`], with [`SourceOptions`]. [`convert`] changes its encoding.
+//! file, and so does [`edit_with`], with [`SourceOptions`]. [`View`] shows where each part of a file is. [`convert`]
+//! changes its encoding.
 //!
 //! ```text
 //! for item in PropertiesIter::new(alloc, &mut input)? {
@@ -32,7 +33,8 @@ pub use iter::{
 };
 pub use maps::{read, read_sorted, write, write_sorted};
 pub use properties_editing::{
-    Comments, Document, Edit, SourceOptions, edit_all, edit_with, remove_key, set_key, set_value,
+    Comments, Document, Edit, Flaw, GroupKind, PartPlaces, SourceOptions, View, ViewedGroup,
+    edit_all, edit_with, remove_key, set_key, set_value,
 };
 pub use properties_items::borrowed::{ContentRef, LineRef};
 pub use properties_items::error::{At, Cause, ErrorKind, PropertiesError, Reason};

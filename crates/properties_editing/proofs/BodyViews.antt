@@ -1,5 +1,5 @@
 -- A body as its groups, with the places of their parts.
-use Rattle.std.proofs.Common.{◌≡◌, ◌==◌, ◌<◌, ◌≤◌, ℕ, suc, ◌+◌, ◌-◌, Bool, true, false, List, [], ◌∷◌, ◌++◌, length, take, drop, refl, inl, inr, ap, ap₂, sym, ◌∙◌, subst, arith, append-nil, append_assoc, length-append, take-add}
+use Rattle.std.proofs.Common.{◌≡◌, ◌≢◌, ◌==◌, ◌<◌, ◌≤◌, ℕ, suc, ◌+◌, ◌-◌, Bool, true, false, List, [], ◌∷◌, ◌++◌, length, take, drop, refl, inl, inr, ap, ap₂, sym, ◌∙◌, subst, arith, append-nil, append_assoc, length-append, take-add}
 use Rattle.std.specs.Prelude.{◌⊎◌, Some, nat_le, nat_lt, if◌then◌else◌}
 use Rattle.std.proofs.Math.Seq.{take-append_seam, drop-append_seam}
 use Rattle.std.specs.Str.{IsUtf8, chars, IsCharBoundary}
@@ -8,9 +8,10 @@ use Rattle.std.proofs.lemmas.Str.{chars-append, chars-nil, IsUtf8-nil, IsUtf8-ta
 use Rattle.properties_format.specs.Encoding.{Encoding}
 use Rattle.properties_format.specs.Text.{backslash, is_empty, is_blank, begins, without_leading_blanks}
 use Rattle.properties_format.specs.Split as split
-use Rattle.properties_format.specs.Split.{IsPair, IsSplit}
+use Rattle.properties_format.specs.Split.{IsSplit}
 use Rattle.properties_format.specs.Body.{HeldLine, group_bytes, groups_bytes}
 use Rattle.properties_format.specs.Computed.Body.{held_groups_of}
+use Rattle.properties_format.specs.Computed.Encoding.{pieces_of}
 use Rattle.properties_format.specs.Computed.Split.{split_of}
 use Rattle.properties_format.specs.Computed.Valued.{after_key, written_value}
 use Rattle.properties_format.proofs.Body.Groups.{held_groups_of-meets, held-body}
@@ -19,7 +20,7 @@ use Rattle.properties_format.proofs.Split.Unique.{split_of-only}
 use Rattle.properties_format.proofs.Valued.Parts.{written_value-pair, after_key-pair}
 use Rattle.properties_text.specs.Parsing.{bytes_in, IsSpan, IsPairAt, IsCommentAt}
 use Rattle.properties_text.specs.declared.parse.Span.{Span}
-use Rattle.properties_editing.specs.declared.view.Parts.{Parts}
+use Rattle.properties_editing.specs.declared.walk.Parts.{Parts}
 use Rattle.properties_text.specs.Encoding.{encoding_of}
 use Rattle.properties_text.proofs.Texts.Characters.{first_ascii, is_empty-chars}
 use Rattle.properties_text.proofs.Texts.Split.{without_leading_blanks-part}
@@ -33,9 +34,9 @@ use Rattle.properties_text.specs.MalformedEscapes.{IsMalformedAt}
 use Rattle.properties_text.specs.declared.encoding.line_encoding.LineEncoding.TheVariants.{Utf8}
 use Rattle.properties_text.specs.declared.escape.Malformed.{Malformed}
 use Rattle.properties_lines.specs.declared.scanner.Scanner.{Scanner}
-use Rattle.properties_editing.specs.declared.view.View.{View}
-use Rattle.properties_editing.specs.declared.view.ViewedGroup.{ViewedGroup}
-use Rattle.properties_editing.specs.declared.view.GroupKind.TheVariants as kind
+use Rattle.properties_editing.specs.declared.walk.Walk.{Walk}
+use Rattle.properties_editing.specs.declared.walk.WalkedGroup.{WalkedGroup}
+use Rattle.properties_editing.specs.declared.group.GroupKind.TheVariants as kind
 use Rattle.std.proofs.lemmas.Bool.{cases_Bool}
 use Rattle.std.proofs.lemmas.Bool.Decides.{nat_tests}
 use Rattle.properties_format.specs.Lines.{Lines, is_comment_line, joined}
@@ -54,13 +55,11 @@ use Rattle.properties_editing.specs.Private.BodyCuts.{IsCutOf, added_lines, adds
 use Rattle.properties_lines.specs.LineSearch.{unit_size}
 use Rattle.properties_format.specs.Edited.{is_editable}
 use Rattle.properties_editing.proofs.CutMeanings.{IsAlone, cut-meets, group-added, group-alone}
-use Rattle.properties_format.specs.Body.{AreGroupsOf, ending_bytes, last_ending}
+use Rattle.properties_format.specs.Body.{ending_bytes, last_ending}
 use Rattle.properties_format.specs.Computed.Body.{unended_bytes}
 use Rattle.properties_format.proofs.InTurn.Lines.{bytes-unended}
 use Rattle.properties_format.proofs.Split.Unique.{split_of-meets}
 use Rattle.properties_editing.proofs.CutOrder.{cut-ordered, cut-unended, counts-ordered}
-use Rattle.properties_format.proofs.Body.Groups.{groups_bytes-append}
-use Rattle.properties_format.proofs.Valued.Lined.{held_in-append}
 use Rattle.properties_format.specs.Encoding.{windows_1252, utf_8, utf_16le, utf_16be}
 use Rattle.properties_format.proofs.Encodings.PieceEnds.{no-front}
 use Rattle.properties_lines.specs.LogicalLine.{IsLineIn}
@@ -81,29 +80,34 @@ use Rattle.properties_lines.specs.declared.logical.Place.TheVariants.{Natural, D
 use Rattle.properties_editing.specs.Private.BodyCuts.{indent_size}
 use Rattle.properties_editing.proofs.BodyGroups.{joined-alone}
 use Rattle.properties_editing.proofs.PlainGroups.{cut-counts, plain-head}
-use Rattle.properties_editing.specs.Private.BodyViews.{IsPlain, AreMeant, AreOrdered, AreTexts, places_by, places_in, TellsIllFormed, HasViewed, IsViewOf, groups_to_come, reader_before, first_of, lines_of, line_of, text_in, place_in}
+use Rattle.properties_editing.specs.Private.BodyViews.{IsPlain, AreOrdered, AreTexts, places_by, places_in, TellsIllFormed, groups_to_come, reader_before, first_of, lines_of, line_of, text_in, place_in}
 use Rattle.properties_editing.proofs.BodyCuts.{cut-here, cut-past, cut-head, decoded-front, decoded-left}
 use Rattle.properties_editing.specs.Private.BodyGroups.{IsWithin, TakesGroup, groups_left, text_of}
-use Rattle.properties_editing.specs.Private.BodyViews.{ArePartsBy, ArePartsOf, HasFlaw, IsPartFlaw, IsLineFlaw, IsFlawOf, IsWhole, counts_of, cut_in, counts_by, kind_of, after_sign, IsCountAt, IsOpened, IsViewed, TakesView}
+use Rattle.properties_editing.specs.Views.{IsWhole, kind_of, with_bytes}
+use Rattle.properties_editing.specs.Private.BodyViews.{ArePartsBy, ArePartsOf, HasFlaw, IsPartFlaw, IsLineFlaw, IsFlawOf, counts_of, cut_in, counts_by, after_sign, IsCountAt, IsOpened, IsViewed, TakesWalk}
 use Rattle.properties_editing.proofs.Editing.{editable-bytes}
 use Rattle.properties_editing.proofs.BodyValues.{after_key-text}
 use Rattle.properties_format.proofs.Encodings.WellFormed.{well_formed-from_IsUtf8}
 
 -- ---- the bytes of a group
 
--- A group that was taken has the bytes from its start to the next group.
-pub group-bytes : {body : List ℕ} {old new : GroupReader} {group : Group} → IsWithin body old → (k : TakesGroup body old group new)
-    → take (new.scanner.at - group.start) (drop group.start body) ≡ group_bytes k.held
-group-bytes {body} {old} {new} {group} w k =
+-- What is left before a group is taken: its bytes, and those of the groups after it.
+pub left-bytes : {body : List ℕ} {old new : GroupReader} {group : Group} → IsWithin body old → (k : TakesGroup body old group new)
+    → drop old.scanner.at body ≡ groups_bytes (k.held ∷ groups_left body new)
+left-bytes {body} {old} {new} {group} w k =
     let e = encoding_of old.scanner.encoding in
     let rest = drop old.scanner.at body in
     let groups : held_groups_of e rest ≡ k.held ∷ groups_left body new =
     subst (λ b. (if b then [] else held_groups_of e rest) ≡ k.held ∷ groups_left body new) k.live k.groups in
-    let bytes : rest ≡ group_bytes k.held ++ groups_bytes (groups_left body new) =
-    sym (held-body e rest (held_groups_of e rest) (editable-bytes e w.bytes) (held_groups_of-meets e rest)) ∙ ap groups_bytes groups in
+    sym (held-body e rest (held_groups_of e rest) (editable-bytes e w.bytes) (held_groups_of-meets e rest)) ∙ ap groups_bytes groups
+
+-- A group that was taken has the bytes from its start to the next group.
+pub group-bytes : {body : List ℕ} {old new : GroupReader} {group : Group} → IsWithin body old → (k : TakesGroup body old group new)
+    → take (new.scanner.at - group.start) (drop group.start body) ≡ group_bytes k.held
+group-bytes {body} {old} {new} {group} w k =
     let next = k.span.next in
     let size : new.scanner.at - group.start ≡ length (group_bytes k.held) = omega arith in
-    ap₂ take size (ap (λ n. drop n body) k.starts ∙ bytes) ∙ take-append_seam (group_bytes k.held) (groups_bytes (groups_left body new))
+    ap₂ take size (ap (λ n. drop n body) k.starts ∙ left-bytes w k) ∙ take-append_seam (group_bytes k.held) (groups_bytes (groups_left body new))
 
 -- ---- the parts of a logical line
 
@@ -210,6 +214,12 @@ comment-parts line sign text u within at c s meets =
     let ends_text : length (chars (take text.end line)) ≡ length x - length (without_leading_blanks (after_sign x)) + length (chars core) =
     ap (λ v. length (chars v)) ends ∙ ap length (chars-append (take text.start line) core (IsUtf8-take line text.start u s.starts_whole))
     ∙ length-append (chars (take text.start line)) (chars core) ∙ ap (λ n. n + length (chars core)) start.count_is in
+    let one : sign + 1 - sign ≡ 1 = omega arith in
+    let key_bytes : take (sign + 1 - sign) (drop sign line) ≡ d.sign ∷ [] = ap₂ take one front in
+    let key_utf8 : IsUtf8 (d.sign ∷ []) = subst IsUtf8 key_bytes (IsUtf8-between line sign (sign + 1) u (omega arith) sign_whole after_whole) in
+    let key_text : chars (take (sign + 1 - sign) (drop sign line)) ≡ take 1 (without_leading_blanks x) =
+    ap chars key_bytes ∙ (first_ascii d.sign [] small key_utf8).characters ∙ ap (λ v. d.sign ∷ v) chars-nil
+    ∙ ap (take 1) (sym first.characters ∙ ap chars (sym y) ∙ blanks.same) in
     parts-by (split.comment (chars core)) line _ meets (record {
       kind_is = refl;
       key_start = count-before line (without_leading_blanks x) sign u within sign_whole (ap chars at ∙ blanks.same);
@@ -218,7 +228,7 @@ comment-parts line sign text u within at c s meets =
       value_end = record { within = s.within; whole = s.ends_whole; count_is = ends_text };
       key_span = record { ordered = omega arith; within = omega arith; starts_whole = sign_whole; ends_whole = after_whole };
       value_span = s;
-      texts = refl;
+      texts = (key_text, refl);
     })
 
 -- nothing but blanks
@@ -236,22 +246,58 @@ blank-parts line u meets =
     let some : length line - length line ≡ 0 = omega arith in
     let none : chars (take (length line - length line) (drop (length line) line)) ≡ [] = ap (λ n. chars (take n (drop (length line) line))) some ∙ chars-nil in
     parts-by split.blank line _ meets
-    (record { kind_is = refl; key_start = all; key_end = all; value_start = all; value_end = all; key_span = span; value_span = span; texts = none })
+    (record { kind_is = refl; key_start = all; key_end = all; value_start = all; value_end = all; key_span = span; value_span = span; texts = (none, none) })
 
--- ---- the next group of a view
+-- ---- the next group of a walk
 
-pub view-taken : (old : View) (new : GroupReader) (state : Scanner) (group : ViewedGroup) → IsOpened old → state ≡ old.reader.scanner
+pub no-bytes : (d : List ℕ) → is_empty d ≡ true → d ≡ []
+no-bytes [] h = refl
+no-bytes (b ∷ d) h = absurd (cc)
+
+with-taken : (g : List HeldLine) (gs : List (List HeldLine)) → groups_bytes (g ∷ gs) ≢ [] → with_bytes (g ∷ gs) ≡ g ∷ with_bytes gs
+with-taken g [] n = elim (cases_Bool (is_empty (group_bytes g))) [
+  | inl k ↦ absurd (n (append-nil (group_bytes g) ∙ no-bytes (group_bytes g) k))
+  | inr k ↦ rw k refl
+]
+with-taken g (h ∷ gs) n = refl
+
+pub walk-taken : (old : Walk) (new : GroupReader) (state : Scanner) (group : WalkedGroup) → IsOpened old
+    → old.reader.scanner.at ≢ length old.source.now → state ≡ old.reader.scanner
     → TakesGroup old.source.now old.reader group.group new → ArePartsOf (text_of old.source.now new group.group) group.parts → group.next ≡ new.scanner.at
-    → TakesView old group (record old { before = state; reader = new })
-view-taken old new state group w same k parts next = record {
-  viewed = record { old = old.reader; before = sym same; within_old = w; takes = k; parts = parts; next = next };
-  groups = k.groups;
-  starts = k.starts;
-  number = k.number;
-  bytes = ap (λ n. take (n - group.group.start) (drop group.group.start old.source.now)) next ∙ group-bytes w k;
-  opened = k.within;
-  same = ap (λ s. record old { before = s; reader = new }) same;
-}
+    → TakesWalk old group (record old { before = state; reader = new })
+walk-taken old new state group w more same k parts next =
+    let body = old.source.now in
+    let at = old.reader.scanner.at in
+    let within = w.within_body.fits.within in
+    let left : length (drop at body) ≡ length body - at = length-drop at body in
+    let some : groups_bytes (k.held ∷ groups_left body new) ≢ [] =
+    λ none. (let zero : length (drop at body) ≡ 0 = ap length (left-bytes w k ∙ none) in more (omega arith)) in
+    record {
+      viewed = record { old = old.reader; before = sym same; within_old = w; takes = k; parts = parts; next = next };
+      given = ap with_bytes k.groups ∙ with-taken k.held (groups_left body new) some;
+      opened = k.within;
+      same = ap (λ s. record old { before = s; reader = new }) same;
+    }
+
+-- No bytes are left.
+nothing-left : (e : Encoding) → is_editable e ≡ true → with_bytes (held_groups_of e []) ≡ []
+unfolding held_groups_of pieces_of
+nothing-left windows_1252 ok = refl
+nothing-left utf_8 ok = refl
+nothing-left utf_16le ok = absurd (cc)
+nothing-left utf_16be ok = absurd (cc)
+
+pub walk-ended : (walk : Walk) → IsOpened walk → walk.reader.scanner.at ≡ length walk.source.now → with_bytes (groups_to_come walk) ≡ []
+walk-ended walk w all =
+    let e = encoding_of walk.reader.scanner.encoding in
+    let none : drop walk.reader.scanner.at walk.source.now ≡ [] = drop_all walk.reader.scanner.at walk.source.now (omega arith) in
+    elim (cases_Bool walk.reader.scanner.is_done) [
+      | inl k ↦ rw k refl
+      | inr k ↦ rw (k, none) (nothing-left e (editable-bytes e w.bytes))
+    ]
+
+pub walk-done : (walk : Walk) → walk.reader.scanner.is_done ≡ true → with_bytes (groups_to_come walk) ≡ []
+walk-done walk done = rw done refl
 
 -- ---- places
 
@@ -311,16 +357,16 @@ group-some p (h ∷ hs) g gs k = elim (cases_Bool (closes (as_lines p) (record {
     pushed (i ∷ p) h q = (i, p ++ h ∷ [], sym q)
 
 -- what was left before the group that was returned last
-record IsLeftBefore (view : View) (held : List HeldLine) : Type 0 where
-  first : HeldLine
-  more : List HeldLine
-  is_held : held ≡ first ∷ more
-  rest : List HeldLine
-  lines : lines_left view.source.now view.before ≡ first ∷ more ++ rest
-  viewed : lines_of view ≡ first ∷ more
-  alone : IsAlone (first ∷ more)
+pub record IsLeftBefore (view : Walk) (held : List HeldLine) : Type 0 where
+  pub first : HeldLine
+  pub more : List HeldLine
+  pub is_held : held ≡ first ∷ more
+  pub rest : List HeldLine
+  pub lines : lines_left view.source.now view.before ≡ first ∷ more ++ rest
+  pub viewed : lines_of view ≡ first ∷ more
+  pub alone : IsAlone (first ∷ more)
 
-left-before : {view : View} {group : ViewedGroup} (v : IsViewed view group) → IsLeftBefore view v.takes.held
+pub left-before : {view : Walk} {group : WalkedGroup} (v : IsViewed view group) → IsLeftBefore view v.takes.held
 left-before {view} {group} v =
     let body = view.source.now in
     let s = reader_before view in
@@ -345,7 +391,7 @@ left-before {view} {group} v =
     }
 
 -- A cut of the lines that were left before a group was taken is one of the group.
-pub cut-viewed : {view : View} {group : ViewedGroup} (n : ℕ) → IsViewed view group → n ≤ length (text_in view)
+pub cut-viewed : {view : Walk} {group : WalkedGroup} (n : ℕ) → IsViewed view group → n ≤ length (text_in view)
     → cut_at (encoding_of view.before.encoding) true n (lines_left view.source.now view.before) ≡ cut_at (encoding_of view.before.encoding) true n
     (lines_of view)
 cut-viewed {view} {group} n v l =
@@ -356,11 +402,11 @@ cut-viewed {view} {group} n v l =
     ap (cut_at e true n) b.lines ∙ cut-within e true n b.first b.more b.rest (omega arith) ∙ ap (cut_at e true n) (sym b.viewed)
 
 -- The logical line of the group that was returned last.
-pub viewed-text : {view : View} {group : ViewedGroup} → IsViewed view group → chars (line_of view group) ≡ text_in view
+pub viewed-text : {view : Walk} {group : WalkedGroup} → IsViewed view group → chars (line_of view group) ≡ text_in view
 viewed-text {view} {group} v = let b = left-before v in v.takes.text ∙ ap (λ g. joined (as_lines g)) (b.is_held ∙ sym b.viewed)
 
 -- The place of a position in that line.
-pub place-found : {view : View} {group : ViewedGroup} (position at count : ℕ) → (v : IsViewed view group)
+pub place-found : {view : Walk} {group : WalkedGroup} (position at count : ℕ) → (v : IsViewed view group)
     → IsCharBoundary (line_of view group) position → IsUtf8 (line_of view group)
     → count ≡ length (chars (take position (line_of view group)))
     → at ≡ view.before.at + cut_size (cut_at (encoding_of view.before.encoding) true count (lines_left view.source.now view.before))
@@ -439,13 +485,13 @@ pub part-whole : (text meant : List ℕ) → meaning_of text ≡ means meant →
 part-whole text meant h = (meant, subst (IsMeaning text) h (meaning_of-meets text))
 
 -- The encoding of a group that was returned is one that is edited.
-viewed-editable : {view : View} {group : ViewedGroup} → IsViewed view group → is_editable (encoding_of view.before.encoding) ≡ true
+pub viewed-editable : {view : Walk} {group : WalkedGroup} → IsViewed view group → is_editable (encoding_of view.before.encoding) ≡ true
 viewed-editable {view} {group} v =
     editable-bytes (encoding_of view.before.encoding)
     (subst (λ sc. let w : Scanner = sc in unit_size (encoding_of w.encoding) ≡ 1) v.before v.within_old.bytes)
 
 -- What a cut of the group that was returned last means.
-pub viewed-meets : {view : View} {group : ViewedGroup} (n : ℕ) → IsViewed view group → n ≤ length (text_in view)
+pub viewed-meets : {view : Walk} {group : WalkedGroup} (n : ℕ) → IsViewed view group → n ≤ length (text_in view)
     → IsCutOf (encoding_of view.before.encoding) true (lines_of view) (take n (text_in view)) (cut_in view n)
 viewed-meets {view} {group} n v l =
     let e = encoding_of view.before.encoding in
@@ -465,12 +511,12 @@ some-chars x [] h l = let z : length x ≡ 0 = grind (arith, nat_tests) in absur
 some-chars x (c ∷ y) h l = omega arith
 
 -- Behind the character at this position the line is cut behind the start of a natural line.
-record IsBehind (view : View) (count : ℕ) : Type 0 where
+record IsBehind (view : Walk) (count : ℕ) : Type 0 where
   cut : cut_at (encoding_of view.before.encoding) true (count + 1) (lines_left view.source.now view.before) ≡ cut_in view (count + 1)
   some : 1 ≤ (cut_in view (count + 1)).head
   inside : count + 1 ≤ length (text_in view)
 
-behind : {view : View} {group : ViewedGroup} (position : ℕ) → (v : IsViewed view group) → position < length (line_of view group)
+behind : {view : Walk} {group : WalkedGroup} (position : ℕ) → (v : IsViewed view group) → position < length (line_of view group)
     → IsCharBoundary (line_of view group) position
     → IsBehind view (length (chars (take position (line_of view group))))
 behind {view} {group} position v l b =
@@ -494,7 +540,7 @@ behind {view} {group} position v l b =
     }
 
 -- The malformed escape of the group that was returned last.
-pub flaw-placed : {view : View} {group : ViewedGroup} (position count : ℕ) (how : Malformed) (cut : code.Cut) → (v : IsViewed view group)
+pub flaw-placed : {view : Walk} {group : WalkedGroup} (position count : ℕ) (how : Malformed) (cut : code.Cut) → (v : IsViewed view group)
     → IsLineFlaw (line_of view group) position how
     → count ≡ length (chars (take position (line_of view group)))
     → cut ≡ placed view.before.at view.before.passed (cut_at (encoding_of view.before.encoding) true (count + 1) (lines_left view.source.now view.before))
@@ -546,7 +592,7 @@ empty-texts e (h ∷ g) u none =
     (line-text e h.bytes (editable-bytes e u) (subst IsUtf8 (sym empty) IsUtf8-nil), empty-texts e g u (omega arith))
 
 -- These lines of the group were looked at, and each is text.
-pub record HasTexts (view : View) (next : ℕ) (s : GroupReader) : Type 0 where
+pub record HasTexts (view : Walk) (next : ℕ) (s : GroupReader) : Type 0 where
   pub kept : List HeldLine
   pub rest : List HeldLine
   pub others : List HeldLine
@@ -558,7 +604,7 @@ pub record HasTexts (view : View) (next : ℕ) (s : GroupReader) : Type 0 where
   pub within : IsWithin view.source.now s
   pub encoding : encoding_of s.scanner.encoding ≡ encoding_of view.before.encoding
 
-pub texts-none : {view : View} {group : ViewedGroup} (s : GroupReader) → (v : IsViewed view group) → s.scanner ≡ view.before
+pub texts-none : {view : Walk} {group : WalkedGroup} (s : GroupReader) → (v : IsViewed view group) → s.scanner ≡ view.before
     → IsWithin view.source.now s → HasTexts view group.next s
 texts-none {view} {group} s v same w =
     let b = left-before v in
@@ -582,12 +628,12 @@ texts-none {view} {group} s v same w =
     }
 
 -- what is left of the group begins with the line that was taken
-record IsNextLine (view : View) (next : ℕ) (old new : GroupReader) (h : HasTexts view next old) (k : TakesLine view.source.now old new) : Type 0 where
+record IsNextLine (view : Walk) (next : ℕ) (old new : GroupReader) (h : HasTexts view next old) (k : TakesLine view.source.now old new) : Type 0 where
   more : List HeldLine
   rest : h.rest ≡ held_line (encoding_of view.before.encoding) view.source.now new.scanner.line k.ending ∷ more
   left : lines_left view.source.now new.scanner ≡ more ++ h.others
 
-next-line : {view : View} {next : ℕ} {old new : GroupReader} (h : HasTexts view next old) (k : TakesLine view.source.now old new)
+next-line : {view : Walk} {next : ℕ} {old new : GroupReader} (h : HasTexts view next old) (k : TakesLine view.source.now old new)
     → old.scanner.at < next → IsNextLine view next old new h k
 next-line {view} {next} {old} {new} h k l =
     let line = held_line (encoding_of view.before.encoding) view.source.now new.scanner.line k.ending in
@@ -604,7 +650,7 @@ next-line {view} {next} {old} {new} h k l =
     split (i ∷ more) q is = record { more = more; rest = is ∙ cc; left = cc }
 
 -- One more line is text.
-pub texts-more : {view : View} {next : ℕ} {old new : GroupReader} → HasTexts view next old → (k : TakesLine view.source.now old new) → old.scanner.at < next
+pub texts-more : {view : Walk} {next : ℕ} {old new : GroupReader} → HasTexts view next old → (k : TakesLine view.source.now old new) → old.scanner.at < next
     → IsLineIn (encoding_of view.before.encoding) (bytes_of view.source.now new.scanner.line) → HasTexts view next new
 texts-more {view} {next} {old} {new} h k l text =
     let line = held_line (encoding_of view.before.encoding) view.source.now new.scanner.line k.ending in
@@ -636,7 +682,7 @@ texts-more {view} {next} {old} {new} h k l text =
     }
 
 -- The line that was taken isn't.
-pub texts-found : {view : View} {next : ℕ} {old new : GroupReader} → HasTexts view next old → (k : TakesLine view.source.now old new) → old.scanner.at < next
+pub texts-found : {view : Walk} {next : ℕ} {old new : GroupReader} → HasTexts view next old → (k : TakesLine view.source.now old new) → old.scanner.at < next
     → ¬ (IsLineIn (encoding_of view.before.encoding) (bytes_of view.source.now new.scanner.line)) → TellsIllFormed view (Some new.scanner.passed)
 texts-found {view} {next} {old} {new} h k l not_text =
     let line = held_line (encoding_of view.before.encoding) view.source.now new.scanner.line k.ending in
@@ -657,7 +703,7 @@ texts-found {view} {next} {old} {new} h k l not_text =
     )
 
 -- All were looked at.
-pub texts-all : {view : View} {next : ℕ} {s : GroupReader} → HasTexts view next s → (next ≤ s.scanner.at) ⊎ (s.scanner.is_done ≡ true)
+pub texts-all : {view : Walk} {next : ℕ} {s : GroupReader} → HasTexts view next s → (next ≤ s.scanner.at) ⊎ (s.scanner.is_done ≡ true)
     → AreTexts (encoding_of view.before.encoding) (lines_of view)
 texts-all {view} {next} {s} h (inl over) =
     let e = encoding_of view.before.encoding in
@@ -671,7 +717,7 @@ texts-all {view} {next} {s} h (inr done) =
     subst (AreTexts e) (sym h.division) (are-texts e h.kept h.rest h.texts (subst (AreTexts e) (sym rest) tt))
 
 -- A reader in the state before the group that was returned last is within the body.
-pub within-before : {view : View} {group : ViewedGroup} (s : GroupReader) → (v : IsViewed view group) → s.scanner ≡ view.before → IsWithin view.source.now s
+pub within-before : {view : Walk} {group : WalkedGroup} (s : GroupReader) → (v : IsViewed view group) → s.scanner ≡ view.before → IsWithin view.source.now s
 within-before {view} {group} s v same =
     let is : v.old.scanner ≡ s.scanner = v.before ∙ sym same in
     record {
@@ -679,60 +725,9 @@ within-before {view} {group} s v same =
       within_body = subst (λ sc. IsInBody sc view.source.now) is v.within_old.within_body;
     }
 
--- ---- the groups of a source
-
-pub viewed-none : {requested : Encoding} {source : List ℕ} {view : View} → IsViewOf requested source view
-    → HasViewed (encoding_of view.reader.scanner.encoding) source view.reader.scanner.at [] view
-viewed-none v = record {
-  source_is = v.source_is;
-  all = sym v.all;
-  placed = omega arith;
-  counted = v.none_passed;
-  encoding = refl;
-  opened = v.opened;
-}
-
--- One more was returned.
-pub viewed-more : {e : Encoding} {source : List ℕ} {start : ℕ} {groups : List (List HeldLine)} {old new : View} {group : ViewedGroup}
-    → HasViewed e source start groups old → (t : TakesView old group new) → HasViewed e source start (groups ++ t.viewed.takes.held ∷ []) new
-viewed-more {e} {source} {start} {groups} {old} {new} {group} h t =
-    let held = t.viewed.takes.held in
-    let same : new.source.now ≡ old.source.now = ap (λ v. let w : View = v in w.source.now) t.same in
-    let one : groups_bytes (held ∷ []) ≡ group_bytes held = append-nil (group_bytes held) in
-    let bytes : length (groups_bytes (groups ++ held ∷ [])) ≡ length (groups_bytes groups) + length (group_bytes held) =
-    ap length (groups_bytes-append groups (held ∷ []) ∙ ap (λ v. groups_bytes groups ++ v) one) ∙ length-append (groups_bytes groups) (group_bytes held) in
-    let lines : length (held_in (groups ++ held ∷ [])) ≡ length (held_in groups) + length held =
-    ap length (held_in-append groups (held ∷ []) ∙ ap (λ v. held_in groups ++ v) (append-nil held)) ∙ length-append (held_in groups) held in
-    let placed = h.placed in
-    let counted = h.counted in
-    let next = t.viewed.takes.span.next in
-    let starts = t.starts in
-    let number = t.number in
-    let passed = t.viewed.takes.passed in
-    let first = t.viewed.takes.number in
-    record {
-      source_is = same ∙ h.source_is;
-      all = h.all ∙ ap (λ v. groups ++ v) t.groups ∙ sym (append_assoc groups (held ∷ []) (groups_to_come new));
-      placed = omega arith;
-      counted = omega arith;
-      encoding = t.viewed.takes.encoding
-          ∙ ap (λ sc. let k : Scanner = sc in encoding_of k.encoding) (t.viewed.before ∙ ap (λ v. let w : View = v in w.before) t.same) ∙ h.encoding;
-      opened = t.opened;
-    }
-
--- All were returned: they are the groups of the body, and their bytes are the body.
-pub viewed-all : {e : Encoding} {source : List ℕ} {start : ℕ} {groups : List (List HeldLine)} {view : View} → HasViewed e source start groups view
-    → groups_to_come view ≡ [] → AreGroupsOf e (drop start source) groups × (groups_bytes groups ≡ drop start source)
-viewed-all {e} {source} {start} {groups} {view} h none =
-    let body = drop start source in
-    let all : held_groups_of e body ≡ groups = h.all ∙ ap (λ v. groups ++ v) none ∙ append-nil groups in
-    let are : AreGroupsOf e body groups = subst (AreGroupsOf e body) all (held_groups_of-meets e body) in
-    let ok = editable-bytes e (subst (λ v. unit_size v ≡ 1) h.encoding h.opened.bytes) in
-    (are, held-body e body groups ok are)
-
 -- ---- the order of the places
 
-pub view-ordered : {view : View} {group : ViewedGroup} → IsViewed view group → AreOrdered group (places_in view group)
+pub view-ordered : {view : Walk} {group : WalkedGroup} → IsViewed view group → AreOrdered group (places_in view group)
 view-ordered {view} {group} v =
     let b = left-before v in
     let held = b.first ∷ b.more in
@@ -791,7 +786,7 @@ adds-closed x h = elim (cases_Bool (is_comment_line x)) [
 ]
 
 -- The one line of such a group.
-record IsSingle (view : View) (group : ViewedGroup) : Type 0 where
+record IsSingle (view : Walk) (group : WalkedGroup) : Type 0 where
   first : HeldLine
   lines : lines_of view ≡ first ∷ []
   is : line_of view group ≡ first.bytes
@@ -799,7 +794,7 @@ record IsSingle (view : View) (group : ViewedGroup) : Type 0 where
   decoded : decoded_line (encoding_of view.before.encoding) first.bytes ≡ first.text
   add : adds true first.text ≡ first.text
 
-plain-single : {view : View} {group : ViewedGroup} → IsViewed view group → IsPlain view group → IsSingle view group
+plain-single : {view : Walk} {group : WalkedGroup} → IsViewed view group → IsPlain view group → IsSingle view group
 plain-single {view} {group} v p =
     let body = view.source.now in
     let before = left-before v in
@@ -842,14 +837,14 @@ all-texts [] = tt
 all-texts (h ∷ hs) = (tt, all-texts hs)
 
 -- Its line is text of the encoding.
-pub plain-texts : {view : View} {group : ViewedGroup} → IsViewed view group → IsPlain view group → AreTexts (encoding_of view.before.encoding) (lines_of view)
+pub plain-texts : {view : Walk} {group : WalkedGroup} → IsViewed view group → IsPlain view group → AreTexts (encoding_of view.before.encoding) (lines_of view)
 plain-texts {view} {group} v p =
     let e = encoding_of view.before.encoding in
     let s = plain-single v p in
     subst (AreTexts e) (sym s.lines) (line-text e s.first.bytes (viewed-editable v) (subst IsUtf8 s.is v.takes.held_text.text), tt)
 
 -- A position in its line is one in its bytes.
-pub plain-place : {view : View} {group : ViewedGroup} (position : ℕ) → (v : IsViewed view group) → IsPlain view group
+pub plain-place : {view : Walk} {group : WalkedGroup} (position : ℕ) → (v : IsViewed view group) → IsPlain view group
     → IsCharBoundary (line_of view group) position
     → position ≤ length (line_of view group) → group.group.start + position ≡ place_in view (length (chars (take position (line_of view group))))
 plain-place {view} {group} position v p b l =
@@ -871,19 +866,3 @@ plain-place {view} {group} position v p b l =
     ap (λ m. length (head_of e m bytes)) zero_indent ∙ ap (λ d. length (head_of e n d)) (sym s.is) in
     let starts : group.group.start ≡ view.before.at = v.takes.starts ∙ ap (λ sc. let k : Scanner = sc in k.at) v.before in
     omega arith
-
-pub view-meant : {view : View} {group : ViewedGroup} → IsViewed view group → AreMeant view (counts_of (text_in view))
-view-meant {view} {group} v =
-    let x = text_in view in
-    let c = counts_of x in
-    let o = counts-ordered (split_of x) x (split_of-meets x) in
-    let key = o.key in
-    let between = o.between in
-    let value = o.value in
-    let end = o.end in
-    record {
-      key_start = viewed-meets c.key_start v (omega arith);
-      key_end = viewed-meets c.key_end v (omega arith);
-      value_start = viewed-meets c.value_start v (omega arith);
-      value_end = viewed-meets c.value_end v end;
-    }

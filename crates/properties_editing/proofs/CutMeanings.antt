@@ -1,10 +1,11 @@
 -- What a cut of a group's logical line means.
-use Rattle.std.proofs.Common.{◌≡◌, ◌<◌, ◌≤◌, ℕ, zero, suc, ◌+◌, ◌-◌, Bool, true, false, List, [], ◌∷◌, ◌++◌, length, take, drop, refl, inl, inr, ap, ap₂, sym, ◌∙◌, subst, arith, append-nil, append_assoc, length-append}
+use Rattle.std.proofs.Common.{◌≡◌, ◌≢◌, ◌<◌, ◌≤◌, ℕ, zero, suc, ◌+◌, ◌-◌, Bool, true, false, List, [], ◌∷◌, ◌++◌, length, take, drop, refl, inl, inr, ap, ap₂, sym, ◌∙◌, subst, arith, append-nil, append_assoc, length-append}
 use Rattle.std.specs.Prelude.{nat_le, ◌||◌, not}
 use Rattle.std.proofs.lemmas.Bool.{cases_Bool}
 use Rattle.std.proofs.lemmas.Bool.Decides.{nat_tests}
 use Rattle.std.proofs.lemmas.List.{take-append-le, take-append-drop, length-take-le, length-drop}
 use Rattle.properties_format.specs.Encoding.{Encoding}
+use Rattle.properties_format.specs.Text.{without_leading_blanks}
 use Rattle.properties_format.specs.Lines.{is_comment_line, is_open, joined}
 use Rattle.properties_format.specs.Edited.{is_editable}
 use Rattle.properties_format.specs.Body.{HeldLine, as_lines, ending_bytes, group_bytes}
@@ -67,17 +68,20 @@ meets-here e first n h hs ok d l =
       is_head = head.head_text;
       is_tail = head.tail_text;
       up_to = sym (indent-front first x q r rest);
+      some = λ n k. n (sym (indent-front first x q r rest) ∙ k);
+      later = λ n. absurd (n refl);
       number = ap (λ c. let w : Cut = c in w.line) (cut-here e first n h hs l);
       kept_size = ap (λ c. let w : Cut = c in w.before) (cut-here e first n h hs l);
       head_size = ap (λ c. let w : Cut = c in w.head) (cut-here e first n h hs l) ∙ ap (λ m. length (head_of e m h.bytes)) same;
     }
 
 -- One more line comes before the cut.
-meets-past : (e : Encoding) (first : Bool) (h : HeldLine) (hs : List HeldLine) (before : List ℕ) (cut : Cut) → IsCutOf e false hs before cut
-    → IsCutOf e first (h ∷ hs) (adds first h.text ++ before) (past h cut)
-meets-past e first h hs before cut m =
+meets-past : (e : Encoding) (first : Bool) (h : HeldLine) (hs : List HeldLine) (before : List ℕ) (cut : Cut) → before ≢ []
+    → IsCutOf e false hs before cut → IsCutOf e first (h ∷ hs) (adds first h.text ++ before) (past h cut)
+meets-past e first h hs before cut some m =
     let size = m.kept_size in
     let number = m.number in
+    let added : without_leading_blanks m.head_text ≢ [] = subst (λ b. without_indent b m.head_text ≢ []) (later m.kept) (m.some some) in
     let sizes : length (h.bytes ++ (ending_bytes h.ending ++ group_bytes m.kept))
     ≡ length h.bytes + (length (ending_bytes h.ending) + length (group_bytes m.kept)) =
     length-append h.bytes _ ∙ ap (λ n. length h.bytes + n) (length-append (ending_bytes h.ending) (group_bytes m.kept)) in
@@ -96,6 +100,8 @@ meets-past e first h hs before cut m =
       is_tail = m.is_tail;
       up_to = ap (λ v. adds first h.text ++ v) (m.up_to ∙ ap (λ b. added_lines false m.kept ++ without_indent b m.head_text) (later m.kept))
           ∙ sym (append_assoc (adds first h.text) (added_lines false m.kept) (without_indent false m.head_text));
+      some = λ n. added;
+      later = λ n. added;
       number = omega arith;
       kept_size = omega arith;
       head_size = m.head_size;
@@ -126,9 +132,11 @@ cut-meets e first n h (i ∷ is) ok d l =
       | inr k ↦
           let over : length a < n = grind (arith, nat_tests) in
           let m = cut-meets e false (n - length a) i is ok d.1 (omega arith) in
+          let count : length (take (n - length a) rest) ≡ n - length a = length-take-le (n - length a) rest (omega arith) in
+          let some : take (n - length a) rest ≢ [] = λ none. (let zero : length (take (n - length a) rest) ≡ 0 = ap length none in omega arith) in
           subst (λ c. IsCutOf e first (h ∷ i ∷ is) (take n (a ++ rest)) c) (sym (cut-past e first n h (i ∷ is) over))
           (subst (λ v. IsCutOf e first (h ∷ i ∷ is) v (past h (cut_at e false (n - length a) (i ∷ is)))) (sym (take-past n a rest over))
-          (meets-past e first h (i ∷ is) (take (n - length a) rest) (cut_at e false (n - length a) (i ∷ is)) m))
+          (meets-past e first h (i ∷ is) (take (n - length a) rest) (cut_at e false (n - length a) (i ∷ is)) some m))
     ]
 
 -- ---- the lines of a group

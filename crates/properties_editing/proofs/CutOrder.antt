@@ -113,15 +113,16 @@ cut-unended e first n h (i ∷ is) l =
 
 -- ---- counts
 
-pub record AreCountsOrdered (x : List ℕ) (counts : Counts) : Type 0 where
-  pub key : counts.key_start ≤ counts.key_end
-  pub between : counts.key_end ≤ counts.value_start
-  pub value : counts.value_start ≤ counts.value_end
-  pub end : counts.value_end ≤ length x
+-- the counts of a comment, by its division
+pub record AreOfComment (x text : List ℕ) (d : split.IsComment x text) : Type 0 where
+  pub key_start : (counts_by (split.comment text) x).key_start ≡ length d.indent
+  pub key_end : (counts_by (split.comment text) x).key_end ≡ length d.indent + 1
+  pub value_start : (counts_by (split.comment text) x).value_start ≡ length d.indent + 1 + length d.trimmed.before
+  pub value_end : (counts_by (split.comment text) x).value_end ≡ length d.indent + 1 + length d.trimmed.before + length text
+  pub whole : length x ≡ length d.indent + 1 + length d.trimmed.before + length text + length d.trimmed.after
 
-pub counts-ordered : (s : split.Logical) (x : List ℕ) → IsSplit x s → AreCountsOrdered x (counts_by s x)
-counts-ordered split.blank x h = record { key = omega arith; between = omega arith; value = omega arith; end = omega arith }
-counts-ordered (split.comment text) x d =
+pub comment-counts : (x text : List ℕ) (d : split.IsComment x text) → AreOfComment x text d
+comment-counts x text d =
     let t = d.trimmed in
     let full : is_blank d.sign ≡ false = (let k = d.is_sign in grind (arith)) in
     let y : without_leading_blanks x ≡ d.sign ∷ d.rest =
@@ -136,8 +137,17 @@ counts-ordered (split.comment text) x d =
     let c : length (without_leading_blanks (after_sign x)) ≡ length text + length t.after = ap length rest ∙ length-append text t.after in
     let w : length d.rest ≡ length t.before + length (text ++ t.after) = ap length t.whole ∙ length-append t.before (text ++ t.after) in
     let z = length-append text t.after in
-    record { key = omega arith; between = omega arith; value = omega arith; end = omega arith }
-counts-ordered (split.pair key value) x d =
+    record { key_start = omega arith; key_end = omega arith; value_start = omega arith; value_end = omega arith; whole = omega arith }
+
+-- the counts of a pair, by its division
+pub record AreOfPair (x key value : List ℕ) (d : split.IsPair x key value) : Type 0 where
+  pub key_start : (counts_by (split.pair key value) x).key_start ≡ length d.indent
+  pub key_end : (counts_by (split.pair key value) x).key_end ≡ length d.indent + length key
+  pub value_start : (counts_by (split.pair key value) x).value_start ≡ length d.indent + length key + length d.between
+  pub whole : length x ≡ length d.indent + length key + length d.between + length value
+
+pub pair-counts : (x key value : List ℕ) (d : split.IsPair x key value) → AreOfPair x key value d
+pair-counts x key value d =
     let core = key ++ (d.between ++ value) in
     let y : without_leading_blanks x ≡ core = ap without_leading_blanks d.whole ∙ without_leading_blanks-only d.indent core d.indent_blank d.begins_full in
     let a : length (without_leading_blanks x) ≡ length core = ap length y in
@@ -146,4 +156,28 @@ counts-ordered (split.pair key value) x d =
     let all : length x ≡ length d.indent + length core = ap length d.whole ∙ length-append d.indent core in
     let s = length-append key (d.between ++ value) in
     let t = length-append d.between value in
+    record { key_start = omega arith; key_end = omega arith; value_start = omega arith; whole = omega arith }
+
+pub record AreCountsOrdered (x : List ℕ) (counts : Counts) : Type 0 where
+  pub key : counts.key_start ≤ counts.key_end
+  pub between : counts.key_end ≤ counts.value_start
+  pub value : counts.value_start ≤ counts.value_end
+  pub end : counts.value_end ≤ length x
+
+pub counts-ordered : (s : split.Logical) (x : List ℕ) → IsSplit x s → AreCountsOrdered x (counts_by s x)
+counts-ordered split.blank x h = record { key = omega arith; between = omega arith; value = omega arith; end = omega arith }
+counts-ordered (split.comment text) x d =
+    let c = comment-counts x text d in
+    let a = c.key_start in
+    let b = c.key_end in
+    let s = c.value_start in
+    let e = c.value_end in
+    let w = c.whole in
+    record { key = omega arith; between = omega arith; value = omega arith; end = omega arith }
+counts-ordered (split.pair key value) x d =
+    let c = pair-counts x key value d in
+    let a = c.key_start in
+    let b = c.key_end in
+    let s = c.value_start in
+    let w = c.whole in
     record { key = omega arith; between = omega arith; value = omega arith; end = omega arith }

@@ -7,6 +7,7 @@ pub mod CutMeanings
 pub mod CutOrder
 pub mod PlainGroups
 pub mod BodyViews
+pub mod OpenViews
 pub mod NamedKeys
 pub mod NewPairs
 pub mod LastPairs

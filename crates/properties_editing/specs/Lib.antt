@@ -1,4 +1,5 @@
 pub mod Editing
+pub mod Views
 pub mod Documents
 pub mod Plans
 pub mod Private

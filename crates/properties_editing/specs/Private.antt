@@ -1,6 +1,7 @@
 pub mod BodyGroups
 pub mod BodyCuts
 pub mod BodyViews
+pub mod OpenViews
 pub mod BodyValues
 pub mod BodyParts
 pub mod ChangedParts

@@ -1,93 +1,56 @@
-// A source as its groups: blanks, comments and pairs, each with the places of its parts.
+// A source as its groups, one after another, with the places of their parts.
 
-ghost use Rattle.std.specs.Prelude.{◌≡◌, IfOk, true, length, take};
-ghost use Rattle.std.specs.Str.{IsCharBoundary, chars};
+ghost use Rattle.std.specs.Prelude.{◌≡◌, ◌<◌, IfOk, OnSome, length};
+ghost use Rattle.std.specs.Str.{chars};
 ghost use Rattle.properties_text.specs.Encoding.{encoding_of};
-ghost use Rattle.properties_text.specs.Parsing.{IsSpan, bytes_in};
-ghost use Rattle.properties_editing.specs.Private.BodyViews.{AreMeant, AreOrdered, ArePartsOf, FindsFlaw, FindsKeyFlaw, FindsPartFlaw, GivesView, IsOpened, IsPlain, IsViewed, OpensView, line_of, TellsFlaw, TellsIllFormed, counts_of, place_in, places_in, text_in};
+ghost use Rattle.properties_editing.specs.Views.{AreOrdered, ArePlaces, GivesNext, IsRawKey, IsRawValue, OpensView, TellsFlaw, TellsIllFormed, line_of};
 
-use crate::cuts::{count_characters, find_cut};
-use crate::groups::{Group, GroupReader, is_line};
-use crate::source::{BodyStart, SourceOptions};
-use properties_items::error::PropertiesError;
-use properties_lines::scanner::Scanner;
-use properties_text::encoding::{Encoding, LineEncoding};
-use properties_text::escape::{Malformed, first_malformed};
-use properties_text::parse::{ParsedSpans, Span, leading_blanks, parse_spans};
+use crate::group::{Flaw, PartPlaces, ViewedGroup};
+use crate::walk::{Walk, WalkedGroup};
+use properties_items::error::{PropertiesError, make};
+use properties_text::encoding::Encoding;
 use std::alloc::{AllocError, Global};
+use std::marker::Model;
 
-/// What a group of lines is.
-#[derive(Clone, Copy)]
-pub enum GroupKind {
-    /// Blanks and nothing else.
-    Blank,
-    /// A comment.
-    Comment,
-    /// A pair.
-    Pair,
-}
-
-/// The parts of a logical line, as spans of its bytes.
-#[derive(Clone, Copy)]
-pub struct Parts {
-    /// What it is.
-    pub kind: GroupKind,
-    /// The key, or the sign of a comment.
-    pub key: Span,
-    /// The value, or the text of a comment.
-    pub value: Span,
-}
-
-/// A group of a source. Positions are counted from the source's first byte.
-#[derive(Clone, Copy)]
-pub struct ViewedGroup {
-    /// Its lines.
-    pub group: Group,
-    /// The position of the byte after it, where the next group begins.
-    pub next: usize,
-    /// The parts of its logical line.
-    pub parts: Parts,
-}
-
-/// The positions of a group's parts in the source, which don't descend.
-#[derive(Clone, Copy)]
-pub struct Places {
-    /// Where the key begins.
-    pub key_start: usize,
-    /// Where the key ends.
-    pub key_end: usize,
-    /// Where the value begins.
-    pub value_start: usize,
-    /// Where the value ends.
-    pub value_end: usize,
-}
-
-/// A malformed escape.
-#[derive(Clone, Copy)]
-pub struct Flaw {
-    /// How it is malformed.
-    pub how: Malformed,
-    /// The position of its backslash in the source.
-    pub place: usize,
-    /// The number of the natural line that the backslash is in.
-    pub number: usize,
-    /// The backslash is this byte of the line, counted from 1.
-    pub column: usize,
-}
-
-/// The groups of a source, in order. They are those of its body, after any byte order mark.
+/// A source as its groups, in order: blank lines, comments and pairs, each with its lines, its texts as they stand, and
+/// the places of its parts. Together the groups are the source, but for a byte order mark. Use it in a program that
+/// shows where something is, such as a linter or an editor that colours a file.
+///
+/// Nothing is refused but UTF-16: [`flaw`](View::flaw) says which escape is malformed, and
+/// [`ill_formed`](View::ill_formed) which line isn't UTF-8. The calls that take no group speak of the one that `next`
+/// returned last; before the first group, and after a `next` that returned none, of an empty group.
+///
+/// ```text
+/// let mut view = View::open(alloc, b"# doors\nfront = 80\n", Encoding::UTF_8)?;
+/// while let Some(group) = view.next()? {
+///     let places = view.places()?;
+///     println!(rt; "{}: {} at {}", group.line_number, view.raw_key(), places.key_start)?;
+/// }
+/// // It prints `1: # at 0` and `2: front at 8`.
+/// ```
 #[derive(Drop)]
 pub struct View<'a> {
-    alloc: Global,
-    source: &'a [u8],
-    // The state before the group that was returned last.
-    before: Scanner,
-    reader: GroupReader,
+    walk: Walk<'a>,
+    group: Option<WalkedGroup>,
+}
+
+impl<'a> Model for View<'a> {
+    ghost use Rattle.properties_editing.specs.Views.{OpenView};
+
+    ghost Value = { OpenView };
+
+    ghost use Rattle.properties_editing.specs.Private.OpenViews.{open_view, IsView};
+
+    ghost view = { open_view };
+
+    ghost invariant = { IsView };
 }
 
 impl<'a> View<'a> {
-    /// Starts before the first group of a source. A byte order mark selects its encoding, and without one the requested
-    /// encoding applies. UTF-16 is refused.
+    /// Starts before the first group of a source. A byte order mark selects the encoding, and without one the requested
+    /// encoding applies.
+    ///
+    /// UTF-16 is refused with the error `Unsupported`, as edits refuse it.
     pub fn open(
         alloc: Global,
         source: &'a [u8],
@@ -95,236 +58,177 @@ impl<'a> View<'a> {
     ) -> Result<View<'a>, PropertiesError>
         ensures { OpensView (encoding_of encoding) source.now result }
     {
-        let opened = BodyStart::open(source, SourceOptions::new(encoding))?;
-        let before = Scanner::in_body_at(opened.encoding, opened.start);
-        Ok(View {
-            alloc,
-            source,
-            before,
-            reader: GroupReader::from_state(alloc, before),
-        })
+        let walk = Walk::open(alloc, source, encoding)?;
+        Ok(View { walk, group: None })
     }
 
     /// Returns the encoding in force.
     pub fn encoding(&self) -> Encoding
-        ensures { result ≡ self.now.reader.scanner.encoding }
+        ensures { encoding_of result ≡ self.now.encoding }
     {
-        self.reader.encoding()
+        self.walk.encoding()
     }
 
-    /// Returns the next group, or `None` after the last one.
+    /// Returns the next group, or `None` after the last one. Every group has bytes: an empty line after a last line
+    /// ending is none.
+    ///
+    /// Fails only if memory runs out. Then another call tries the same group again.
+    ///
+    /// ```text
+    /// let mut view = View::open(alloc, b"a = 1\n\nb = \\\n  2", Encoding::UTF_8)?;
+    /// let mut kinds = Vec::new(alloc);
+    /// while let Some(group) = view.next()? {
+    ///     kinds.push((group.kind, group.line_number, group.line_count))?;
+    /// }
+    /// assert!(rt; kinds.as_slice() == [
+    ///     (GroupKind::Pair, 1, 1),
+    ///     (GroupKind::Blank, 2, 1),
+    ///     (GroupKind::Pair, 3, 2),
+    /// ].as_slice());
+    /// ```
     pub fn next(&mut self) -> Result<Option<ViewedGroup>, AllocError>
-        requires { IsOpened self.old }
-        ensures { GivesView self.old result self.new }
+        ensures gives { GivesNext self.old result self.new }
+        ensures nearer { IfOk result (λ group. OnSome group (length self.new.to_come < length self.old.to_come)) }
     {
-        self.before = self.reader.state();
-        let Some(group) = self.reader.next(self.source)? else {
+        self.group = None;
+        let Some(group) = self.walk.next()? else {
             return Ok(None);
         };
-        let parts = parts_of(self.reader.line(self.source, group));
+        self.group = Some(group);
         Ok(Some(ViewedGroup {
-            group,
-            next: self.reader.place(),
-            parts,
+            kind: group.parts.kind,
+            line_number: group.group.number,
+            line_count: self.walk.line_count(group),
+            start: group.group.start,
+            end: group.group.end,
+            next: group.next,
         }))
     }
 
-    /// Returns the logical line of the group that was returned last.
-    pub fn line(&self, group: ViewedGroup) -> &str
-        requires { IsViewed self.now group }
-        ensures { result.now ≡ line_of self.now group }
+    /// Returns the logical line of the group: its lines joined, with escapes as they stand.
+    ///
+    /// ```text
+    /// let mut view = View::open(alloc, b"key = \\u0041\\\n    B", Encoding::UTF_8)?;
+    /// view.next()?;
+    /// assert_eq!(rt; view.line(), "key = \\u0041B");
+    /// ```
+    pub fn line(&self) -> &str
+        ensures { chars result.now ≡ line_of self.now }
     {
-        self.reader.line(self.source, group.group)
-    }
-
-    /// Returns the key of the pair that was returned last, as it stands, with its escapes; or the sign of a comment.
-    pub fn raw_key(&self, group: ViewedGroup) -> &str
-        requires { IsViewed self.now group }
-        ensures { result.now ≡ bytes_in (line_of self.now group) group.parts.key }
-    {
-        group.parts.key.cut(self.line(group))
-    }
-
-    /// Returns the value of the pair that was returned last, or the text of a comment, as it stands.
-    pub fn raw_value(&self, group: ViewedGroup) -> &str
-        requires { IsViewed self.now group }
-        ensures { result.now ≡ bytes_in (line_of self.now group) group.parts.value }
-    {
-        group.parts.value.cut(self.line(group))
-    }
-
-    /// Returns the number of the first natural line of the group that was returned last whose bytes aren't text of the
-    /// encoding, if there is one.
-    pub fn ill_formed(&self, group: ViewedGroup) -> Result<Option<usize>, AllocError>
-        requires { IsViewed self.now group }
-        ensures { IfOk result (λ number. TellsIllFormed self.now number) }
-    {
-        if let Encoding::WINDOWS_1252 = self.before.encoding() {
-            // Each byte is a character.
-            return Ok(None);
+        match self.group {
+            Some(group) => self.walk.line(group),
+            None => "",
         }
-        if self.is_plain(group) {
-            return Ok(None);
-        }
-        let mut lines = GroupReader::from_state(self.alloc, self.before);
-        while lines.place() < group.next && lines.find_line(self.source)? {
-            let line = lines.raw_line();
-            let bytes = &self.source[line.start..line.end];
-            if !is_line(lines.encoding(), line, bytes) {
-                return Ok(Some(lines.number()));
-            }
-        }
-        Ok(None)
     }
 
-    /// Returns the places of the parts of the group that was returned last.
-    pub fn places(&self, group: ViewedGroup) -> Result<Places, AllocError>
-        requires { IsViewed self.now group }
-        ensures places { IfOk result (λ places. places ≡ places_in self.now group) }
-        ensures meant { AreMeant self.now (counts_of (text_in self.now)) }
-        ensures ordered { IfOk result (λ places. AreOrdered group places) }
+    /// Returns the key of a pair as it stands, with its escapes; the sign of a comment; or an empty text of a blank line.
+    ///
+    /// ```text
+    /// let mut view = View::open(alloc, b"a\\ b = c", Encoding::UTF_8)?;
+    /// view.next()?;
+    /// assert_eq!(rt; view.raw_key(), "a\\ b");
+    /// ```
+    pub fn raw_key(&self) -> &str
+        ensures { IsRawKey (line_of self.now) (chars result.now) }
     {
-        let places = self.find_places(group)?;
-        Ok(places)
+        match self.group {
+            Some(group) => self.walk.raw_key(group),
+            None => "",
+        }
     }
 
-    fn find_places(&self, group: ViewedGroup) -> Result<Places, AllocError>
-        requires { IsViewed self.now group }
-        ensures { IfOk result (λ places. places ≡ places_in self.now group) }
+    /// Returns the value of a pair as it stands, with its escapes; the text of a comment, without the blanks around it;
+    /// or an empty text of a blank line.
+    ///
+    /// ```text
+    /// let mut view = View::open(alloc, b"#  C:\\users \n", Encoding::UTF_8)?;
+    /// view.next()?;
+    /// assert_eq!(rt; view.raw_value(), "C:\\users");
+    /// ```
+    pub fn raw_value(&self) -> &str
+        ensures { IsRawValue (line_of self.now) (chars result.now) }
     {
-        let end = group.group.end;
-        let parts = group.parts;
-        if let GroupKind::Blank = parts.kind {
-            return Ok(Places {
+        match self.group {
+            Some(group) => self.walk.raw_value(group),
+            None => "",
+        }
+    }
+
+    /// Returns where the parts of the group are in the source.
+    ///
+    /// ```text
+    /// let mut view = View::open(alloc, b"  a = b\n", Encoding::UTF_8)?;
+    /// view.next()?;
+    /// let places = view.places()?;
+    /// assert!(rt; (places.key_start, places.key_end) == (2, 3));
+    /// assert!(rt; (places.value_start, places.value_end) == (6, 7));
+    /// ```
+    ///
+    /// Fails only if memory runs out.
+    pub fn places(&self) -> Result<PartPlaces, AllocError>
+        ensures places { IfOk result (λ places. ArePlaces self.now places) }
+        ensures ordered { IfOk result (λ places. AreOrdered self.now places) }
+    {
+        let Some(group) = self.group else {
+            let end = self.walk.place();
+            return Ok(PartPlaces {
                 key_start: end,
                 key_end: end,
                 value_start: end,
                 value_end: end,
             });
-        }
-        let key_start = self.place(group, parts.key.start)?;
-        let key_end = self.place(group, parts.key.end)?;
-        let value_start = self.place(group, parts.value.start)?;
-        let value_end = match parts.kind {
-            GroupKind::Comment => self.place(group, parts.value.end)?,
-            _ => end,
         };
-        Ok(Places {
-            key_start,
-            key_end,
-            value_start,
-            value_end,
-        })
+        let places = self.walk.places(group)?;
+        Ok(places)
     }
 
-    /// Returns the first malformed escape of the group that was returned last, if it has one.
-    pub fn flaw(&self, group: ViewedGroup) -> Result<Option<Flaw>, AllocError>
-        requires { IsViewed self.now group }
+    /// Returns the first malformed escape of the group, if it has one: of its key, then of its value; or of the text of
+    /// a comment, in which a program may ignore it, as Java does.
+    ///
+    /// ```text
+    /// let mut view = View::open(alloc, b"a = \\\n  b \\u12", Encoding::UTF_8)?;
+    /// view.next()?;
+    /// if let Some(flaw) = view.flaw()? {
+    ///     println!(rt; "{}:{}: {}", flaw.line_number, flaw.column, flaw.kind)?;
+    /// }
+    /// // It prints `2:5: Malformed \uxxxx encoding: not enough digits.`
+    /// ```
+    ///
+    /// Fails only if memory runs out.
+    pub fn flaw(&self) -> Result<Option<Flaw>, AllocError>
         ensures { IfOk result (λ flaw. TellsFlaw self.now flaw) }
     {
-        let line = self.line(group);
-        let Some((position, how)) = line_flaw(line, group.parts) else {
+        let Some(group) = self.group else {
             return Ok(None);
         };
-        let count = count_characters(&line.as_bytes()[..position]);
-        let lines = GroupReader::from_state(self.alloc, self.before);
-        // A cut after the backslash is in its line.
-        let cut = find_cut(lines, self.source, count + 1)?;
-        Ok(Some(Flaw {
-            how,
-            place: cut.at - 1,
-            number: cut.number,
-            column: cut.at - cut.line_start,
-        }))
-    }
-
-    // Returns whether the logical line of the group that was returned last is its bytes.
-    fn is_plain(&self, group: ViewedGroup) -> bool
-        ensures { result ≡ true → IsPlain self.now group }
-    {
-        self.reader.is_borrowed()
-            && !group.group.is_open
-            && self.reader.number() == group.group.number
-    }
-
-    // Returns the place of a position in the logical line of the group that was returned last.
-    #[inline(always)]
-    fn place(&self, group: ViewedGroup, position: usize) -> Result<usize, AllocError>
-        requires viewed { IsViewed self.now group }
-        requires whole { IsCharBoundary (line_of self.now group) position }
-        ensures { IfOk result (λ place.
-            place ≡ place_in self.now (length (chars (take position (line_of self.now group))))) }
-    {
-        if self.is_plain(group) {
-            return Ok(group.group.start + position);
+        match self.walk.flaw(group)? {
+            Some(found) => Ok(Some(Flaw {
+                kind: make::malformed_kind(found.how),
+                place: found.place,
+                line_number: found.number,
+                column: found.column,
+            })),
+            None => Ok(None),
         }
-        let line = self.line(group).as_bytes();
-        let count = count_characters(&line[..position]);
-        let lines = GroupReader::from_state(self.alloc, self.before);
-        Ok(find_cut(lines, self.source, count)?.at)
     }
-}
 
-// Returns the parts of a logical line.
-fn parts_of(line: &str) -> Parts
-    ensures { ArePartsOf line.now result }
-{
-    match parse_spans(line) {
-        None => Parts {
-            kind: GroupKind::Blank,
-            key: Span {
-                start: line.len(),
-                end: line.len(),
-            },
-            value: Span {
-                start: line.len(),
-                end: line.len(),
-            },
-        },
-        Some(ParsedSpans::Comment(text)) => {
-            let sign = leading_blanks(line.as_bytes());
-            Parts {
-                kind: GroupKind::Comment,
-                key: Span {
-                    start: sign,
-                    end: sign + 1,
-                },
-                value: text,
-            }
-        }
-        Some(ParsedSpans::KVPair(key, value)) => Parts {
-            kind: GroupKind::Pair,
-            key,
-            value,
-        },
+    /// Returns the number of the first natural line of the group whose bytes aren't well-formed UTF-8, if there is one.
+    /// In windows-1252 there is none.
+    ///
+    /// ```text
+    /// let mut view = View::open(alloc, b"a = \\\n  \xff", Encoding::UTF_8)?;
+    /// view.next()?;
+    /// assert!(rt; view.ill_formed()? == Some(2));
+    /// ```
+    ///
+    /// Fails only if memory runs out.
+    pub fn ill_formed(&self) -> Result<Option<usize>, AllocError>
+        ensures { IfOk result (λ number. TellsIllFormed self.now number) }
+    {
+        let Some(group) = self.group else {
+            return Ok(None);
+        };
+        let number = self.walk.ill_formed(group)?;
+        Ok(number)
     }
-}
-
-// Returns the position of the first malformed escape of a logical line, and how it is malformed, if it has one.
-fn line_flaw(line: &str, parts: Parts) -> Option<(usize, Malformed)>
-    requires { ArePartsOf line.now parts }
-    ensures { FindsFlaw line.now result }
-{
-    match key_flaw(line, parts) {
-        Some(flaw) => Some(flaw),
-        None => part_flaw(line, parts.value),
-    }
-}
-
-fn key_flaw(line: &str, parts: Parts) -> Option<(usize, Malformed)>
-    requires { ArePartsOf line.now parts }
-    ensures { FindsKeyFlaw line.now parts result }
-{
-    match parts.kind {
-        GroupKind::Pair => part_flaw(line, parts.key),
-        _ => None,
-    }
-}
-
-fn part_flaw(line: &str, part: Span) -> Option<(usize, Malformed)>
-    requires { IsSpan line.now part }
-    ensures { FindsPartFlaw line.now part result }
-{
-    let (at, how) = first_malformed(LineEncoding::Utf8, part.cut(line).as_bytes())?;
-    Some((part.start + at, how))
 }

@@ -31,6 +31,7 @@ mod reading;
 mod script;
 mod sinks;
 mod table;
+mod views;
 mod writing;
 
 use reading::Pace;

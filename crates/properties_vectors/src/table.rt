@@ -9,6 +9,7 @@ use crate::labels::check_label;
 use crate::notation::{Clause, Halt, Row, clauses};
 use crate::outcome::Outcome;
 use crate::reading::{Pace, check_compared, check_printed, check_reading};
+use crate::views::check_view;
 use crate::writing::maps::check_maps;
 use crate::writing::{Words, check_writing};
 use java_properties::Encoding;
@@ -35,6 +36,7 @@ enum Kind {
     GetPairs,
     Convert,
     Label,
+    View,
 }
 
 // What a heading says of the rows below it.
@@ -129,6 +131,7 @@ fn kind_of(word: &str) -> Option<Kind> {
         "get-pairs" => Some(Kind::GetPairs),
         "convert" => Some(Kind::Convert),
         "label" => Some(Kind::Label),
+        "view" => Some(Kind::View),
         _ => None,
     }
 }
@@ -184,6 +187,7 @@ fn outcome_of(
         Kind::GetPairs => check_get_pairs(row, &mut outcome)?,
         Kind::Convert => check_converting(row, &mut outcome)?,
         Kind::Label => check_label(row, &mut outcome)?,
+        Kind::View => check_view(row, &mut outcome)?,
     }
     Ok(outcome)
 }

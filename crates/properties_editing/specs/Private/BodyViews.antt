@@ -8,11 +8,11 @@ use Rattle.properties_items.specs.declared.error.ErrorKind.TheVariants as kind_o
 use Rattle.properties_items.specs.declared.error.PropertiesError.{PropertiesError}
 use Rattle.properties_format.specs.Text.{backslash, without_leading_blanks}
 use Rattle.properties_format.specs.Escapes as format
-use Rattle.properties_format.specs.Escapes.{letter_u, Breaks, Means}
+use Rattle.properties_format.specs.Escapes.{letter_u, Breaks}
 use Rattle.properties_format.specs.Lines.{joined}
 use Rattle.properties_format.specs.Split.{Logical, blank, comment, pair}
 use Rattle.properties_format.specs.Computed.Split.{split_of}
-use Rattle.properties_format.specs.Body.{HeldLine, as_lines, held_in, group_bytes, groups_bytes}
+use Rattle.properties_format.specs.Body.{HeldLine, as_lines}
 use Rattle.properties_format.specs.Computed.Body.{held_groups_of}
 use Rattle.properties_format.specs.Computed.Valued.{after_key, written_value}
 use Rattle.properties_text.specs.Encoding.{encoding_of}
@@ -21,27 +21,23 @@ use Rattle.properties_text.specs.Escaping.{malformed_in}
 use Rattle.properties_text.specs.declared.escape.Malformed.{Malformed}
 use Rattle.properties_text.specs.declared.parse.Span.{Span}
 use Rattle.properties_lines.specs.LogicalLine.{IsLineIn, is_natural}
+use Rattle.properties_editing.specs.Views.{IsWhole, kind_of, with_bytes}
 use Rattle.properties_editing.specs.Private.BodyGroups.{IsWithin, TakesGroup, groups_left, text_of}
 use Rattle.properties_editing.specs.Private.BodyCuts.{Cut, IsCutOf, cut_at, cut_size}
 use Rattle.properties_editing.specs.declared.groups.GroupReader.{GroupReader}
-use Rattle.properties_editing.specs.declared.view.Flaw.{Flaw}
-use Rattle.properties_editing.specs.declared.view.GroupKind.{GroupKind}
-use Rattle.properties_editing.specs.declared.view.GroupKind.TheVariants as kind
-use Rattle.properties_editing.specs.declared.view.Parts.{Parts}
-use Rattle.properties_editing.specs.declared.view.Places.{Places}
-use Rattle.properties_editing.specs.declared.view.View.{View}
-use Rattle.properties_editing.specs.declared.view.ViewedGroup.{ViewedGroup}
+use Rattle.properties_editing.specs.declared.walk.FoundFlaw.{FoundFlaw}
+use Rattle.properties_editing.specs.declared.group.GroupKind.{GroupKind}
+use Rattle.properties_editing.specs.declared.group.GroupKind.TheVariants as kind
+use Rattle.properties_editing.specs.declared.walk.Parts.{Parts}
+use Rattle.properties_editing.specs.declared.group.PartPlaces.{PartPlaces}
+use Rattle.properties_editing.specs.declared.walk.Walk.{Walk}
+use Rattle.properties_editing.specs.declared.walk.WalkedGroup.{WalkedGroup}
 
 -- ---- the parts of a logical line
 
 -- the text after the sign of a comment
 abbrev pub after_sign : List ℕ → List ℕ
 after_sign x = drop 1 (without_leading_blanks x)
-
-abbrev pub kind_of : Logical → GroupKind
-kind_of blank = kind.Blank
-kind_of (comment text) = kind.Comment
-kind_of (pair key value) = kind.Pair
 
 -- how many characters come before the parts of a logical line, and before their ends
 pub record Counts : Type 0 where
@@ -79,8 +75,9 @@ pub record IsCountAt (line : List ℕ) (at count : ℕ) : Type 0 where
 
 -- the spans have the texts of the parts
 abbrev pub AreTextsOf : Logical → List ℕ → Parts → Type 0
-AreTextsOf blank line parts = chars (bytes_in line parts.value) ≡ []
-AreTextsOf (comment text) line parts = chars (bytes_in line parts.value) ≡ text
+AreTextsOf blank line parts = (chars (bytes_in line parts.key) ≡ []) × (chars (bytes_in line parts.value) ≡ [])
+AreTextsOf (comment text) line parts =
+    (chars (bytes_in line parts.key) ≡ take 1 (without_leading_blanks (chars line))) × (chars (bytes_in line parts.value) ≡ text)
 AreTextsOf (pair key value) line parts = (chars (bytes_in line parts.key) ≡ key) × (chars (bytes_in line parts.value) ≡ value)
 
 -- The parts of a line that is this.
@@ -100,21 +97,21 @@ ArePartsOf line parts = ArePartsBy (split_of (chars line)) line parts
 -- ---- the view
 
 -- the reader before the group that was returned last
-abbrev pub reader_before : View → GroupReader
+abbrev pub reader_before : Walk → GroupReader
 reader_before view = record view.reader { scanner = view.before }
 
-abbrev pub IsOpened : View → Type 0
+abbrev pub IsOpened : Walk → Type 0
 IsOpened view = IsWithin view.source.now view.reader
 
-abbrev pub line_of : View → ViewedGroup → List ℕ
+abbrev pub line_of : Walk → WalkedGroup → List ℕ
 line_of view group = text_of view.source.now view.reader group.group
 
 -- the groups to come
-abbrev pub groups_to_come : View → List (List HeldLine)
+abbrev pub groups_to_come : Walk → List (List HeldLine)
 groups_to_come view = groups_left view.source.now view.reader
 
 -- A source was opened, for which this encoding was requested: the view is before the first group of its body.
-pub record IsViewOf (requested : Encoding) (source : List ℕ) (view : View) : Type 0 where
+pub record IsWalkOf (requested : Encoding) (source : List ℕ) (view : Walk) : Type 0 where
   pub source_is : view.source.now ≡ source
   pub in_force : byte_order_mark requested source
       ≡ record { encoding = encoding_of view.reader.scanner.encoding; body = drop view.reader.scanner.at source }
@@ -124,22 +121,12 @@ pub record IsViewOf (requested : Encoding) (source : List ℕ) (view : View) : T
   pub opened : IsOpened view
 
 -- Or its encoding isn't read.
-abbrev pub OpensView : Encoding → List ℕ → Result View PropertiesError → Type 0
-OpensView requested source (Ok view) = IsViewOf requested source view
-OpensView requested source (Err error) = (is_editable (byte_order_mark requested source).encoding ≡ false) × IsBareError kind_of_error.Unsupported error
-
--- Of the groups of a body in this encoding, which starts at this position of a source, these were returned, and the
--- others are to come.
-pub record HasViewed (e : Encoding) (source : List ℕ) (start : ℕ) (groups : List (List HeldLine)) (view : View) : Type 0 where
-  pub source_is : view.source.now ≡ source
-  pub all : held_groups_of e (drop start source) ≡ groups ++ groups_to_come view
-  pub placed : view.reader.scanner.at ≡ start + length (groups_bytes groups)
-  pub counted : view.reader.scanner.passed ≡ length (held_in groups)
-  pub encoding : encoding_of view.reader.scanner.encoding ≡ e
-  pub opened : IsOpened view
+abbrev pub OpensWalk : Encoding → List ℕ → Result Walk PropertiesError → Type 0
+OpensWalk requested source (Ok view) = IsWalkOf requested source view
+OpensWalk requested source (Err error) = (is_editable (byte_order_mark requested source).encoding ≡ false) × IsBareError kind_of_error.Unsupported error
 
 -- This is the group that was returned last.
-pub record IsViewed (view : View) (group : ViewedGroup) : Type 0 where
+pub record IsViewed (view : Walk) (group : WalkedGroup) : Type 0 where
   pub old : GroupReader
   pub before : old.scanner ≡ view.before
   pub within_old : IsWithin view.source.now old
@@ -148,25 +135,27 @@ pub record IsViewed (view : View) (group : ViewedGroup) : Type 0 where
   pub next : group.next ≡ view.reader.scanner.at
 
 -- Its logical line is its bytes as they are: it is one line, which isn't left open.
-pub record IsPlain (view : View) (group : ViewedGroup) : Type 0 where
+pub record IsPlain (view : Walk) (group : WalkedGroup) : Type 0 where
   pub natural : is_natural view.reader.line.place ≡ true
   pub closed : group.group.is_open ≡ false
   pub single : view.reader.scanner.passed ≡ group.group.number
 
 -- The next group was returned.
-pub record TakesView (old : View) (group : ViewedGroup) (new : View) : Type 0 where
+pub record TakesWalk (old : Walk) (group : WalkedGroup) (new : Walk) : Type 0 where
   pub viewed : IsViewed new group
-  pub groups : groups_to_come old ≡ viewed.takes.held ∷ groups_to_come new
-  pub starts : group.group.start ≡ old.reader.scanner.at
-  pub number : group.group.number ≡ old.reader.scanner.passed + 1
-  pub bytes : take (group.next - group.group.start) (drop group.group.start old.source.now) ≡ group_bytes viewed.takes.held
+  pub given : with_bytes (groups_to_come old) ≡ viewed.takes.held ∷ with_bytes (groups_to_come new)
   pub opened : IsOpened new
   pub same : new ≡ record old { before = old.reader.scanner; reader = new.reader }
 
-abbrev pub GivesView : {E : Type 0} → View → Result (Option ViewedGroup) E → View → Type 0
-GivesView old (Ok None) new = (groups_to_come old ≡ []) × (new ≡ record old { before = old.reader.scanner })
-GivesView old (Ok (Some group)) new = TakesView old group new
-GivesView old (Err e) new = Unit {0}
+-- No group was returned, and the same are to come.
+pub record KeepsWalk (old new : Walk) : Type 0 where
+  pub source_is : new.source.now ≡ old.source.now
+  pub state : new.reader.scanner ≡ old.reader.scanner
+
+abbrev pub GivesWalk : {E : Type 0} → Walk → Result (Option WalkedGroup) E → Walk → Type 0
+GivesWalk old (Ok None) new = (with_bytes (groups_to_come old) ≡ []) × KeepsWalk old new
+GivesWalk old (Ok (Some group)) new = TakesWalk old group new
+GivesWalk old (Err e) new = KeepsWalk old new
 
 -- ---- places
 
@@ -176,21 +165,21 @@ first_of [] = []
 first_of (g ∷ gs) = g
 
 -- the lines of the group that was returned last, and its logical line
-abbrev pub lines_of : View → List HeldLine
+abbrev pub lines_of : Walk → List HeldLine
 lines_of view = first_of (groups_left view.source.now (reader_before view))
 
-abbrev pub text_in : View → List ℕ
+abbrev pub text_in : Walk → List ℕ
 text_in view = joined (as_lines (lines_of view))
 
 -- where so many characters of the logical line of that group end
-abbrev pub cut_in : View → ℕ → Cut
+abbrev pub cut_in : Walk → ℕ → Cut
 cut_in view count = cut_at (encoding_of view.before.encoding) true count (lines_of view)
 
-abbrev pub place_in : View → ℕ → ℕ
+abbrev pub place_in : Walk → ℕ → ℕ
 place_in view count = view.before.at + cut_size (cut_at (encoding_of view.before.encoding) true count (lines_of view))
 
 -- the places of its parts, by what it is
-abbrev pub places_by : GroupKind → View → ViewedGroup → Counts → Places
+abbrev pub places_by : GroupKind → Walk → WalkedGroup → Counts → PartPlaces
 places_by kind.Blank view group counts =
     record { key_start = group.group.end; key_end = group.group.end; value_start = group.group.end; value_end = group.group.end }
 places_by kind.Comment view group counts =
@@ -208,21 +197,15 @@ places_by kind.Pair view group counts =
       value_end = group.group.end;
     }
 
-abbrev pub places_in : View → ViewedGroup → Places
+abbrev pub places_in : Walk → WalkedGroup → PartPlaces
 places_in view group = places_by (kind_of (split_of (text_in view))) view group (counts_of (text_in view))
 
 -- What the cuts at these places mean: the lines up to there add the first characters of the logical line.
-abbrev pub IsMeant : View → ℕ → Type 0
+abbrev pub IsMeant : Walk → ℕ → Type 0
 IsMeant view count = IsCutOf (encoding_of view.before.encoding) true (lines_of view) (take count (text_in view)) (cut_in view count)
 
-pub record AreMeant (view : View) (counts : Counts) : Type 0 where
-  pub key_start : IsMeant view counts.key_start
-  pub key_end : IsMeant view counts.key_end
-  pub value_start : IsMeant view counts.value_start
-  pub value_end : IsMeant view counts.value_end
-
 -- They don't descend.
-pub record AreOrdered (group : ViewedGroup) (places : Places) : Type 0 where
+pub record AreOrdered (group : WalkedGroup) (places : PartPlaces) : Type 0 where
   pub indent : group.group.start ≤ places.key_start
   pub key : places.key_start ≤ places.key_end
   pub between : places.key_end ≤ places.value_start
@@ -242,9 +225,6 @@ pub record BreaksPart (before : ℕ) (text : List ℕ) (kind : format.Malformed)
   pub inside : ℕ
   pub breaks_at : BreaksAt text kind inside
   pub place : count ≡ before + inside
-
-abbrev pub IsWhole : List ℕ → Type 0
-IsWhole text = (meant : List ℕ) × Means text meant
 
 -- The first malformed escape of a logical line comes after so many characters of it,
 abbrev pub HasFlaw : Logical → Counts → format.Malformed → ℕ → Type 0
@@ -283,7 +263,7 @@ FindsFlaw line None = HasNoFlaw (split_of (chars line))
 FindsFlaw line (Some (at, how)) = IsLineFlaw line at how
 
 -- The first malformed escape of that group, whose backslash comes before the cut.
-pub record IsFlawOf (view : View) (flaw : Flaw) : Type 0 where
+pub record IsFlawOf (view : Walk) (flaw : FoundFlaw) : Type 0 where
   pub count : ℕ
   pub has_flaw : HasFlaw (split_of (text_in view)) (counts_of (text_in view)) (malformed_in flaw.how) count
   pub place : flaw.place + 1 ≡ view.before.at + cut_size (cut_in view (count + 1))
@@ -292,7 +272,7 @@ pub record IsFlawOf (view : View) (flaw : Flaw) : Type 0 where
   pub from_one : 1 ≤ flaw.column
   pub meant : IsMeant view (count + 1)
 
-abbrev pub TellsFlaw : View → Option Flaw → Type 0
+abbrev pub TellsFlaw : Walk → Option FoundFlaw → Type 0
 TellsFlaw view None = HasNoFlaw (split_of (text_in view))
 TellsFlaw view (Some flaw) = IsFlawOf view flaw
 
@@ -313,7 +293,7 @@ pub record IsFirstIllFormed (e : Encoding) (lines : List HeldLine) (number : ℕ
   pub ill_formed : ¬ (IsLineIn e line.bytes)
   pub is_number : number ≡ length kept + 1
 
-abbrev pub TellsIllFormed : View → Option ℕ → Type 0
+abbrev pub TellsIllFormed : Walk → Option ℕ → Type 0
 TellsIllFormed view None = AreTexts (encoding_of view.before.encoding) (lines_of view)
 TellsIllFormed view (Some number) =
     (n : ℕ) × (number ≡ view.before.passed + n) × IsFirstIllFormed (encoding_of view.before.encoding) (lines_of view) n

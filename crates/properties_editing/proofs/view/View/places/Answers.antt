@@ -1,13 +1,13 @@
-use Rattle.std.proofs.Common.{subst, sym}
-use Rattle.properties_editing.specs.Private.BodyViews.{AreOrdered}
-use Rattle.properties_editing.proofs.BodyViews.{view-meant, view-ordered}
+use Rattle.std.proofs.Common.{sym}
+use Rattle.properties_editing.proofs.OpenViews.{places-seen, places-ordered}
 use Rattle.properties_editing.proofs.view.View.places.Goals as goal
 
+pub returns-clause-places : goal.returns-clause-places
+returns-clause-places c =
+    let viewed = rw c.in-Some.is at c.self.invariant.has_group in
+    rw (sym c.self.view_is, c.in-Some.is, c.in_ok-places.ensures) (places-seen viewed)
+
 pub returns-clause-ordered : goal.returns-clause-ordered
-returns-clause-ordered c = subst (AreOrdered c.args.group) (sym c.in_ok-places.ensures) (view-ordered c.requires)
-
-pub returns-in_err-places-clause-meant : goal.returns-in_err-places-clause-meant
-returns-in_err-places-clause-meant c = view-meant c.requires
-
-pub returns-clause-meant : goal.returns-clause-meant
-returns-clause-meant c = view-meant c.requires
+returns-clause-ordered c =
+    let viewed = rw c.in-Some.is at c.self.invariant.has_group in
+    rw (sym c.self.view_is, c.in-Some.is, c.in_ok-places.ensures) (places-ordered viewed)

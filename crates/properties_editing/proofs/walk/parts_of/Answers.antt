@@ -1,5 +1,5 @@
 use Rattle.properties_editing.proofs.BodyViews.{blank-parts, comment-parts, pair-parts}
-use Rattle.properties_editing.proofs.view.parts_of.Goals as goal
+use Rattle.properties_editing.proofs.walk.parts_of.Goals as goal
 
 pub returns-in-None : goal.returns-in-None
 returns-in-None c = blank-parts c.args.line.now c.utf8.line c.in-None.ensures.meets

@@ -3,7 +3,7 @@ use Rattle.std.specs.Str.{IsUtf8}
 use Rattle.std.proofs.lemmas.Str.{IsUtf8-take}
 use Rattle.properties_editing.specs.declared.cuts.Cut.{Cut}
 use Rattle.properties_editing.proofs.BodyViews.{place-found, plain-place}
-use Rattle.properties_editing.proofs.view.View.place.Goals as goal
+use Rattle.properties_editing.proofs.walk.Walk.place_in_line.Goals as goal
 
 pub count_characters-count-requires : goal.count_characters-count-requires
 count_characters-count-requires c =

@@ -1,7 +1,7 @@
 use Rattle.std.proofs.Common.{length}
 use Rattle.properties_lines.specs.Private.HeldLines.{lines_left}
 use Rattle.properties_editing.proofs.BodyViews.{HasTexts}
-use Rattle.properties_editing.proofs.view.View.ill_formed.Given as goal
+use Rattle.properties_editing.proofs.walk.Walk.ill_formed.Given as goal
 
 abbrev pub invariant-loop-lines : goal.invariant-loop-lines
 invariant-loop-lines l = HasTexts l.fn.self l.fn.group.next l.lines

@@ -1,5 +1,5 @@
 use Rattle.properties_editing.proofs.BodyViews.{flaw-found, part-whole}
-use Rattle.properties_editing.proofs.view.part_flaw.Goals as goal
+use Rattle.properties_editing.proofs.walk.part_flaw.Goals as goal
 
 pub returns-in_err-at : goal.returns-in_err-at
 returns-in_err-at c =
