@@ -1,10 +1,10 @@
 -- Parts of a source behind which a pair with a new key is added.
-use Rattle.std.proofs.Common.{◌≡◌, ◌≤◌, ◌<◌, ◌⊎◌, ℕ, suc, ◌&&◌, Bool, true, false, List, [], ◌∷◌, ◌++◌, All, Option, Some, None, length, drop, take-append-drop, refl, ap, ap₂, sym, ◌∙◌, subst, inl, inr, append-nil, append_assoc, arith}
+use Rattle.std.proofs.Common.{◌≡◌, ◌≤◌, ◌<◌, ◌⊎◌, ℕ, suc, ◌&&◌, Bool, true, false, List, [], ◌∷◌, ◌++◌, All, Option, Some, None, length, drop, take-append-drop, refl, ap, ap₂, sym, ◌∙◌, subst, inl, inr, append-nil, arith}
 use Rattle.std.specs.Prelude.{nat_le, not, if◌then◌else◌, Result, Ok, Err}
 use Rattle.std.specs.Global.{Vec}
 use Rattle.std.proofs.lemmas.Bool.{cases_Bool}
 use Rattle.std.proofs.lemmas.Bool.Decides.{nat_tests}
-use Rattle.properties_format.specs.Text.{LineEnding, cr, is_empty, lf, line_ending_text, line_feed, scalar}
+use Rattle.properties_format.specs.Text.{LineEnding, cr, is_empty, lf, line_ending_text, scalar}
 use Rattle.properties_format.specs.Encoding.{Encoding, Repertoire, begins_with, byte_order_mark, in_encoding, utf_16be_bom, utf_16le_bom, utf_8_bom}
 use Rattle.properties_format.specs.Body.{HeldLine, groups_bytes}
 use Rattle.properties_format.specs.Edited.{bom_of, final_group, is_empty_line, is_left_open, pair_bytes, separation_by}
@@ -23,7 +23,7 @@ use Rattle.properties_items.specs.Line.{ending_of}
 use Rattle.properties_items.specs.declared.line.LineEnding as declared
 use Rattle.properties_items.specs.declared.line.LineEnding.TheVariants as code
 use Rattle.properties_editing.specs.Private.BodyGroups.{closing_of}
-use Rattle.properties_editing.specs.Private.BodyParts.{StandFor, is_empty_part, parts_bytes, pieces_groups}
+use Rattle.properties_editing.specs.Private.BodyParts.{StandFor, is_empty_part, parts_bytes}
 use Rattle.properties_editing.specs.Private.ChangedParts.{AddsPair, ClosesLast, HasAdded, IsAsBefore, closed_as, has_to_close, key_place, with_last}
 use Rattle.properties_editing.specs.Private.EditedParts.{AreEditedParts, EditsParts, StandForSource}
 use Rattle.properties_editing.specs.Private.PartBounds.{AreBounds}
@@ -38,9 +38,9 @@ use Rattle.properties_editing.specs.Private.Sources.{printed_in}
 use Rattle.properties_editing.proofs.Editing.{bom-front, editable, not_first, printed-own}
 use Rattle.properties_editing.proofs.EditedParts.{encoding-own, pair-text, slots-own, some-between, source-edited}
 use Rattle.properties_editing.proofs.PartBounds.{bounds-added}
-use Rattle.properties_editing.proofs.PartsAppended.{stands-added, stands-kept}
-use Rattle.properties_editing.proofs.PartsRemoved.{AllOther, line-other, tail-back}
-use Rattle.properties_editing.proofs.PartsReplaced.{IsPairText, divided, none-changes, none-last, own-other}
+use Rattle.properties_editing.proofs.PartsChanged.{stands-added, stands-kept, IsPairText, none-changes, none-last}
+use Rattle.properties_editing.proofs.PartsAt.{AllOther, end-bytes}
+use Rattle.properties_editing.proofs.PartsRemoved.{all-other}
 use Rattle.properties_editing.proofs.SoundParts.{sound-added}
 use Rattle.properties_editing.proofs.SourceParts.{blank-lines, first-new, stand-bytes}
 
@@ -105,15 +105,9 @@ module _ (d : List ℕ) (named : List ℕ → Bool) (e : Encoding) (gs : List (L
   -- No group has a key without a place.
   none-other : (key : List ℕ) → named key ≡ true → key_place p.keys key ≡ None → AllOther key gs
   none-other key is none =
-      let v = divided s.pieces gs s.ended in
-      let no_places = sym (s.placed.places key) ∙ none-last _ none in
-      let tail = tail-back e (pieces_groups s.pieces) v.line (inr (subst (AreInTurn e) v.division turn)) in
-      subst (AllOther key) (sym v.division)
-      (both (pieces_groups s.pieces) v.line (own-other d named key 0 p.parts.items s.pieces s.are_parts is no_places) (line-other e key v.line v.no_bytes tail))
-    where
-      both : (xs ys : List (List HeldLine)) → AllOther key xs → AllOther key ys → AllOther key (xs ++ ys)
-      both [] ys a b = b
-      both (x ∷ xs) ys a b = (a.0, both xs ys a.1 b)
+      subst (AllOther key) (sym s.ended.division)
+      (all-other d named e key 0 p.parts.items s.pieces s.ended.line is s.are_parts (end-bytes s.pieces s.ended.line s.ended.end)
+      (inr (subst (AreInTurn e) s.ended.division turn)) (sym (s.placed.places key) ∙ none-last _ none))
 
 -- ---- the LF that guards groups
 
@@ -188,7 +182,9 @@ module _ {r : Repertoire} {read now : List ℕ} {named : List ℕ → Bool} {gs 
 
   -- The source ends in a CR if its parts do.
   ends-now : ends_in_cr (parts_bytes d items) ≡ ends_in_cr now
-  ends-now = of-bytes (parts_bytes d items) refl
+  ends-now =
+      sym (ap ends_in_cr whole ∙ ends-behind (bom_of now) (lf_if old.guarded ++ parts_bytes d items) (mark-ends now)
+      ∙ ends-behind (lf_if old.guarded) (parts_bytes d items) (guard-ends old.guarded))
     where
       whole : now ≡ bom_of now ++ (lf_if old.guarded ++ parts_bytes d items)
       whole =
@@ -204,16 +200,13 @@ module _ {r : Repertoire} {read now : List ℕ} {named : List ℕ → Bool} {gs 
         ]
       ]
 
-      none : (b : Bool) (x : List ℕ) → ends_in_cr x ≡ false → false ≡ ends_in_cr (x ++ (lf_if b ++ []))
-      none true x n = sym (ends_in_cr-append x line_feed [])
-      none false x n = sym (ap ends_in_cr (append-nil x) ∙ n)
+      guard-ends : (b : Bool) → ends_in_cr (lf_if b) ≡ false
+      guard-ends true = refl
+      guard-ends false = refl
 
-      of-bytes : (y : List ℕ) → parts_bytes d items ≡ y → ends_in_cr y ≡ ends_in_cr now
-      of-bytes [] is = none old.guarded (bom_of now) (mark-ends now) ∙ sym (ap ends_in_cr (whole ∙ ap (λ v. bom_of now ++ (lf_if old.guarded ++ v)) is))
-      of-bytes (c ∷ y) is =
-          sym (ends_in_cr-append (bom_of now ++ lf_if old.guarded) c y)
-          ∙ ap ends_in_cr (append_assoc (bom_of now) (lf_if old.guarded) (c ∷ y))
-          ∙ sym (ap ends_in_cr (whole ∙ ap (λ v. bom_of now ++ (lf_if old.guarded ++ v)) is))
+      ends-behind : (x y : List ℕ) → ends_in_cr x ≡ false → ends_in_cr (x ++ y) ≡ ends_in_cr y
+      ends-behind x [] n = ap ends_in_cr (append-nil x) ∙ n
+      ends-behind x (c ∷ y) n = ends_in_cr-append x c y
 
   -- A printed pair was added.
   pub source-put-added : AreSound gs → (key value : List ℕ) (by : declared.LineEnding) (bytes : Vec ℕ) (new : Parts) → All scalar key → All scalar value

@@ -44,9 +44,8 @@ use Rattle.properties_editing.specs.declared.parts.source_parts.SourceParts.{Sou
 use Rattle.properties_editing.proofs.AddedParts.{first-added, plan-none, source-added, source-kept}
 use Rattle.properties_editing.proofs.Editing.{editable, printed-own}
 use Rattle.properties_editing.proofs.EditedParts.{slots-own}
-use Rattle.properties_editing.proofs.LastParts.{alike-between, last-alike, lf-between, merged-between}
-use Rattle.properties_editing.proofs.PartsLast.{last-among, stand-last}
-use Rattle.properties_editing.proofs.PartsReplaced.{IsPairText}
+use Rattle.properties_editing.proofs.LastParts.{alike-between, last-alike, lf-between, merged-between, last-among, stand-last}
+use Rattle.properties_editing.proofs.PartsChanged.{IsPairText}
 use Rattle.properties_editing.proofs.SoundParts.{empty-sound, sound-added, sound-guarded}
 use Rattle.properties_editing.proofs.SourceParts.{blank-ended, source-slots, stand-bytes}
 

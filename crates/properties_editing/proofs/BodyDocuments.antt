@@ -1,6 +1,7 @@
 -- What the calls of a document come to.
 use Rattle.std.proofs.Common.{◌≡◌, ℕ, Bool, true, List, [], drop, All, refl, ap, ap₂, sym, ◌∙◌, subst, inl, ◌+◌, length, ◌∷◌}
-use Rattle.std.specs.Prelude.{Option, Some, None, Result, Ok, Err, IfOk}
+use Rattle.std.specs.Prelude.{Option, Some, None, Result, Ok, Err, IfOk, map}
+use Rattle.std.proofs.lemmas.List.{length-map}
 use Rattle.std.specs.Borrow.{Bor}
 use Rattle.std.specs.Global.{Vec}
 use Rattle.std.specs.Option.{is_some}
@@ -25,7 +26,7 @@ use Rattle.properties_format.proofs.Maps.{value_in-meets}
 use Rattle.properties_text.specs.Encoding.{encoding_of}
 use Rattle.properties_editing.specs.Documents.{OpenDocument, AreMadeFor, ChecksHasKey, HasKeysFor, HasKeysInOrder, HasValueAt, HasValueFor, HasValueSetFor, IsRemovedFor, IsResultFor, IsSetFor, OpensDocumentWith, PutsInto, RemovesFrom, SetsValueIn, TurnsAsciiOnly, characters_of}
 use Rattle.properties_editing.specs.Private.BodyDocuments.{IsDocument, bytes_of, every, groups_in, open_document, repertoire_of}
-use Rattle.properties_editing.specs.Private.BodyParts.{outcome, is_named, stored_of, value_among, value_of}
+use Rattle.properties_editing.specs.Private.BodyParts.{outcome, is_named, piece_said, stored_of, value_among, value_of}
 use Rattle.properties_editing.specs.Private.EditedParts.{AreParts, EditsParts, HaveParts, RemovesFromParts, StandForSource}
 use Rattle.properties_editing.specs.Private.KeyOrder.{HasKeysOf, HavePlaces}
 use Rattle.properties_editing.specs.Private.Sound.{AreSoundFor, IsResult}
@@ -40,7 +41,7 @@ use Rattle.properties_editing.proofs.PassedOver.{items-sound, sound-weaker}
 use Rattle.properties_editing.proofs.Editing.{made-result, removed-edits, set-edits, value-edits}
 use Rattle.properties_editing.proofs.EditsInTurn.{pairs-made, result-made}
 use Rattle.properties_editing.proofs.PartPairs.{escapes-sound, keys-pair_entries, pair_entries, pairs-groups, pairs_in, sound-escapes, value-pair_entries, keys-entries, keys-pieces, keys_of, last_said, source-pairs, stand-pairs, value-entries, value-groups, value-pieces}
-use Rattle.properties_editing.proofs.PartsRead.{parts-length}
+use Rattle.properties_editing.proofs.PartsAt.{parts-length}
 use Rattle.properties_editing.proofs.SourceParts.{source-bytes, source-read}
 use Rattle.properties_format.specs.Computed.Maps.{AreFirstOf}
 use Rattle.properties_format.proofs.Edits.Escapes.{malformed_escapes_of-groups}
@@ -148,8 +149,9 @@ module _ (d : Inside) (i : IsDocument d) where
   have-places =
       let s = i.parts.stand.stand in
       record {
-        pieces = s.pieces;
-        size = parts-length (drop d.edited.opened.start d.source.items) every d.edited.parts.parts.items s.pieces s.are_parts;
+        said = map piece_said s.pieces;
+        size = parts-length (drop d.edited.opened.start d.source.items) every d.edited.parts.parts.items s.pieces s.are_parts
+            ∙ sym (length-map s.pieces piece_said);
         placed = s.placed;
       }
 
@@ -160,7 +162,7 @@ module _ (d : Inside) (i : IsDocument d) where
   keys-made (Ok keys) h =
       let s = i.parts.stand.stand in
       keys-has d.comments e (bytes_of d) i.sound _ (characters_of keys.items)
-      (ap keys_of (source-pairs i.parts.stand) ∙ sym (keys-pieces s.pieces)) (h s.pieces s.placed)
+      (ap keys_of (source-pairs i.parts.stand) ∙ sym (keys-pieces s.pieces)) (h (map piece_said s.pieces) s.placed)
 
   -- What an edit asks, it has.
   pub have-parts : (key : List ℕ) → HaveParts key d.source.items d.edited

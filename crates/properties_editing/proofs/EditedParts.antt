@@ -39,9 +39,9 @@ use Rattle.properties_editing.specs.declared.parts.Parts.{Parts}
 use Rattle.properties_editing.specs.declared.parts.source_parts.SourceParts.{SourceParts}
 use Rattle.properties_editing.proofs.Editing.{again, bom-front, editable, printed-own}
 use Rattle.properties_editing.proofs.PartBounds.{bounds-set}
-use Rattle.properties_editing.proofs.PartsReplaced.{IsLastOwn, IsPairText, found, found-division, found-own, found-plan, front, held, plan-last, rest, rest-other, stands-replaced}
+use Rattle.properties_editing.proofs.PartsRemoved.{empty-none}
+use Rattle.properties_editing.proofs.PartsChanged.{IsLastOwn, IsPairText, found, found-division, found-own, front, held, plan-last, rest, rest-other, stands-replaced}
 use Rattle.properties_editing.proofs.SoundParts.{sound-changed}
-use Rattle.properties_editing.proofs.PartsWithout.{empty-none}
 use Rattle.properties_editing.proofs.SourceParts.{first-place, guarded-bytes, source-slots}
 use Rattle.properties_format.proofs.Edited.ByteOrderMarks.{key_removed-in_force, key_set-in_force}
 use Rattle.properties_format.proofs.Valued.Marks.{value_set-in_force}
@@ -114,7 +114,7 @@ guarded-first e false (x ∷ xs) = refl
 
 -- The last pair with a key gets these bytes.
 module _ {r : Repertoire} {read now : List ℕ} {named : List ℕ → Bool} {gs : List (List HeldLine)} {old : SourceParts} (s : StandForSource r read now named gs old)
-    (key : List ℕ) (place : ℕ) (k : IsLastOwn key 0 place s.stand.pieces) where
+    (key : List ℕ) (place : ℕ) (k : IsLastOwn key place s.stand.pieces) where
   abbrev f : Encoding
   f = encoding_of old.opened.encoding
 
@@ -159,7 +159,7 @@ module _ {r : Repertoire} {read now : List ℕ} {named : List ℕ → Bool} {gs 
   full-part : is_empty_part (get_or old.parts.parts.items place no_part) ≡ false
   full-part =
       let at : place ≡ length k.before = (let a = k.at in omega arith) in
-      let part = (found f s.in_force.editable d named key gs old.parts s.turn s.stand place k).0 in
+      let part = (found f s.in_force.editable d named key gs old.parts s.turn s.stand place k).part in
       ap (λ n. is_empty_part (get_or old.parts.parts.items n no_part)) at ∙ never-empty (get_or old.parts.parts.items (length k.before) no_part) part
 
   pub own-within : place < length old.parts.parts.items
@@ -189,15 +189,11 @@ module _ {r : Repertoire} {read now : List ℕ} {named : List ℕ → Bool} {gs 
       ap (groups_after f (all_stay (guarded f old.guarded before) ++ become bytes.items ∷ all_stay after)) division-guarded
       ∙ become-after f bytes.items (guarded f old.guarded before) k.group after
       ∙ sym (guarded-append f old.guarded before (group_of f bytes.items (last_ending k.group) ∷ after)) in
-      let cs = all_stay before ++ become bytes.items ∷ all_stay after in
-      let stands = stands-replaced f s.in_force.editable d named key gs old.parts s.turn s.stand place k cs bytes value new h t
-      (found-plan f s.in_force.editable d named key gs old.parts s.turn s.stand place k (λ first g. become bytes.items)) in
-      let stand_is : groups_after f cs gs ≡ next = ap (groups_after f cs) division ∙ become-after f bytes.items before k.group after in
       let next_place : place + 1 ≡ suc place = omega arith in
       let set = h.parts ∙ ap (λ n. take place items ++ with_bytes bytes (get_or items place no_part) ∷ drop n items) next_place in
       source-edited edit result body next new s edited whole (subst (AreSlotsIn r.encoding result) slots_are are_slots)
       (some-between before (group_of f bytes.items (last_ending k.group)) after)
-      (subst (λ v. StandFor d named v new) stand_is stands)
+      (stands-replaced f s.in_force.editable d named key gs old.parts s.turn s.stand place k bytes value new h t)
       (ap empty_front set ∙ front-set items place (with_bytes bytes (get_or items place no_part)) no_part own-within full-part refl ∙ sym s.empty)
       (bounds-set d old.bounds place bytes items new.parts.items set s.bounds)
 

@@ -17,14 +17,12 @@ use Rattle.std.proofs.lemmas.List.Kept.{AllPairs-cons}
 use Rattle.std.proofs.lemmas.Map.Entries.{btree_map_get_place}
 use Rattle.std.proofs.lemmas.Slice.Eq.{bytes_eq-Decides}
 use Rattle.std.proofs.lemmas.Str.{IsUtf8-string_bytes}
-use Rattle.properties_format.specs.Items.{comment, pair, Outcome, ignored, given, broken}
 use Rattle.properties_format.specs.Computed.Maps.{Has, ComesBefore, AreFirstOf}
-use Rattle.properties_format.specs.Computed.Body.{is_pair_with, outcome_key}
 use Rattle.properties_items.specs.Texts.{characters}
 use Rattle.properties_items.proofs.TextMaps.Values.{at_chars-sorted}
 use Rattle.properties_editing.specs.Documents.{characters_of}
-use Rattle.properties_editing.specs.Private.BodyParts.{outcome, place_if, Piece, others, own, places_in, places_of, places_with, stored_of}
-use Rattle.properties_editing.specs.Private.KeyOrder.{AreFirsts, AreKeysAt, HasKeysOf, HavePlaces, IsFirstIn, key_at, piece_key}
+use Rattle.properties_editing.specs.Private.BodyParts.{Said, place_if, places_in, places_of, places_with, stored_of}
+use Rattle.properties_editing.specs.Private.KeyOrder.{AreFirsts, AreKeysAt, HasKeysOf, HavePlaces, IsFirstIn, key_at, said_key}
 use Rattle.properties_editing.specs.declared.parts.KeyPlaces.{KeyPlaces}
 use Rattle.properties_editing.specs.declared.parts.Parts.{Parts}
 
@@ -40,18 +38,11 @@ places_at key n [] = []
 places_at key n (None ∷ slots) = places_at key (suc n) slots
 places_at key n (Some k ∷ slots) = place_if (bytes_eq k key) n (places_at key (suc n) slots)
 
--- They are those of the key among pieces.
-piece-places : (key : List ℕ) (n : ℕ) (ps : List Piece) → places_with key n ps ≡ places_at key n (map piece_key ps)
-piece-places key n [] = refl
-piece-places key n (others gs ∷ ps) = piece-places key (suc n) ps
-piece-places key n (own g ∷ ps) = by (outcome g) (piece-places key (suc n) ps)
-  where
-    by : (o : Outcome) → places_with key (suc n) ps ≡ places_at key (suc n) (map piece_key ps)
-        → place_if (is_pair_with key o) n (places_with key (suc n) ps) ≡ places_at key n (outcome_key o ∷ map piece_key ps)
-    by ignored more = more
-    by (given (comment text)) more = more
-    by (given (pair k value)) more = ap (place_if (bytes_eq k key) n) more
-    by (broken kind) more = more
+-- They are those of the key.
+said-places : (key : List ℕ) (n : ℕ) (ss : List Said) → places_with key n ss ≡ places_at key n (map said_key ss)
+said-places key n [] = refl
+said-places key n (None ∷ ss) = said-places key (suc n) ss
+said-places key n (Some (k, v) ∷ ss) = ap (place_if (bytes_eq k key) n) (said-places key (suc n) ss)
 
 -- A key in a place is one of the keys.
 at-has : (slots : List (Option (List ℕ))) (i : ℕ) (key : List ℕ) → get_or slots i None ≡ Some key → Has key (keys_at slots)
@@ -354,14 +345,14 @@ pub placing-next : (parts : Parts) (rest : List (String Global × KeyPlaces)) (f
     → (i < length firsts) × IsPlacing parts.keys.places.entries rest (map key_at (set firsts i (Some borrowed)))
 placing-next parts rest firsts key stored i borrowed have h first is size =
     let entries = parts.keys.places.entries in
-    let slots = map piece_key have.pieces in
-    let are_places : (k : List ℕ) → places_of (stored_of entries k) ≡ places_at k 0 slots = λ k. have.placed.places k ∙ piece-places k 0 have.pieces in
+    let slots = map said_key have.said in
+    let are_places : (k : List ℕ) → places_of (stored_of entries k) ≡ places_at k 0 slots = λ k. have.placed.places k ∙ said-places k 0 have.said in
     let head = head-got (places_in stored) i first in
     let this : IsFirstIn entries (characters key) i =
     (head.0, ap places_of (entry-stored parts.keys.places h.done rest key stored have.placed.ordered h.division) ∙ head.1) in
     let low = first-inside entries slots are_places (characters key) i this in
     let mapped = length-map firsts key_at in
-    let pieces = length-map have.pieces piece_key in
+    let pieces = length-map have.said said_key in
     let count = have.size in
     let placed : set (map key_at firsts) i (Some (characters key)) ≡ map key_at (set firsts i (Some borrowed)) =
     ap (λ v. set (map key_at firsts) i (Some (chars v))) (sym is) ∙ sym (map-set key_at firsts i (Some borrowed)) in (
@@ -389,10 +380,10 @@ keys-mapped f (x ∷ xs) = ap (cons_option (f x)) (keys-mapped f xs)
 -- The keys at the places are those of the parts.
 pub tells-keys : (parts : Parts) (firsts : List (Option (Bor (List ℕ)))) (keys : List (Bor (List ℕ))) → AreKeysAt parts.keys.places.entries firsts
     → characters_of keys ≡ filter_map key_at firsts → HasKeysOf parts keys
-tells-keys parts firsts keys placed is = λ pieces are.
-    subst (λ v. AreFirstOf v (characters_of keys)) (keys-mapped piece_key pieces)
-    (subst (AreFirstOf (keys_at (map piece_key pieces))) (keys-mapped key_at firsts ∙ sym is)
-    (first-keys parts.keys.places.entries (map piece_key pieces) (λ k. are.places k ∙ piece-places k 0 pieces) (map key_at firsts) placed))
+tells-keys parts firsts keys placed is = λ said are.
+    subst (λ v. AreFirstOf v (characters_of keys)) (keys-mapped said_key said)
+    (subst (AreFirstOf (keys_at (map said_key said))) (keys-mapped key_at firsts ∙ sym is)
+    (first-keys parts.keys.places.entries (map said_key said) (λ k. are.places k ∙ said-places k 0 said) (map key_at firsts) placed))
 
 -- The key at one place more is read, if one is there,
 pub found-more : (firsts : List (Option (Bor (List ℕ)))) (i : ℕ) (keys : List (Bor (List ℕ))) (key : Bor (List ℕ)) → i < length firsts

@@ -1,31 +1,105 @@
--- The last pair of parts of a source, by itself.
-use Rattle.std.proofs.Common.{◌≡◌, List, [], ◌∷◌, Option, Some, None, drop, ap, sym, ◌∙◌, subst, inl, inr, ℕ, Bool, true, ap₂, false, refl}
+-- The last pair and the last line ending of parts: among the groups that the parts stand for, and by themselves.
+use Rattle.std.proofs.Common.{◌≡◌, List, [], ◌∷◌, Option, Some, None, drop, ap, sym, ◌∙◌, subst, inl, inr, ℕ, Bool, true, ap₂, false, refl, ◌++◌}
 use Rattle.std.specs.Option.{option_or, option_map, is_some}
 use Rattle.properties_format.specs.Encoding.{Encoding, Repertoire}
-use Rattle.properties_format.specs.Body.{HeldLine, as_lines}
+use Rattle.properties_format.specs.Body.{HeldLine, as_lines, ending_bytes, held_in, last_ending}
 use Rattle.properties_format.specs.Edited.{is_editable}
 use Rattle.properties_format.proofs.Valued.Unended.{without_ending, unended-joined}
 use Rattle.properties_text.specs.Encoding.{encoding_of}
 use Rattle.properties_items.specs.BorrowedItems.{outcome_pair}
-use Rattle.properties_editing.specs.Private.BodyParts.{outcome, last_pair_bytes, pair_bytes_of}
+use Rattle.properties_editing.specs.Private.BodyParts.{outcome, last_pair_bytes, pair_bytes_of, ArePartsOf, IsEnd, IsPartOf, Piece, Said, StandFor, group_said, names_said, pieces_groups}
 use Rattle.properties_editing.specs.Private.EditedParts.{IsPairIn, StandForSource, between_last}
-use Rattle.properties_editing.specs.Private.PartEndings.{ArePartsWithin, last_some, part_pair}
+use Rattle.properties_editing.specs.Private.PartEndings.{ArePartsWithin, last_some, part_pair, IsPartWithin, kind_pair, last_of}
 use Rattle.properties_editing.specs.declared.parts.source_parts.SourceParts.{SourceParts}
-use Rattle.properties_editing.proofs.PartsLast.{parts-within, stand-last}
-use Rattle.properties_editing.proofs.PartsRemoved.{IsTail, tail-next}
-use Rattle.properties_editing.proofs.ValuedParts.{alone-groups, group-lines-of}
+use Rattle.properties_editing.proofs.PartsRemoved.{IsTail, tail-next, lf-no_pair, tail-back}
+use Rattle.properties_editing.proofs.ValuedParts.{alone-groups}
 use Rattle.properties_format.specs.Computed.Body.{unended_bytes, held_groups_of}
-use Rattle.properties_format.proofs.InTurn.Merged.{AreInTurn, after-lf, are_one_ending, merged, merged-one, merged-two, one-ending}
+use Rattle.properties_format.proofs.InTurn.Merged.{AreInTurn, after-lf, are_one_ending, merged, merged-one, merged-two, one-ending, turn-first}
 use Rattle.std.proofs.lemmas.Bool.{cases_Bool}
-use Rattle.properties_format.specs.Text.{crlf}
+use Rattle.properties_format.specs.Text.{crlf, lf}
 use Rattle.properties_format.specs.Lines.{joined}
 use Rattle.properties_format.specs.Computed.Split.{split_of}
 use Rattle.properties_format.specs.Computed.Valued.{between_if_pair, last_between, or_else}
-use Rattle.properties_format.proofs.InTurn.Lines.{texts-with}
+use Rattle.properties_format.proofs.InTurn.Lines.{texts-with, bytes-unended}
 use Rattle.properties_editing.specs.Private.Sound.{AreSound, IsSoundFor}
 use Rattle.properties_editing.specs.declared.source.Comments.TheVariants.{PassedOver}
 use Rattle.properties_editing.proofs.LastPairs.{between-some, between-unpaired}
-use Rattle.properties_editing.proofs.PartsTaken.{lf-no_pair}
+use Rattle.properties_format.specs.Valued.{ending_among}
+use Rattle.properties_format.proofs.Body.Groups.{held_groups_of-meets}
+use Rattle.properties_items.specs.Line.{ending_of}
+use Rattle.properties_items.specs.declared.line.LineEnding as declared
+use Rattle.properties_editing.specs.Private.BodyParts as parts
+use Rattle.properties_editing.specs.Private.BodyValues.{IsLastEnding}
+use Rattle.properties_editing.specs.declared.parts.PartText.{PartText}
+use Rattle.properties_editing.specs.declared.parts.PartText.TheVariants as text
+use Rattle.properties_editing.specs.declared.parts.Part.{Part}
+use Rattle.properties_editing.specs.declared.parts.Parts.{Parts}
+use Rattle.properties_editing.proofs.PartsAt.{or-assoc, or-none}
+use Rattle.properties_editing.proofs.PartsRead.{left-none}
+
+-- ---- spans in the bytes
+
+part-within : (d : List ℕ) (named : List ℕ → Bool) (p : Part) (q : Piece) → IsPartOf d named p q → IsPartWithin d p
+part-within d named p (parts.own g) k = (k.within, subst (λ v. parts.IsLastWithin d p.text (last_of v)) (sym k.kind) (none p.text))
+  where
+    none : (t : PartText) → parts.IsLastWithin d t None
+    none (text.Span s) = tt
+    none (text.Own v) = tt
+part-within d named p (parts.others gs) k = (k.within, subst (λ v. parts.IsLastWithin d p.text (last_of v)) (sym k.kind) k.last_within)
+
+-- The spans of parts that stand for groups are in the bytes.
+pub parts-within : (d : List ℕ) (named : List ℕ → Bool) (ps : List Part) (qs : List Piece) → ArePartsOf d named ps qs → ArePartsWithin d ps
+parts-within d named [] [] k = tt
+parts-within d named [] (q ∷ qs) k = absurd k
+parts-within d named (p ∷ ps) [] k = absurd k
+parts-within d named (p ∷ ps) (q ∷ qs) k = (part-within d named p q k.0, parts-within d named ps qs k.1)
+
+-- ---- the last pair
+
+pairs-append : (gs hs : List (List HeldLine)) → last_pair_bytes (gs ++ hs) ≡ option_or (last_pair_bytes hs) (last_pair_bytes gs)
+pairs-append [] hs = sym (or-none (last_pair_bytes hs))
+pairs-append (g ∷ gs) hs = ap (λ o. option_or o (pair_bytes_of g)) (pairs-append gs hs) ∙ or-assoc (last_pair_bytes hs) (last_pair_bytes gs) (pair_bytes_of g)
+
+-- A pair with a key that is named is a pair.
+named-said : (named : List ℕ → Bool) (s : Said) (x : List ℕ) → names_said named s ≡ true → option_map (λ said. x) s ≡ Some x
+named-said named None x h = absurd (cc)
+named-said named (Some (k, v)) x h = refl
+
+pieces-last : (d : List ℕ) (named : List ℕ → Bool) (ps : List Part) (qs : List Piece) → ArePartsOf d named ps qs
+    → last_some (part_pair d) ps ≡ last_pair_bytes (pieces_groups qs)
+pieces-last d named [] [] k = refl
+pieces-last d named [] (q ∷ qs) k = absurd k
+pieces-last d named (p ∷ ps) [] k = absurd k
+pieces-last d named (p ∷ ps) (parts.own g ∷ qs) k =
+    ap₂ option_or (pieces-last d named ps qs k.1)
+    (ap (kind_pair d p) k.0.kind ∙ ap Some k.0.bytes ∙ sym (named-said named (group_said g) (unended_bytes g) k.0.is_named_pair))
+pieces-last d named (p ∷ ps) (parts.others gs ∷ qs) k =
+    ap₂ option_or (pieces-last d named ps qs k.1) (ap (kind_pair d p) k.0.kind ∙ k.0.last_pair)
+    ∙ sym (pairs-append gs (pieces_groups qs))
+
+-- The last pair of the parts is that of the groups.
+pub stand-last : (e : Encoding) (d : List ℕ) (named : List ℕ → Bool) (gs : List (List HeldLine)) (parts : Parts) → AreInTurn e gs → StandFor d named gs parts
+    → last_some (part_pair d) parts.parts.items ≡ last_pair_bytes gs
+stand-last e d named gs p turn s =
+    pieces-last d named p.parts.items s.pieces s.are_parts
+    ∙ sym (ap last_pair_bytes s.ended.division ∙ pairs-append (pieces_groups s.pieces) s.ended.line
+    ∙ ap (λ o. option_or o (last_pair_bytes (pieces_groups s.pieces)))
+    (of-line s.ended.line s.ended.end (tail-back e (pieces_groups s.pieces) s.ended.line (inr (subst (AreInTurn e) s.ended.division turn)))))
+  where
+    of-line : (line : List (List HeldLine)) → IsEnd s.pieces line → IsTail e line → last_pair_bytes line ≡ None
+    of-line [] k t = refl
+    of-line (l ∷ []) k (inl none) = absurd (cc)
+    of-line (l ∷ []) k (inr a) = lf-no_pair e l [] a (left-none (unended_bytes l) (ending_bytes (last_ending l)) (sym (bytes-unended l) ∙ k))
+    of-line (l ∷ m ∷ ls) k t = absurd k
+
+-- ---- the last line ending
+
+-- The last line ending of bytes is that of their groups, or an LF.
+pub last-among : (e : Encoding) (body : List ℕ) (by : declared.LineEnding) → is_editable e ≡ true → IsLastEnding body by
+    → ending_of by ≡ ending_among lf (held_in (held_groups_of e body))
+last-among e body by ok h = h e (held_groups_of e body) ok (held_groups_of-meets e body)
+
+-- ---- the last pair by itself
 
 -- The bytes of the last pair are one group.
 last-in : (e : Encoding) → is_editable e ≡ true → (gs : List (List HeldLine)) → IsTail e gs → IsPairIn e (last_pair_bytes gs)
@@ -35,7 +109,7 @@ last-in e ok (g ∷ gs) (inr a) = later (last_pair_bytes gs) (last-in e ok gs (t
   where
     this : (o : Option (List ℕ × List ℕ)) → IsPairIn e (option_map (λ said. unended_bytes g) o)
     this None = tt
-    this (Some said) = let l = group-lines-of e g gs a in (without_ending g, alone-groups e g l.0 ok l.1 l.2)
+    this (Some said) = let l = turn-first e g gs a in (without_ending g, alone-groups e g l.0 ok l.1 l.2)
 
     later : (o : Option (List ℕ)) → IsPairIn e o → IsPairIn e (option_or o (pair_bytes_of g))
     later (Some x) i = i
@@ -77,7 +151,7 @@ last-alike e ok (g ∷ gs) s (inr a) = later (last_pair_bytes gs) (last_between 
     this : (o : Option (List ℕ × List ℕ)) → outcome_pair (outcome g) ≡ o → IsAlike e (option_map (λ said. unended_bytes g) o) (between_group g)
     this None is = between-unpaired x s.0 (ap is_some is)
     this (Some said) is =
-        let l = group-lines-of e g gs a in
+        let l = turn-first e g gs a in
         let b = between-some (split_of x) x (ap is_some is) in
         (b.0, ap last_between (alone-groups e g l.0 ok l.1 l.2) ∙ ap (λ y. between_if_pair (split_of y) y) (unended-joined g) ∙ b.1, b.1)
 

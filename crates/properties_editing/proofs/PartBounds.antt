@@ -1,5 +1,5 @@
 -- What bounds say of parts stays after edits.
-use Rattle.std.proofs.Common.{◌≡◌, ◌<◌, ◌≤◌, ◌-◌, ℕ, zero, suc, Bool, true, false, List, [], ◌∷◌, ◌++◌, Option, Some, None, take, drop, length, refl, ap, sym, ◌∙◌, subst, inl, inr, arith}
+use Rattle.std.proofs.Common.{◌≡◌, ◌<◌, ◌≤◌, ◌-◌, ℕ, zero, suc, Bool, true, false, List, [], ◌∷◌, ◌++◌, Option, Some, None, take, drop, length, length-append, refl, ap, sym, ◌∙◌, subst, inl, inr, arith}
 use Rattle.std.specs.Prelude.{get_or, min}
 use Rattle.std.specs.Global.{Vec}
 use Rattle.std.proofs.Math.Nat.{eq-or-lt_of_le}
@@ -58,19 +58,27 @@ leaves-behind d (Some CR) ps i = leaves-first d ps i
 leaves-behind d (Some LF) ps i = same d (get_or ps i no_part)
 leaves-behind d (Some CRLF) ps i = same d (get_or ps i no_part)
 
-leaves-out : (d : List ℕ) (o : Option declared.LineEnding) (j : ℕ) (ps : List Part)
-    → LeavesAll d ps (take j ps ++ no_part ∷ parts_behind d o (drop (suc j) ps))
-leaves-out d o zero [] zero = gone d no_part
-leaves-out d o zero [] (suc i) = leaves-behind d o [] i
-leaves-out d o (suc j) [] zero = gone d no_part
-leaves-out d o (suc j) [] (suc i) = leaves-behind d o [] i
-leaves-out d o zero (p ∷ ps) zero = gone d p
-leaves-out d o zero (p ∷ ps) (suc i) = leaves-behind d o ps i
-leaves-out d o (suc j) (p ∷ ps) zero = same d p
-leaves-out d o (suc j) (p ∷ ps) (suc i) = leaves-out d o j ps i
+-- One part is another, and those behind it are others.
+around : (P : Part → Part → Type 0) → ((p : Part) → P p p) → (j : ℕ) (ps : List Part) (q : Part) (qs : List Part) → P (get_or ps j no_part) q
+    → ((i : ℕ) → P (get_or (drop (suc j) ps) i no_part) (get_or qs i no_part)) → (i : ℕ) → P (get_or ps i no_part) (get_or (take j ps ++ q ∷ qs) i no_part)
+around P same j [] q qs this behind i = of-front j i this behind
+  where
+    of-front : (j i : ℕ) → P no_part q → ((i : ℕ) → P (get_or (drop (suc j) []) i no_part) (get_or qs i no_part))
+        → P no_part (get_or (take j [] ++ q ∷ qs) i no_part)
+    of-front zero zero this behind = this
+    of-front zero (suc i) this behind = behind i
+    of-front (suc j) zero this behind = this
+    of-front (suc j) (suc i) this behind = behind i
+around P same zero (p ∷ ps) q qs this behind zero = this
+around P same zero (p ∷ ps) q qs this behind (suc i) = behind i
+around P same (suc j) (p ∷ ps) q qs this behind zero = same p
+around P same (suc j) (p ∷ ps) q qs this behind (suc i) = around P same j ps q qs this behind i
 
 leaves-taken : (d : List ℕ) (j : ℕ) (ps : List Part) → LeavesAll d ps (taken_out d j ps)
-leaves-taken d j ps = rw (plus-one j) (leaves-out d (get_or ps j no_part).ending j ps)
+leaves-taken d j ps =
+    let o = (get_or ps j no_part).ending in
+    let rest = parts_behind d o (drop (suc j) ps) in
+    rw (plus-one j) (around (Leaves d) (same d) j ps no_part rest (gone d (get_or ps j no_part)) (leaves-behind d o (drop (suc j) ps)))
 
 leaves-all : (d : List ℕ) (is : List ℕ) (ps : List Part) → LeavesAll d ps (taken_all d is ps)
 leaves-all d [] ps i = same d (get_or ps i no_part)
@@ -132,14 +140,9 @@ kept : (d : List ℕ) (p : Part) → Keeps d p p
 kept d p = record { plain = λ h. h; none = λ h. h }
 
 keep-set : (d : List ℕ) (bytes : Vec ℕ) (j : ℕ) (ps : List Part) → KeepAll d ps (take j ps ++ with_bytes bytes (get_or ps j no_part) ∷ drop (suc j) ps)
-keep-set d bytes zero [] zero = record { plain = λ h. refl; none = λ h. h }
-keep-set d bytes zero [] (suc i) = kept d no_part
-keep-set d bytes (suc j) [] zero = record { plain = λ h. refl; none = λ h. h }
-keep-set d bytes (suc j) [] (suc i) = kept d no_part
-keep-set d bytes zero (p ∷ ps) zero = record { plain = λ h. refl; none = λ h. h }
-keep-set d bytes zero (p ∷ ps) (suc i) = kept d (get_or ps i no_part)
-keep-set d bytes (suc j) (p ∷ ps) zero = kept d p
-keep-set d bytes (suc j) (p ∷ ps) (suc i) = keep-set d bytes j ps i
+keep-set d bytes j ps =
+    around (Keeps d) (kept d) j ps (with_bytes bytes (get_or ps j no_part)) (drop (suc j) ps) (record { plain = λ h. refl; none = λ h. h })
+    (λ i. kept d (get_or (drop (suc j) ps) i no_part))
 
 set-length : (j : ℕ) (q : Part) (ps : List Part) → length ps ≤ length (take j ps ++ q ∷ drop (suc j) ps)
 set-length j q [] = omega arith
@@ -198,10 +201,6 @@ at-push d q is [] (suc i) h = refl
 at-push d q is (p ∷ ps) zero h = h
 at-push d q is (p ∷ ps) (suc i) h = at-push d q is ps i h
 
-push-length : (ps : List Part) (q : Part) → length (ps ++ q ∷ []) ≡ suc (length ps)
-push-length [] q = refl
-push-length (p ∷ ps) q = ap suc (push-length ps q)
-
 bounds-push : (d : List ℕ) (b : Bounds) (ps : List Part) (q : Part) → IsPlain d q → AreBounds d b ps → AreBounds d b (ps ++ q ∷ [])
 bounds-push d b ps q is h = (
   λ i from. at-push d q is ps i (h.0 i from),
@@ -210,7 +209,7 @@ bounds-push d b ps q is h = (
         let n : i < length ps = (let w = h.1.within in omega arith) in
         subst HasNoPair (sym (get_or_append_left ps (q ∷ []) no_part i n)) (h.1.none i from before);
     ordered = h.1.ordered;
-    within = (let w = h.1.within in let m = push-length ps q in omega arith);
+    within = (let w = h.1.within in let m = length-append ps (q ∷ []) in omega arith);
   },
 )
 

@@ -3,6 +3,7 @@ use Rattle.std.proofs.Common.{◌≡◌, ◌<◌, ◌≤◌, ◌-◌, ◌==◌, 
 use Rattle.std.specs.Prelude.{get_or, ◌&&◌, true, false}
 use Rattle.std.specs.Option.{option_or}
 use Rattle.std.proofs.lemmas.Bool.Decides.{nat_tests}
+use Rattle.std.proofs.Math.Seq.{take-suc}
 use Rattle.properties_format.specs.Text.{lf, crlf, carriage_return, line_feed, is_empty, line_ending_text}
 use Rattle.properties_format.specs.Lines.{HoldsNoLineEnding}
 use Rattle.properties_format.specs.Computed.Lines.{ends_in_cr}
@@ -15,26 +16,13 @@ use Rattle.properties_editing.specs.Private.PartEndings.{ArePartsWithin, IsEndin
 use Rattle.properties_editing.specs.declared.parts.Part.{Part}
 use Rattle.properties_editing.specs.declared.parts.endings.FoundEnding.{FoundEnding}
 use Rattle.properties_editing.proofs.LastPairs.{cr-last, last-by, last-none}
+use Rattle.properties_editing.proofs.PartsAt.{or-assoc, or-none}
 
 -- ---- the last part with something
 
 pub last-push : {X : Type 0} (f : Part → Option X) (ps : List Part) (p : Part) → last_some f (ps ++ p ∷ []) ≡ option_or (f p) (last_some f ps)
-last-push f [] p = or-none (f p)
-  where
-    or-none : {X : Type 0} (o : Option X) → option_or None o ≡ option_or o None
-    or-none None = refl
-    or-none (Some x) = refl
+last-push f [] p = sym (or-none (f p))
 last-push f (q ∷ ps) p = ap (λ o. option_or o (f q)) (last-push f ps p) ∙ or-assoc (f p) (last_some f ps) (f q)
-  where
-    or-assoc : {X : Type 0} (a b c : Option X) → option_or (option_or a b) c ≡ option_or a (option_or b c)
-    or-assoc None b c = refl
-    or-assoc (Some x) b c = refl
-
--- The parts up to a place are those before, and the one in it.
-pub take-push : (ps : List Part) (n : ℕ) (p : Part) → n < length ps → take (suc n) ps ≡ take n ps ++ get_or ps n p ∷ []
-take-push [] n p k = absurd (omega arith)
-take-push (q ∷ ps) zero p k = refl
-take-push (q ∷ ps) (suc n) p k = ap (λ v. q ∷ v) (take-push ps n p (omega arith))
 
 -- One more part was looked at, from the end.
 pub step-back : {X : Type 0} (f : Part → Option X) (ps : List Part) (m : ℕ) (p : Part) (x : Option X) → 0 < m → m ≤ length ps → f (get_or ps (m - 1) p) ≡ x
@@ -44,7 +32,7 @@ step-back f ps m p x some within is =
     let size : m ≡ suc n = omega arith in
     let inside : n < length ps = omega arith in
     ap (λ i. last_some f (take i ps)) size
-    ∙ ap (last_some f) (take-push ps n p inside)
+    ∙ ap (last_some f) (take-suc ps n p inside)
     ∙ last-push f (take n ps) (get_or ps n p)
     ∙ ap (λ o. option_or o (last_some f (take n ps))) is
 

@@ -12,7 +12,7 @@ use Rattle.properties_format.specs.Lines.{joined}
 use Rattle.properties_format.specs.Items.{Entry, Outcome, ignored, given, broken}
 use Rattle.properties_format.specs.Items as content
 use Rattle.properties_format.specs.Body.{HeldLine, as_lines, ending_bytes, last_ending}
-use Rattle.properties_format.specs.Computed.Body.{held_groups_of, outcome_key, unended_bytes}
+use Rattle.properties_format.specs.Computed.Body.{held_groups_of, unended_bytes}
 use Rattle.properties_format.specs.Computed.Edited.{IsSound}
 use Rattle.properties_format.specs.Computed.Items.{followed, outcome_of}
 use Rattle.properties_format.specs.Computed.Maps.{first_value}
@@ -31,36 +31,30 @@ use Rattle.properties_format.proofs.Plan.Slots.{slots-merged}
 use Rattle.properties_text.specs.Encoding.{encoding_of}
 use Rattle.properties_items.specs.BorrowedItems.{outcome_pair}
 use Rattle.properties_editing.specs.Private.BodyDocuments.{every, groups_in}
-use Rattle.properties_editing.specs.Private.BodyParts.{outcome, ArePartsOf, NoneNamed, Piece, StandFor, names_outcome, pieces_groups, value_among, value_if, value_in}
+use Rattle.properties_editing.specs.Private.BodyParts.{outcome, ArePartsOf, IsEnd, NoneNamed, Piece, Said, StandFor, group_said, names_said, piece_said, pieces_groups, value_among, value_if, value_in}
 use Rattle.properties_editing.specs.Private.BodyParts as parts
 use Rattle.properties_editing.specs.Private.EditedParts.{StandForSource}
-use Rattle.properties_editing.specs.Private.KeyOrder.{piece_key}
+use Rattle.properties_editing.specs.Private.KeyOrder.{said_key}
 use Rattle.properties_editing.specs.Private.Sound.{AreSound, AreSoundFor, IsSoundFor}
 use Rattle.properties_editing.specs.declared.source.Comments.TheVariants.{PassedOver, Read}
 use Rattle.properties_editing.specs.declared.parts.Part.{Part}
 use Rattle.properties_editing.specs.declared.parts.Parts.{Parts}
 use Rattle.properties_editing.specs.declared.parts.source_parts.SourceParts.{SourceParts}
 use Rattle.properties_editing.proofs.PassedOver.{read-line}
-use Rattle.properties_editing.proofs.PartsRead.{last-turn, left-none, or-none}
-use Rattle.properties_editing.proofs.PartsTaken.{lf-said}
+use Rattle.properties_editing.proofs.PartsAt.{or-none}
+use Rattle.properties_editing.proofs.PartsRead.{left-none}
+use Rattle.properties_editing.proofs.PartsRemoved.{IsTail, tail-back, lf-said}
 use Rattle.properties_editing.proofs.SourceParts.{source-slots}
 
 abbrev pub Pairs : Type 0
 Pairs = List (List ℕ × List ℕ)
 
 -- the pairs of groups, and those of pieces
-abbrev said : List HeldLine → Option (List ℕ × List ℕ)
-said g = outcome_pair (outcome g)
-
 abbrev pub pairs_in : List (List HeldLine) → Pairs
-pairs_in gs = filter_map said gs
-
-abbrev piece_pair : Piece → Option (List ℕ × List ℕ)
-piece_pair (parts.own g) = said g
-piece_pair (parts.others gs) = None
+pairs_in gs = filter_map group_said gs
 
 abbrev pub pairs_of : List Piece → Pairs
-pairs_of pieces = filter_map piece_pair pieces
+pairs_of pieces = filter_map piece_said pieces
 
 -- the value of a key among pairs, and all keys
 abbrev pub last_said : List ℕ → Pairs → Option (List ℕ)
@@ -72,39 +66,37 @@ keys_of pairs = map (λ p. p.0) pairs
 
 -- ---- values and keys by pairs
 
-or-said : (key : List ℕ) (v : Option (List ℕ)) (o : Option (List ℕ × List ℕ)) (ps : Pairs) → v ≡ last_said key ps
-    → option_or v (value_if key o) ≡ last_said key (cons_option o ps)
-or-said key v None ps same = or-none v ∙ same
-or-said key v (Some p) ps same = ap (λ u. option_or u (value_if key (Some p))) same
+value-said : {X : Type 0} (f : X → Said) (key : List ℕ) (xs : List X) → value_in key (map f xs) ≡ last_said key (filter_map f xs)
+value-said f key [] = refl
+value-said f key (x ∷ xs) = by (f x) (value_in key (map f xs)) (value-said f key xs)
+  where
+    by : (o : Said) (v : Option (List ℕ)) → v ≡ last_said key (filter_map f xs) → option_or v (value_if key o) ≡ last_said key (cons_option o (filter_map f xs))
+    by None v same = or-none v ∙ same
+    by (Some p) v same = ap (λ u. option_or u (value_if key (Some p))) same
 
--- of groups,
+-- of groups and of pieces,
 pub value-groups : (key : List ℕ) (gs : List (List HeldLine)) → value_among key gs ≡ last_said key (pairs_in gs)
-value-groups key [] = refl
-value-groups key (g ∷ gs) = or-said key (value_among key gs) (said g) (pairs_in gs) (value-groups key gs)
+value-groups key gs = value-said group_said key gs
 
--- of pieces,
-pub value-pieces : (key : List ℕ) (ps : List Piece) → value_in key ps ≡ last_said key (pairs_of ps)
-value-pieces key [] = refl
-value-pieces key (parts.own g ∷ ps) = or-said key (value_in key ps) (said g) (pairs_of ps) (value-pieces key ps)
-value-pieces key (parts.others gs ∷ ps) = value-pieces key ps
+pub value-pieces : (key : List ℕ) (ps : List Piece) → value_in key (map piece_said ps) ≡ last_said key (pairs_of ps)
+value-pieces key ps = value-said piece_said key ps
 
-of-key : (o : Outcome) (keys : List (List ℕ)) (pairs : Pairs) → keys ≡ keys_of pairs → cons_option (outcome_key o) keys ≡ keys_of (cons_option (outcome_pair o) pairs)
-of-key ignored keys pairs same = same
-of-key (given (content.comment text)) keys pairs same = same
-of-key (given (content.pair key value)) keys pairs same = ap (λ v. key ∷ v) same
-of-key (broken kind) keys pairs same = same
-
-pub keys-pieces : (ps : List Piece) → filter_map piece_key ps ≡ keys_of (pairs_of ps)
+pub keys-pieces : (ps : List Piece) → filter_map said_key (map piece_said ps) ≡ keys_of (pairs_of ps)
 keys-pieces [] = refl
-keys-pieces (parts.own g ∷ ps) = of-key (outcome g) (filter_map piece_key ps) (pairs_of ps) (keys-pieces ps)
-keys-pieces (parts.others gs ∷ ps) = keys-pieces ps
+keys-pieces (p ∷ ps) = by (piece_said p) (keys-pieces ps)
+  where
+    by : (o : Said) → filter_map said_key (map piece_said ps) ≡ keys_of (pairs_of ps)
+        → cons_option (said_key o) (filter_map said_key (map piece_said ps)) ≡ keys_of (cons_option o (pairs_of ps))
+    by None same = same
+    by (Some (key, value)) same = ap (λ v. key ∷ v) same
 
 -- and of the entries of groups in which nothing is malformed.
 first-or : (a b : Option (List ℕ)) → first_value a b ≡ option_or a b
 first-or None b = refl
 first-or (Some x) b = refl
 
-pub value-entries : (n : ℕ) (gs : List (List HeldLine)) (key : List ℕ) → AreSoundFor Read gs → entry.value_in (entries_in n gs) key ≡ last_said key (pairs_in gs)
+pub value-entries : (n : ℕ) (gs : List (List HeldLine)) (key : List ℕ) → AreSoundFor Read gs
+    → entry.value_in (entries_in n gs) key ≡ last_said key (pairs_in gs)
 value-entries n [] key s = refl
 value-entries n (g ∷ gs) key s = by (outcome g) (read-line _ s.0) (value-entries (n + length g) gs key s.1)
   where
@@ -198,8 +190,8 @@ merged-pairs e (g ∷ h ∷ gs) a = elim (cases_Bool (are_one_ending g h)) [
       let m = one-ending g h k in
       ap pairs_in (merged-one g h gs k)
       ∙ ap₂ cons_option (ap (λ v. outcome_pair (outcome_of (joined v))) (texts-with (Some crlf) g)) (merged-pairs e gs (after-lf e h gs a.1 m.by_lf))
-      ∙ ap (λ o. cons_option (said g) (cons_option o (pairs_in gs))) (sym (lf-said e h gs a.1 m.empty))
-  | inr k ↦ ap pairs_in (merged-two g h gs k) ∙ ap (cons_option (said g)) (merged-pairs e (h ∷ gs) a.1)
+      ∙ ap (λ o. cons_option (group_said g) (cons_option o (pairs_in gs))) (sym (lf-said e h gs a.1 m.empty))
+  | inr k ↦ ap pairs_in (merged-two g h gs k) ∙ ap (cons_option (group_said g)) (merged-pairs e (h ∷ gs) a.1)
 ]
 
 -- nor does an LF that guards the groups.
@@ -208,41 +200,39 @@ guarded-pairs e true gs a = ap (λ o. cons_option o (pairs_in gs)) (lf-said e (b
 guarded-pairs e false gs a = refl
 
 -- Groups without a key that is named have no pair.
-unnamed-pair : (o : Outcome) → names_outcome every (outcome_key o) ≡ false → outcome_pair o ≡ None
-unnamed-pair ignored n = refl
-unnamed-pair (given (content.comment text)) n = refl
-unnamed-pair (given (content.pair key value)) n = absurd (cc)
-unnamed-pair (broken kind) n = refl
-
 unnamed-pairs : (gs : List (List HeldLine)) → NoneNamed every gs → pairs_in gs ≡ []
 unnamed-pairs [] n = refl
-unnamed-pairs (g ∷ gs) n = ap₂ cons_option (unnamed-pair (outcome g) n.0) (unnamed-pairs gs n.1)
+unnamed-pairs (g ∷ gs) n = ap₂ cons_option (by (group_said g) n.0) (unnamed-pairs gs n.1)
+  where
+    by : (o : Said) → names_said every o ≡ false → o ≡ None
+    by None n = refl
+    by (Some (key, value)) n = absurd (cc)
 
 -- So all pairs are pieces.
 pieces-pairs : (d : List ℕ) (ps : List Part) (qs : List Piece) → ArePartsOf d every ps qs → pairs_in (pieces_groups qs) ≡ pairs_of qs
 pieces-pairs d [] [] k = refl
 pieces-pairs d [] (q ∷ qs) k = absurd k
 pieces-pairs d (p ∷ ps) [] k = absurd k
-pieces-pairs d (p ∷ ps) (parts.own g ∷ qs) k = ap (cons_option (said g)) (pieces-pairs d ps qs k.1)
+pieces-pairs d (p ∷ ps) (parts.own g ∷ qs) k = ap (cons_option (group_said g)) (pieces-pairs d ps qs k.1)
 pieces-pairs d (p ∷ ps) (parts.others gs ∷ qs) k =
-    filter_map-append said gs (pieces_groups qs)
+    filter_map-append group_said gs (pieces_groups qs)
     ∙ ap₂ (λ x y. x ++ y) (unnamed-pairs gs k.0.unnamed) (pieces-pairs d ps qs k.1)
 
 -- The pairs of the groups are those of the pieces,
 pub stand-pairs : (d : List ℕ) (e : Encoding) (gs : List (List HeldLine)) (p : Parts) (s : StandFor d every gs p) → AreInTurn e gs → pairs_in gs ≡ pairs_of s.pieces
 stand-pairs d e gs p s turn =
-    let front = pieces_groups s.pieces in
-    let same = pieces-pairs d p.parts.items s.pieces s.are_parts in
-    elim s.ended [
-      | inl a ↦
-          let unended = left-none (unended_bytes a.line) (ending_bytes (last_ending a.line)) (sym (bytes-unended a.line) ∙ a.no_bytes) in
-          let none = lf-said e a.line [] (last-turn e front a.line (subst (AreInTurn e) a.division turn)) unended in
-          ap pairs_in a.division
-          ∙ filter_map-append said front (a.line ∷ [])
-          ∙ ap₂ (λ x o. x ++ cons_option o []) same none
-          ∙ append-nil (pairs_of s.pieces)
-      | inr a ↦ ap pairs_in a.division ∙ same
-    ]
+    ap pairs_in s.ended.division ∙ filter_map-append group_said (pieces_groups s.pieces) s.ended.line
+    ∙ ap₂ (λ x y. x ++ y) (pieces-pairs d p.parts.items s.pieces s.are_parts)
+    (of-line s.ended.line s.ended.end (tail-back e (pieces_groups s.pieces) s.ended.line (inr (subst (AreInTurn e) s.ended.division turn))))
+    ∙ append-nil (pairs_of s.pieces)
+  where
+    of-line : (line : List (List HeldLine)) → IsEnd s.pieces line → IsTail e line → pairs_in line ≡ []
+    of-line [] k t = refl
+    of-line (l ∷ []) k (inl none) = absurd (cc)
+    of-line (l ∷ []) k (inr a) =
+        let unended = left-none (unended_bytes l) (ending_bytes (last_ending l)) (sym (bytes-unended l) ∙ k) in
+        ap (λ o. cons_option o []) (lf-said e l [] a unended)
+    of-line (l ∷ m ∷ ls) k t = absurd k
 
 -- and those of the groups that the bytes have.
 pub source-pairs : {r : Repertoire} {read now : List ℕ} {gs : List (List HeldLine)} {p : SourceParts} (s : StandForSource r read now every gs p)

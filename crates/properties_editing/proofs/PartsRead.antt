@@ -1,31 +1,29 @@
 -- How a body is read into parts, group by group.
-use Rattle.std.proofs.Common.{◌≡◌, ◌≢◌, ◌≤◌, ◌⊎◌, ℕ, suc, ◌+◌, ◌-◌, Bool, true, false, List, [], ◌∷◌, ◌++◌, Option, Some, None, length, take, drop, refl, ap, ap₂, sym, ◌∙◌, subst, inl, inr, append-nil, append_assoc, length-append, arith, ltb-true, ltb-false}
+use Rattle.std.proofs.Common.{◌≡◌, ◌≢◌, ◌≤◌, ◌⊎◌, ℕ, ◌+◌, ◌-◌, Bool, true, false, List, [], ◌∷◌, ◌++◌, Option, Some, None, length, take, drop, refl, ap, ap₂, sym, ◌∙◌, subst, inl, inr, append-nil, append_assoc, length-append, arith, ltb-true, ltb-false}
 use Rattle.std.specs.Global.{Vec}
-use Rattle.std.specs.Prelude.{bytes_eq, nat_lt, max, if◌then◌else◌, ◌||◌}
+use Rattle.std.specs.Prelude.{bytes_eq, map, nat_lt, max, if◌then◌else◌, ◌||◌}
 use Rattle.std.specs.Option.{is_some, option_map, option_or}
 use Rattle.std.specs.Str.{chars}
 use Rattle.std.proofs.lemmas.Bool.{cases_Bool, cond-true, cond-false, le-ltb}
+use Rattle.std.proofs.lemmas.List.{length-map, map-append}
 use Rattle.std.proofs.lemmas.Slice.Eq.{bytes_eq-Decides}
 use Rattle.std.proofs.Math.Seq.{take-append_seam}
 use Rattle.properties_format.specs.Text.{LineEnding, lf, cr, crlf}
 use Rattle.properties_format.specs.Encoding.{Encoding}
 use Rattle.properties_format.specs.Body.{HeldLine, ending_bytes, group_bytes, groups_bytes, last_ending}
-use Rattle.properties_format.specs.Items.{Outcome, ignored, given, broken}
-use Rattle.properties_format.specs.Items as content
 use Rattle.properties_format.specs.Edited.{final_group, is_editable, is_empty_line, is_left_open}
-use Rattle.properties_format.specs.Computed.Body.{held_groups_of, has_key, is_pair_with, outcome_key, unended_bytes}
+use Rattle.properties_format.specs.Computed.Body.{held_groups_of, unended_bytes}
 use Rattle.properties_format.proofs.Body.Groups.{held-body, held_groups_of-meets, groups_bytes-append}
 use Rattle.properties_format.proofs.Edited.Steps.{final_group-push}
 use Rattle.properties_format.proofs.InTurn.Lines.{bytes-unended, lines-some, unended-some}
-use Rattle.properties_format.proofs.InTurn.Merged.{AreInTurn, in-turn}
-use Rattle.properties_format.proofs.Plan.Slots.{lf-no_key}
+use Rattle.properties_format.proofs.InTurn.Merged.{AreInTurn, in-turn, turn-first}
+use Rattle.properties_format.proofs.Plan.Slots.{lf-ignored}
 use Rattle.properties_text.specs.Encoding.{encoding_of}
 use Rattle.properties_items.specs.BorrowedItems.{outcome_pair}
-use Rattle.properties_items.specs.Texts.{characters}
 use Rattle.properties_items.specs.Line.{ending_of}
 use Rattle.properties_editing.specs.Private.Sound.{IsSoundFor, AreSoundFor}
 use Rattle.properties_editing.specs.Private.BodyGroups.{IsWithin, TakesGroup, groups_left, text_of, closing_of}
-use Rattle.properties_editing.specs.Private.BodyParts.{outcome, place_if, length_place, HaveBytes, AddsOther, AddsPair, AddsTold, AreMasked, ArePartsOf, ArePlaced, AreUnplaced, ClosesGap, HasPlaceAdded, IsPairPart, IsSpanWithin, NoneNamed, Piece, StandFor, ending_read, is_named, last_pair_bytes, names_group, names_outcome, no_gap, others_part, pair_bytes_of, pair_part, part_if, pieces_groups, places_of, places_with, span_bytes, span_of_group, stored_of, value_in, value_if, value_of}
+use Rattle.properties_editing.specs.Private.BodyParts.{outcome, place_if, length_place, HaveBytes, AddsOther, AddsPair, AddsTold, AreMasked, ArePartsOf, ArePlaced, AreUnplaced, ClosesGap, EndsAlone, HasPlaceAdded, IsPairPart, IsSpanWithin, NoneNamed, Piece, StandFor, ending_read, is_named, last_pair_bytes, names_group, names_said, no_gap, Said, piece_said, others_part, pair_bytes_of, pair_part, part_if, pieces_groups, places_with, span_bytes, span_of_group, stored_of, value_in, value_of}
 use Rattle.std.specs.Int.{bit_at}
 use Rattle.properties_editing.specs.Private.BodyParts as parts
 use Rattle.properties_editing.specs.declared.source.Comments.{Comments}
@@ -36,65 +34,19 @@ use Rattle.properties_editing.specs.declared.groups.Closing.{Closing}
 use Rattle.properties_editing.specs.declared.parts.PartText.TheVariants as text
 use Rattle.properties_editing.specs.declared.parts.PartKind.TheVariants as kind
 use Rattle.properties_editing.specs.declared.parts.Part.{Part}
-use Rattle.properties_editing.specs.declared.parts.KeyPlaces.{KeyPlaces}
 use Rattle.properties_editing.specs.declared.parts.NamedKeys.{NamedKeys}
 use Rattle.properties_editing.specs.declared.parts.Parts.{Parts}
 use Rattle.properties_editing.specs.declared.parts.read.Gap.{Gap}
 use Rattle.properties_editing.proofs.GroupsRead.{HasRead, read-all, read-more, read-none, some-groups}
 use Rattle.properties_editing.proofs.BodyValues.{middle-of}
 use Rattle.properties_editing.proofs.LastPairs.{part-at}
+use Rattle.properties_editing.proofs.PartsAt.{alike-last, alone-push, or-assoc, or-none, parts-append, parts-length, pieces-append, placed-stored, places-append, value-append}
 
 -- ---- one list after another
-
-pub pieces-append : (ps qs : List Piece) → pieces_groups (ps ++ qs) ≡ pieces_groups ps ++ pieces_groups qs
-pieces-append [] qs = refl
-pieces-append (p ∷ ps) qs = ap (λ v. parts.piece_groups p ++ v) (pieces-append ps qs) ∙ sym (append_assoc (parts.piece_groups p) (pieces_groups ps) (pieces_groups qs))
-
-pub parts-append : (d : List ℕ) (named : List ℕ → Bool) (ps : List Part) (qs : List Piece) (more : List Part) (others : List Piece)
-    → ArePartsOf d named ps qs → ArePartsOf d named more others → ArePartsOf d named (ps ++ more) (qs ++ others)
-parts-append d named [] [] more others h k = k
-parts-append d named [] (q ∷ qs) more others h k = absurd h
-parts-append d named (p ∷ ps) [] more others h k = absurd h
-parts-append d named (p ∷ ps) (q ∷ qs) more others h k = (h.0, parts-append d named ps qs more others h.1 k)
-
-pub parts-length : (d : List ℕ) (named : List ℕ → Bool) (ps : List Part) (qs : List Piece) → ArePartsOf d named ps qs → length ps ≡ length qs
-parts-length d named [] [] h = refl
-parts-length d named [] (q ∷ qs) h = absurd h
-parts-length d named (p ∷ ps) [] h = absurd h
-parts-length d named (p ∷ ps) (q ∷ qs) h = ap suc (parts-length d named ps qs h.1)
-
-place-append : (b : Bool) (n : ℕ) (xs ys : List ℕ) → place_if b n (xs ++ ys) ≡ place_if b n xs ++ ys
-place-append true n xs ys = refl
-place-append false n xs ys = refl
-
-pub places-append : (key : List ℕ) (n : ℕ) (ps qs : List Piece) → places_with key n (ps ++ qs) ≡ places_with key n ps ++ places_with key (n + length ps) qs
-places-append key n [] qs = let same : n ≡ n + 0 = omega arith in ap (λ m. places_with key m qs) same
-places-append key n (parts.others gs ∷ ps) qs =
-    let same : suc n + length ps ≡ n + suc (length ps) = omega arith in
-    places-append key (suc n) ps qs ∙ ap (λ m. places_with key (suc n) ps ++ places_with key m qs) same
-places-append key n (parts.own g ∷ ps) qs =
-    let same : suc n + length ps ≡ n + suc (length ps) = omega arith in
-    ap (place_if (has_key key g) n) (places-append key (suc n) ps qs ∙ ap (λ m. places_with key (suc n) ps ++ places_with key m qs) same)
-    ∙ place-append (has_key key g) n (places_with key (suc n) ps) (places_with key (n + suc (length ps)) qs)
-
-or-assoc : {X : Type 0} (a b c : Option X) → option_or (option_or a b) c ≡ option_or a (option_or b c)
-or-assoc None b c = refl
-or-assoc (Some x) b c = refl
-
-pub or-none : {X : Type 0} (a : Option X) → option_or a None ≡ a
-or-none None = refl
-or-none (Some x) = refl
 
 pub last-push : (gs : List (List HeldLine)) (g : List HeldLine) → last_pair_bytes (gs ++ g ∷ []) ≡ option_or (pair_bytes_of g) (last_pair_bytes gs)
 last-push [] g = sym (or-none (pair_bytes_of g))
 last-push (h ∷ gs) g = ap (λ v. option_or v (pair_bytes_of h)) (last-push gs g) ∙ or-assoc (pair_bytes_of g) (last_pair_bytes gs) (pair_bytes_of h)
-
-pub value-append : (key : List ℕ) (ps qs : List Piece) → value_in key (ps ++ qs) ≡ option_or (value_in key qs) (value_in key ps)
-value-append key [] qs = sym (or-none (value_in key qs))
-value-append key (parts.own g ∷ ps) qs =
-    ap (λ v. option_or v (value_if key (outcome_pair (outcome g)))) (value-append key ps qs)
-    ∙ or-assoc (value_in key qs) (value_in key ps) (value_if key (outcome_pair (outcome g)))
-value-append key (parts.others gs ∷ ps) qs = value-append key ps qs
 
 pub none-append : (named : List ℕ → Bool) (gs hs : List (List HeldLine)) → NoneNamed named gs → NoneNamed named hs → NoneNamed named (gs ++ hs)
 none-append named [] hs m n = n
@@ -107,26 +59,6 @@ none-front named (g ∷ gs) hs m = (m.0, none-front named gs hs m.1)
 none-back : (named : List ℕ → Bool) (gs hs : List (List HeldLine)) → NoneNamed named (gs ++ hs) → NoneNamed named hs
 none-back named [] hs m = m
 none-back named (g ∷ gs) hs m = none-back named gs hs m.1
-
--- ---- what an outcome says
-
-key-of : (o : Outcome) (key value : List ℕ) → outcome_pair o ≡ Some (key, value) → outcome_key o ≡ Some key
-key-of ignored key value h = absurd (cc)
-key-of (given (content.comment text)) key value h = absurd (cc)
-key-of (given (content.pair k v)) key value h = ap (option_map (λ (p : List ℕ × List ℕ). p.0)) h
-key-of (broken kind) key value h = absurd (cc)
-
-no_key-of : (o : Outcome) → outcome_pair o ≡ None → outcome_key o ≡ None
-no_key-of ignored h = refl
-no_key-of (given (content.comment text)) h = refl
-no_key-of (given (content.pair k v)) h = absurd (cc)
-no_key-of (broken kind) h = refl
-
-pub with-of : (k : List ℕ) (o : Outcome) (key value : List ℕ) → outcome_pair o ≡ Some (key, value) → is_pair_with k o ≡ bytes_eq key k
-with-of k ignored key value h = absurd (cc)
-with-of k (given (content.comment text)) key value h = absurd (cc)
-with-of k (given (content.pair j v)) key value h = let found : Some j ≡ Some key = ap (option_map (λ (p : List ℕ × List ℕ). p.0)) h in let same : j ≡ key = cc in ap (λ p. bytes_eq p k) same
-with-of k (broken kind) key value h = absurd (cc)
 
 -- ---- bytes of groups in a body
 
@@ -147,14 +79,10 @@ front-have e (x ∷ z ∷ xs) y ys a = ((λ q. lines-some e a.0.0 x a.0.1 q), fr
 -- A pair has bytes.
 pair-bytes : (e : Encoding) (g : List HeldLine) (ys : List (List HeldLine)) (key value : List ℕ) → AreInTurn e (g ∷ ys)
     → outcome_pair (outcome g) ≡ Some (key, value) → unended_bytes g ≢ []
-pair-bytes e g ys key value a said q = of-lines ys a
-  where
-    has : has_key key g ≡ true
-    has = with-of key (outcome g) key value said ∙ (bytes_eq-Decides key key).1 refl
-
-    of-lines : (ys : List (List HeldLine)) → AreInTurn e (g ∷ ys) → ⊥
-    of-lines [] a = let n = lf-no_key e None key g a.0 q in let m = has in absurd (cc)
-    of-lines (y ∷ ys) a = let n = lf-no_key e (Some a.0.0) key g a.0.1 q in let m = has in absurd (cc)
+pair-bytes e g ys key value a said q =
+    let lines = turn-first e g ys a in
+    let no = sym said ∙ ap outcome_pair (lf-ignored e lines.0 g lines.1 q) in
+    absurd (cc)
 
 -- Groups behind others are in turn.
 turn-next : (e : Encoding) (x y : List HeldLine) (xs ys : List (List HeldLine)) → AreInTurn e (x ∷ (xs ++ y ∷ ys)) → AreInTurn e (xs ++ y ∷ ys)
@@ -165,10 +93,6 @@ turn-back : (e : Encoding) (ps xs : List (List HeldLine)) (y : List HeldLine) (y
     → AreInTurn e (xs ++ y ∷ ys)
 turn-back e [] xs y ys a = a
 turn-back e (p ∷ ps) xs y ys a = turn-back e ps xs y ys (turn-next e p y (ps ++ xs) ys a)
-
-pub last-turn : (e : Encoding) (xs : List (List HeldLine)) (y : List HeldLine) → AreInTurn e (xs ++ y ∷ []) → AreInTurn e (y ∷ [])
-last-turn e [] y a = a
-last-turn e (x ∷ xs) y a = last-turn e xs y (turn-next e x y xs [] a)
 
 -- A last group without bytes is an empty line.
 pub last-line : (e : Encoding) (g : List HeldLine) → AreInTurn e (g ∷ []) → group_bytes g ≡ [] → is_empty_line g ≡ true
@@ -204,14 +128,6 @@ others_piece (g ∷ gs) = parts.others (g ∷ gs) ∷ []
 pub others-groups : (gs : List (List HeldLine)) → pieces_groups (others_piece gs) ≡ gs
 others-groups [] = refl
 others-groups (g ∷ gs) = append-nil (g ∷ gs)
-
-pub others-value : (key : List ℕ) (gs : List (List HeldLine)) → value_in key (others_piece gs) ≡ None
-others-value key [] = refl
-others-value key (g ∷ gs) = refl
-
-pub others-places : (key : List ℕ) (n : ℕ) (gs : List (List HeldLine)) → places_with key n (others_piece gs) ≡ []
-others-places key n [] = refl
-others-places key n (g ∷ gs) = refl
 
 abbrev others_of : ℕ → ℕ → Option BodySpan → Part
 others_of start end last = record { text = text.Span (record { start = start; end = end }); ending = None; kind = kind.Others last }
@@ -289,19 +205,13 @@ gap-within : (d : List ℕ) (gap : Gap) (left : List (List HeldLine)) → IsGapO
 gap-within d gap left (inl (none, is)) = subst (λ v. let g : Gap = v in IsSpanWithin d (option_or g.last g.before)) (sym is) tt
 gap-within d gap left (inr k) = or-within d gap.last gap.before k.last_within k.before_within
 
--- The last piece is a pair.
-pub record EndInPair (pieces : List Piece) : Type 0 where
-  pub before : List Piece
-  pub group : List HeldLine
-  pub are_pieces : pieces ≡ before ++ parts.own group ∷ []
-
 -- These groups of a body were read: those that parts stand for, and those of a gap.
 pub record HasParted (comments : Comments) (e : Encoding) (body : List ℕ) (keys : NamedKeys) (s : GroupReader) (parts : Parts) (closing : Closing) (gap : Gap) : Type 0 where
   pub pieces : List Piece
   pub left : List (List HeldLine)
   pub read : HasRead comments e body (pieces_groups pieces ++ left) s
   pub are_parts : ArePartsOf body (is_named keys) parts.parts.items pieces
-  pub placed : ArePlaced pieces parts.keys
+  pub placed : ArePlaced (map piece_said pieces) parts.keys
   pub same_named : (key : List ℕ) → is_named parts.keys key ≡ is_named keys key
   pub starts : gap.start ≡ length (groups_bytes (pieces_groups pieces))
   pub unnamed : NoneNamed (is_named keys) left
@@ -310,7 +220,7 @@ pub record HasParted (comments : Comments) (e : Encoding) (body : List ℕ) (key
       ⊎ (closing ≡ closing_of (is_empty_line (final_group (pieces_groups pieces ++ left))) (is_left_open (final_group (pieces_groups pieces ++ left))))
   pub all : parts.keys.all ≡ keys.all
   pub masked : AreMasked parts.keys
-  pub ends : (pieces ≡ []) ⊎ EndInPair pieces
+  pub ends : (pieces ≡ []) ⊎ EndsAlone pieces
 
 pub parted-none : (comments : Comments) (body : List ℕ) (keys : NamedKeys) (s : GroupReader) (parts : Parts) (closing : Closing) → s.scanner.at ≡ 0 → s.scanner.passed ≡ 0
     → s.scanner.is_done ≡ false → IsWithin body s → AreUnplaced keys → parts.keys ≡ keys → parts.parts.items ≡ []
@@ -342,51 +252,27 @@ or-true true = refl
 or-true false = refl
 
 -- A part of groups without such a key is no place.
-placed-others : (pieces : List Piece) (left : List (List HeldLine)) (keys : NamedKeys) → ArePlaced pieces keys → ArePlaced (pieces ++ others_piece left) keys
-placed-others pieces left keys h = record {
-  places = λ key. h.places key
-      ∙ sym (places-append key 0 pieces (others_piece left)
-      ∙ ap (λ v. places_with key 0 pieces ++ v) (others-places key (0 + length pieces) left)
-      ∙ append-nil (places_with key 0 pieces));
-  values = λ all key. h.values all key
-      ∙ sym (value-append key pieces (others_piece left) ∙ ap (λ v. option_or v (value_in key pieces)) (others-value key left));
+placed-others : (pieces : List Piece) (left : List (List HeldLine)) (keys : NamedKeys) → ArePlaced (map piece_said pieces) keys
+    → ArePlaced (map piece_said (pieces ++ others_piece left)) keys
+placed-others pieces [] keys h = subst (λ v. ArePlaced (map piece_said v) keys) (sym (append-nil pieces)) h
+placed-others pieces (g ∷ gs) keys h = rw (map-append piece_said pieces (others_piece (g ∷ gs))) (record {
+  places = λ key. h.places key ∙ sym (alike-last key None refl (map piece_said pieces) 0).0;
+  values = λ all key. h.values all key ∙ sym (alike-last key None refl (map piece_said pieces) 0).1;
   ordered = h.ordered;
-}
+})
 
 -- A pair more has a place.
-module _ (pieces : List Piece) (g : List HeldLine) (key value : List ℕ) (place : ℕ) (old new : NamedKeys)
-    (k : HasPlaceAdded key value place old new) where
-  pub placed-more : ArePlaced pieces old → outcome_pair (outcome g) ≡ Some (key, value) → place ≡ length pieces → ArePlaced (pieces ++ parts.own g ∷ []) new
-  placed-more was said size =
-      let at : place ≡ 0 + length pieces = omega arith in
-      record {
-        places = λ j.
-            elim (cases_Bool (bytes_eq key j)) [
-              | inl b ↦
-                  ap places_of (k.stored j ∙ cond-true (bytes_eq key j) (Some k.pair) (stored_of old.places.entries j) b)
-                  ∙ k.places
-                  ∙ ap₂ (λ v n. v ++ n ∷ []) (ap (λ v. places_of (stored_of old.places.entries v)) ((bytes_eq-Decides key j).0 b) ∙ was.places j) at
-                  ∙ ap (λ c. places_with j 0 pieces ++ place_if c (0 + length pieces) []) (sym (with-of j (outcome g) key value said ∙ b))
-              | inr b ↦
-                  ap places_of (k.stored j ∙ cond-false (bytes_eq key j) (Some k.pair) (stored_of old.places.entries j) b)
-                  ∙ was.places j
-                  ∙ sym (append-nil (places_with j 0 pieces))
-                  ∙ ap (λ c. places_with j 0 pieces ++ place_if c (0 + length pieces) []) (sym (with-of j (outcome g) key value said ∙ b))
-            ]
-            ∙ sym (places-append j 0 pieces (parts.own g ∷ []));
-        values = λ all j.
-            let before = sym k.all ∙ all in
-            ap value_of (k.stored j)
-            ∙ value-put (bytes_eq key j) k.pair value (stored_of old.places.entries j) (k.has_value before)
-            ∙ ap (option_or (if bytes_eq key j then Some value else None)) (was.values before j)
-            ∙ sym (value-append j pieces (parts.own g ∷ []) ∙ ap (λ v. option_or (value_if j v) (value_in j pieces)) said);
-        ordered = k.ordered;
-      }
-    where
-      value-put : (b : Bool) (p : KeyPlaces) (v : List ℕ) (o : Option KeyPlaces) → characters p.value ≡ v
-          → value_of (if b then Some p else o) ≡ option_or (if b then Some v else None) (value_of o)
-      value-put true p v o is = ap Some is
-      value-put false p v o is = refl
+module _ (said : List Said) (key value : List ℕ) (place : ℕ) (old new : NamedKeys) (k : HasPlaceAdded key value place old new) where
+  pub placed-more : ArePlaced said old → place ≡ length said → ArePlaced (said ++ Some (key, value) ∷ []) new
+  placed-more was size =
+      let own = (bytes_eq-Decides key key).1 refl in
+      let at : place ≡ 0 + length said = omega arith in
+      placed-stored key (Some k.pair) old new said (said ++ Some (key, value) ∷ []) k.stored k.ordered k.all was
+      (k.places ∙ ap₂ (λ v n. v ++ n ∷ []) (was.places key) at ∙ ap (λ b. places_with key 0 said ++ place_if b (0 + length said) []) (sym own)
+      ∙ sym (places-append key 0 said (Some (key, value) ∷ [])))
+      (λ all. ap Some (k.has_value all) ∙ ap (λ b. option_or (if b then Some value else None) (value_in key said)) (sym own)
+      ∙ sym (value-append key said (Some (key, value) ∷ [])))
+      (λ j b. alike-last j (Some (key, value)) b said 0)
 
   -- The same keys are named.
   named-more : is_named old key ≡ true → (j : List ℕ) → is_named new j ≡ is_named old j
@@ -460,7 +346,7 @@ module _ {comments : Comments} {e : Encoding} {body : List ℕ} {keys : NamedKey
         left = h.left ++ k.held ∷ [];
         read = subst (λ v. HasRead comments e body v t) (sym same) (read-more h.read k sound);
         are_parts = subst (λ v. let ps : Vec Part = v in ArePartsOf body (is_named keys) ps.items h.pieces) (sym adds.parts) h.are_parts;
-        placed = subst (ArePlaced h.pieces) (sym adds.keys) h.placed;
+        placed = subst (ArePlaced (map piece_said h.pieces)) (sym adds.keys) h.placed;
         same_named = λ key. ap (λ v. is_named v key) adds.keys ∙ h.same_named key;
         starts = h.starts;
         unnamed = none-append (is_named keys) h.left (k.held ∷ []) h.unnamed (unnamed, tt);
@@ -516,7 +402,7 @@ module _ {comments : Comments} {e : Encoding} {body : List ℕ} {keys : NamedKey
         some = pair-bytes e g (groups_left body t) key value (turn-back e (front ++ h.left) [] g (groups_left body t)
             (subst (λ v. AreInTurn e (v ++ g ∷ groups_left body t)) (sym (append-nil (front ++ h.left))) turn)) said;
         ending = ending-after body g (groups_left body t) group.end t.scanner.at part.back (ends-at k);
-        is_named_pair = ap (names_outcome named) (key-of (outcome g) key value said) ∙ sym (h.same_named key) ∙ adds.named;
+        is_named_pair = ap (names_said named) said ∙ sym (h.same_named key) ∙ adds.named;
       } in
       let others = others-pushed body named h.left gap.start group.start (option_or gap.last gap.before) gap_at
       (front-have e h.left g (groups_left body t) (turn-back e front h.left g (groups_left body t) turn)) h.unnamed (gap-within body gap h.left h.is_gap) (gap-last body gap h.left h.is_gap) in
@@ -531,9 +417,10 @@ module _ {comments : Comments} {e : Encoding} {body : List ℕ} {keys : NamedKey
         are_parts = subst (λ v. ArePartsOf body named v pieces) (sym (adds.parts ∙ ap (λ v. v ++ p ∷ []) adds.is_front))
             (parts-append body named (old.parts.items ++ others_part gap.start group.start (option_or gap.last gap.before)) (h.pieces ++ more)
             (p ∷ []) (parts.own g ∷ []) both (own, tt));
-        placed = placed-more (h.pieces ++ more) g key value (length adds.front) old.keys new.keys adds.placed
-            (placed-others h.pieces h.left old.keys h.placed) said size;
-        same_named = λ j. named-more (h.pieces ++ more) g key value (length adds.front) old.keys new.keys adds.placed adds.named j ∙ h.same_named j;
+        placed = subst (λ v. ArePlaced v new.keys) (ap (λ o. map piece_said (h.pieces ++ more) ++ o ∷ []) (sym said) ∙ sym (map-append piece_said (h.pieces ++ more) (parts.own g ∷ [])))
+            (placed-more (map piece_said (h.pieces ++ more)) key value (length adds.front) old.keys new.keys adds.placed
+            (placed-others h.pieces h.left old.keys h.placed) (size ∙ sym (length-map (h.pieces ++ more) piece_said)));
+        same_named = λ j. named-more [] key value (length adds.front) old.keys new.keys adds.placed adds.named j ∙ h.same_named j;
         starts = next.placed ∙ ap (λ v. length (groups_bytes v)) (sym same);
         unnamed = tt;
         is_gap = inl (refl, refl);
@@ -541,8 +428,8 @@ module _ {comments : Comments} {e : Encoding} {body : List ℕ} {keys : NamedKey
         all = adds.placed.all ∙ h.all;
         masked = λ not j named. ap (λ n. bit_at n (length_place j)) adds.placed.lengths
             ∙ h.masked (sym adds.placed.all ∙ not) j
-            (sym (named-more (h.pieces ++ more) g key value (length adds.front) old.keys new.keys adds.placed adds.named j) ∙ named);
-        ends = inr (record { before = h.pieces ++ more; group = g; are_pieces = refl });
+            (sym (named-more [] key value (length adds.front) old.keys new.keys adds.placed adds.named j) ∙ named);
+        ends = inr (alone-push (h.pieces ++ more) (parts.own g) g refl);
       })
 
   -- ---- a group more
@@ -550,7 +437,7 @@ module _ {comments : Comments} {e : Encoding} {body : List ℕ} {keys : NamedKey
   pub parted-more : (told : Option (List ℕ × List ℕ)) → is_editable e ≡ true → AddsTold body group t.scanner.at told gap old after new
       → told ≡ outcome_pair (outcome k.held) → HasParted comments e body keys t new closing after
   parted-more None ok adds said =
-      parted-other None adds (ap (names_outcome (is_named keys)) (no_key-of (outcome k.held) (sym said))) tt
+      parted-other None adds (ap (names_said (is_named keys)) (sym said)) tt
       (ap (option_map (λ p. unended_bytes k.held)) said)
   parted-more (Some (key, value)) ok (inl adds) said = parted-pair key value ok adds (sym said)
   parted-more (Some (key, value)) ok (inr (unnamed, adds)) said =
@@ -558,7 +445,7 @@ module _ {comments : Comments} {e : Encoding} {body : List ℕ} {keys : NamedKey
       let division = read-division h.read k in
       let part = part-at e body (pieces_groups h.pieces ++ h.left) k.held (groups_left body t) group.start group.end ok division (k.starts ∙ h.read.placed) k.span.unended in
       parted-other (Some (span_of_group group)) adds
-      (ap (names_outcome (is_named keys)) (key-of (outcome k.held) key value (sym said)) ∙ other) (part.ordered, part.within)
+      (ap (names_said (is_named keys)) (sym said) ∙ other) (part.ordered, part.within)
       (ap Some part.part ∙ ap (option_map (λ p. unended_bytes k.held)) said)
 
 -- ---- the last group
@@ -582,8 +469,8 @@ module _ {comments : Comments} {e : Encoding} {body : List ℕ} {keys : NamedKey
     | inr is ↦ is_closing ∙ is ∙ ap (λ v. closing_of (is_empty_line (final_group v)) (is_left_open (final_group v))) (sym all-read)
   ]
 
-  all-placed : ArePlaced h.pieces new.keys
-  all-placed = subst (ArePlaced h.pieces) (sym c.keys) h.placed
+  all-placed : ArePlaced (map piece_said h.pieces) new.keys
+  all-placed = subst (ArePlaced (map piece_said h.pieces)) (sym c.keys) h.placed
 
   -- No group is left in the gap.
   none-left : h.left ≡ [] → gap ≡ no_gap gap.start → StandFor body named (held_groups_of e body) new
@@ -605,7 +492,7 @@ module _ {comments : Comments} {e : Encoding} {body : List ℕ} {keys : NamedKey
         pieces = h.pieces;
         ended = elim h.ends [
           | inl none_of ↦ absurd (some-groups e body (all ∙ ap pieces_groups none_of))
-          | inr k ↦ inr (record { before = k.before; last = parts.own k.group; group = k.group; are_pieces = k.are_pieces; alone = refl; division = all })
+          | inr k ↦ record { line = []; division = all ∙ sym (append-nil front); end = k }
         ];
         are_parts = subst (λ v. ArePartsOf body named v h.pieces) (sym items) h.are_parts;
         placed = all-placed;
@@ -649,14 +536,11 @@ module _ {comments : Comments} {e : Encoding} {body : List ℕ} {keys : NamedKey
             ((λ none. let zero = ap length (ap (λ v. v ++ []) none) in absurd (omega arith)), tt) (none-back named rest (g ∷ []) unnamed) k.last_within k.last_is in
             record {
               pieces = before ++ own;
-              ended = inr (record {
-                before = before;
-                last = parts.others (g ∷ []);
-                group = g;
-                are_pieces = refl;
-                alone = refl;
-                division = split ∙ sym (pieces-append before own ∙ ap (λ v. v ++ g ∷ []) front_groups);
-              });
+              ended = record {
+                line = [];
+                division = split ∙ sym (append-nil (pieces_groups (before ++ own)) ∙ pieces-append before own ∙ ap (λ v. v ++ g ∷ []) front_groups);
+                end = alone-push before (parts.others (g ∷ [])) g refl;
+              };
               are_parts = subst (λ v. ArePartsOf body named v (before ++ own)) (sym items)
                   (parts-append body named (old.parts.items ++ others_part gap.start gap.last_start gap.before) before
                   (others_part gap.last_start (length body) gap.last) own front_parts part);
@@ -672,11 +556,11 @@ module _ {comments : Comments} {e : Encoding} {body : List ℕ} {keys : NamedKey
             ∙ append-nil (old.parts.items ++ others_part gap.start gap.last_start gap.before) in
             record {
               pieces = before;
-              ended = inl (record {
-                line = g;
-                no_bytes = left-none (group_bytes g) [] none;
+              ended = record {
+                line = g ∷ [];
                 division = split ∙ ap (λ v. v ++ g ∷ []) (sym front_groups);
-              });
+                end = left-none (group_bytes g) [] none;
+              };
               are_parts = subst (λ v. ArePartsOf body named v before) (sym same) front_parts;
               placed = front_placed;
               closing = all-closing;

@@ -19,9 +19,8 @@ use Rattle.properties_items.specs.BorrowedItems.{outcome_pair}
 use Rattle.properties_editing.specs.Private.Sound.{AreSound, IsSoundFor}
 use Rattle.properties_editing.specs.declared.source.Comments.TheVariants.{PassedOver}
 use Rattle.properties_editing.proofs.PassedOver.{sound-join}
-use Rattle.properties_editing.proofs.PartsAppended.{group-closed}
+use Rattle.properties_editing.proofs.PartsChanged.{group-closed, IsPairText, new-said}
 use Rattle.properties_editing.proofs.PartsRemoved.{left_of}
-use Rattle.properties_editing.proofs.PartsReplaced.{IsPairText, new-said}
 
 pub empty-sound : (e : Encoding) → IsSoundFor PassedOver (joined (as_lines (no_line e ∷ [])))
 empty-sound e = inl (rw (decoded-nil e) (subst IsSound (sym outcome-empty) tt))

@@ -1,5 +1,5 @@
 -- A source in parts: its mark, an LF that may guard its front, and the groups that its parts stand for.
-use Rattle.std.proofs.Common.{◌≡◌, ◌≢◌, ◌≤◌, ℕ, ◌==◌, ◌&&◌, ◌||◌, Bool, true, false, List, [], ◌∷◌, ◌++◌, Option, Some, None, length, take, drop, take-append-drop, refl, ap, ap₂, sym, ◌∙◌, subst, inl, inr, append-nil, append_assoc, arith}
+use Rattle.std.proofs.Common.{◌≡◌, ◌≢◌, ℕ, suc, ◌==◌, ◌&&◌, ◌||◌, Bool, true, false, List, [], ◌∷◌, ◌++◌, Option, Some, None, length, take, drop, take-append-drop, refl, ap, ap₂, sym, ◌∙◌, subst, inl, inr, append-nil, append_assoc, arith}
 use Rattle.std.specs.Prelude.{nat_le, not, Ok}
 use Rattle.std.specs.BTreeMap.{IsOrdered}
 use Rattle.std.specs.String.{string_cmp}
@@ -26,7 +26,7 @@ use Rattle.properties_format.proofs.Body.Decoded.{decoded-nil}
 use Rattle.properties_format.proofs.Plan.Listed.{guarded}
 use Rattle.properties_text.specs.Encoding.{encoding_of}
 use Rattle.properties_editing.specs.Private.BodyParts as parts
-use Rattle.properties_editing.specs.Private.BodyParts.{ArePartsOf, AreTextsWithin, Piece, StandFor, is_empty_part, is_named, part_bytes, parts_bytes, pieces_groups, value_among}
+use Rattle.properties_editing.specs.Private.BodyParts.{ArePartsOf, AreTextsWithin, IsEnd, Piece, StandFor, is_empty_part, is_named, part_bytes, parts_bytes, pieces_groups, value_among}
 use Rattle.properties_editing.specs.Private.SourceParts.{ReadsSource, RemovesKey, empty_front, first_text, lf_if, source_bytes}
 use Rattle.properties_editing.specs.Private.PartBounds.{AreBounds}
 use Rattle.properties_editing.specs.Private.RemovedParts.{AreBelow, key_places}
@@ -40,9 +40,9 @@ use Rattle.properties_editing.specs.declared.parts.NamedKeys.{NamedKeys}
 use Rattle.properties_editing.specs.declared.parts.Parts.{Parts}
 use Rattle.properties_editing.specs.declared.parts.source_parts.SourceParts.{SourceParts}
 use Rattle.properties_editing.proofs.Editing.{again, bom-front, editable, unmarked}
-use Rattle.properties_editing.proofs.PartsRead.{left-none, parts-length}
-use Rattle.properties_editing.proofs.PartsRemoved.{IsTail, left_of, nil-left, stays-front}
-use Rattle.properties_editing.proofs.PartsWithout.{AreEndedBy, empty-final, empty-none, ended-by, line-bytes, parts-removed, removable}
+use Rattle.properties_editing.proofs.PartsAt.{end-bytes, parts-length}
+use Rattle.properties_editing.proofs.PartsRead.{last-line, left-none}
+use Rattle.properties_editing.proofs.PartsRemoved.{IsTail, empty-none, left_of, nil-left, parts-removed, removable, stays-front}
 
 -- ---- the bytes of parts
 
@@ -61,12 +61,11 @@ pieces-bytes d named (p ∷ ps) (parts.others gs ∷ qs) k =
 pub stand-bytes : (d : List ℕ) (named : List ℕ → Bool) (gs : List (List HeldLine)) (p : Parts) → StandFor d named gs p
     → parts_bytes d p.parts.items ≡ groups_bytes gs
 stand-bytes d named gs p s =
-    let by = ended-by s.pieces gs s.ended in
     pieces-bytes d named p.parts.items s.pieces s.are_parts
     ∙ sym (append-nil (groups_bytes (pieces_groups s.pieces)))
-    ∙ ap (λ v. groups_bytes (pieces_groups s.pieces) ++ v) (sym (line-bytes s.pieces gs by.0 by.1))
-    ∙ sym (groups_bytes-append (pieces_groups s.pieces) by.0)
-    ∙ ap groups_bytes by.1.division
+    ∙ ap (λ v. groups_bytes (pieces_groups s.pieces) ++ v) (sym (end-bytes s.pieces s.ended.line s.ended.end))
+    ∙ sym (groups_bytes-append (pieces_groups s.pieces) s.ended.line)
+    ∙ ap groups_bytes (sym s.ended.division)
 
 -- ---- whether they begin like a byte order mark
 
@@ -116,10 +115,9 @@ pieces-mark d named e line z (p ∷ ps) (q ∷ qs) k t = elim (cases_Bool (is_em
 pub stand-mark : (d : List ℕ) (named : List ℕ → Bool) (e : Encoding) (gs : List (List HeldLine)) (p : Parts) → StandFor d named gs p → AreInTurn e gs
     → begins_like_bom (first_text d p.parts.items) ≡ begins_like_bom (groups_bytes gs)
 stand-mark d named e gs p s turn =
-    let by = ended-by s.pieces gs s.ended in
-    pieces-mark d named e by.0 (line-bytes s.pieces gs by.0 by.1) p.parts.items s.pieces s.are_parts
-    (inr (subst (AreInTurn e) (sym by.1.division) turn))
-    ∙ ap (λ v. begins_like_bom (groups_bytes v)) by.1.division
+    pieces-mark d named e s.ended.line (end-bytes s.pieces s.ended.line s.ended.end) p.parts.items s.pieces s.are_parts
+    (inr (subst (AreInTurn e) s.ended.division turn))
+    ∙ ap (λ v. begins_like_bom (groups_bytes v)) (sym s.ended.division)
 
 -- ---- a source
 
@@ -192,41 +190,26 @@ source-removable {read = read} {named = named} {gs = gs} {p = p} key s =
 
 -- ---- what comes first
 
--- Pieces have no groups if they are no more than the empty parts at the front,
-first-none : (d : List ℕ) (named : List ℕ → Bool) (ps : List Part) (before after : List Piece) → ArePartsOf d named ps (before ++ after)
-    → length before ≤ empty_front ps → pieces_groups before ≡ []
-first-none d named ps [] after k h = refl
-first-none d named [] (q ∷ before) after k h = absurd k
-first-none d named (p ∷ ps) (q ∷ before) after k h = elim (cases_Bool (is_empty_part p)) [
-  | inl empty ↦
-      let none = empty-none d named p q k.0 empty in
-      let more = rw empty at h in
-      rw none (first-none d named ps before after k.1 (omega arith))
-  | inr some ↦ let no = rw some at h in absurd (omega arith)
+next-place : (m n : ℕ) → nat_le (suc m) (suc n) ≡ nat_le m n
+next-place m n = elim (cases_Bool (nat_le m n)) [
+  | inl t ↦ let same : nat_le (suc m) (suc n) ≡ true = grind (arith, nat_tests) in same ∙ sym t
+  | inr t ↦ let same : nat_le (suc m) (suc n) ≡ false = grind (arith, nat_tests) in same ∙ sym t
 ]
 
--- and only then.
-first-some : (d : List ℕ) (named : List ℕ → Bool) (ps : List Part) (before after : List Piece) → ArePartsOf d named ps (before ++ after)
-    → pieces_groups before ≡ [] → length before ≤ empty_front ps
-first-some d named ps [] after k h = omega arith
-first-some d named [] (q ∷ before) after k h = absurd k
-first-some d named (p ∷ ps) (parts.own g ∷ before) after k h = absurd (cc)
-first-some d named (p ∷ ps) (parts.others (g ∷ gs) ∷ before) after k h = absurd (cc)
-first-some d named (p ∷ ps) (parts.others [] ∷ before) after k h =
-    let m = first-some d named ps before after k.1 h in
-    rw (k.0.empty refl) (omega arith)
-
--- So the empty parts say whether a place is the first of the body.
+-- The empty parts at the front say whether a place is the first of the body.
 pub first-place : (d : List ℕ) (named : List ℕ → Bool) (ps : List Part) (before after : List Piece) → ArePartsOf d named ps (before ++ after)
     → nat_le (length before) (empty_front ps) ≡ first_behind true (pieces_groups before)
-first-place d named ps before after k = elim (cases_Bool (nat_le (length before) (empty_front ps))) [
-  | inl t ↦ t ∙ sym (ap (first_behind true) (first-none d named ps before after k (grind (arith, nat_tests))))
-  | inr t ↦ t ∙ sym (of-groups (pieces_groups before) refl t)
+first-place d named ps [] after k = let first : nat_le 0 (empty_front ps) ≡ true = grind (arith, nat_tests) in first
+first-place d named [] (q ∷ before) after k = absurd k
+first-place d named (p ∷ ps) (q ∷ before) after k = elim (cases_Bool (is_empty_part p)) [
+  | inl empty ↦ rw (empty, empty-none d named p q k.0 empty) (next-place (length before) (empty_front ps) ∙ first-place d named ps before after k.1)
+  | inr some ↦ let later : nat_le (suc (length before)) 0 ≡ false = grind (arith, nat_tests) in rw some (later ∙ sym (of-piece q k.0 some))
 ]
   where
-    of-groups : (gs : List (List HeldLine)) → pieces_groups before ≡ gs → nat_le (length before) (empty_front ps) ≡ false → first_behind true gs ≡ false
-    of-groups [] none t = let m = first-some d named ps before after k none in absurd (grind (arith, nat_tests))
-    of-groups (g ∷ gs) same t = refl
+    of-piece : (q : Piece) → parts.IsPartOf d named p q → is_empty_part p ≡ false → first_behind true (parts.piece_groups q ++ pieces_groups before) ≡ false
+    of-piece (parts.own g) k some = refl
+    of-piece (parts.others (g ∷ gs)) k some = refl
+    of-piece (parts.others []) k some = let no = sym (k.empty refl) ∙ some in absurd (cc)
 
 -- Each group of a piece has bytes.
 some-bytes : (d : List ℕ) (named : List ℕ → Bool) (ps : List Part) (qs : List Piece) (g : List HeldLine) (gs : List (List HeldLine)) → ArePartsOf d named ps qs
@@ -247,30 +230,26 @@ some-front (c ∷ x) y n = refl
 pub first-new : (d : List ℕ) (named : List ℕ → Bool) (e : Encoding) (ending : List ℕ) (gs : List (List HeldLine)) (p : Parts) → StandFor d named gs p
     → AreInTurn e gs → nat_le (length p.parts.items) (empty_front p.parts.items) ≡ is_empty (groups_bytes gs ++ separation_by ending (final_group gs))
 first-new d named e ending gs p s turn =
-    let by = ended-by s.pieces gs s.ended in
     let held = subst (ArePartsOf d named p.parts.items) (sym (append-nil s.pieces)) s.are_parts in
     ap (λ n. nat_le n (empty_front p.parts.items)) (parts-length d named p.parts.items s.pieces s.are_parts)
     ∙ first-place d named p.parts.items s.pieces [] held
-    ∙ of-groups (pieces_groups s.pieces) by.0 refl by.1
+    ∙ of-groups (pieces_groups s.pieces) s.ended.line refl s.ended.division s.ended.end
   where
-    of-groups : (front line : List (List HeldLine)) → pieces_groups s.pieces ≡ front → AreEndedBy s.pieces gs line
+    of-groups : (front line : List (List HeldLine)) → pieces_groups s.pieces ≡ front → gs ≡ pieces_groups s.pieces ++ line → IsEnd s.pieces line
         → first_behind true front ≡ is_empty (groups_bytes gs ++ separation_by ending (final_group gs))
-    of-groups (g ∷ front) line same by =
+    of-groups (g ∷ front) line same division end =
         let some = some-bytes d named p.parts.items s.pieces g front s.are_parts same in
-        let whole : gs ≡ g ∷ (front ++ line) = sym by.division ∙ ap (λ v. v ++ line) same in
+        let whole : gs ≡ g ∷ (front ++ line) = division ∙ ap (λ v. v ++ line) same in
         let bytes = group_bytes g in
         sym (ap (λ v. is_empty (groups_bytes v ++ separation_by ending (final_group gs))) whole
         ∙ ap is_empty (append_assoc bytes (groups_bytes (front ++ line)) (separation_by ending (final_group gs)))
         ∙ some-front bytes (groups_bytes (front ++ line) ++ separation_by ending (final_group gs)) some)
-    of-groups [] line same by =
-        let whole : gs ≡ line = sym by.division ∙ ap (λ v. v ++ line) same in
-        elim by.is [
-          | inl i ↦
-              let one = whole ∙ i.1 in
-              let empty = empty-final e gs i.0 turn (ap final_group one) i.2 in
-              sym (ap (λ v. is_empty (groups_bytes v ++ separation_by ending (final_group v))) one ∙ rw (i.2, empty) refl)
-          | inr i ↦ absurd (subst (AreInTurn e) (whole ∙ i.0) turn)
-        ]
+    of-groups [] [] same division end = absurd (subst (AreInTurn e) (division ∙ ap (λ v. v ++ []) same) turn)
+    of-groups [] (l ∷ []) same division end =
+        let whole : gs ≡ l ∷ [] = division ∙ ap (λ v. v ++ l ∷ []) same in
+        let empty = last-line e l (subst (AreInTurn e) whole turn) end in
+        sym (ap (λ v. is_empty (groups_bytes v ++ separation_by ending (final_group v))) whole ∙ rw (end, empty) refl)
+    of-groups [] (l ∷ m ∷ ls) same division end = absurd end
 
 -- ---- a source is edited
 

@@ -1,5 +1,5 @@
 -- Parts of a source in which the value of the last pair with a key is set.
-use Rattle.std.proofs.Common.{◌≡◌, ℕ, ◌&&◌, Bool, true, false, List, [], ◌∷◌, ◌++◌, All, Option, Some, None, drop, refl, ap, sym, ◌∙◌, subst, inl, append-nil}
+use Rattle.std.proofs.Common.{◌≡◌, ℕ, ◌&&◌, Bool, true, false, List, [], ◌∷◌, ◌++◌, All, Option, Some, None, drop, refl, ap, sym, ◌∙◌, subst, append-nil}
 use Rattle.std.specs.Prelude.{get_or, if◌then◌else◌, nat_le, not}
 use Rattle.std.specs.Global.{Vec, Global}
 use Rattle.std.specs.declared.string.String.{String}
@@ -21,7 +21,7 @@ use Rattle.properties_format.proofs.Body.Groups.{IsLastFit}
 use Rattle.properties_format.proofs.Edited.LogicalLines.{key-outcome}
 use Rattle.properties_format.proofs.Edited.Made.{has_key-true}
 use Rattle.properties_format.proofs.InTurn.Lines.{AreLinesBy, lines-with, texts-with}
-use Rattle.properties_format.proofs.InTurn.Merged.{AreInTurn, IsLastGroup}
+use Rattle.properties_format.proofs.InTurn.Merged.{AreInTurn, IsLastGroup, turn-at}
 use Rattle.properties_format.proofs.Items.Unique.{outcome_of-only}
 use Rattle.properties_format.proofs.Plan.Slots.{all-after, AreSlotsOf, SayPair, IsFitChange, groups_after, slots-merged}
 use Rattle.properties_format.proofs.Plan.Values.{new_text, new-said, value-fit, value-with}
@@ -43,16 +43,11 @@ use Rattle.properties_editing.specs.declared.parts.Parts.{Parts}
 use Rattle.properties_editing.specs.declared.parts.source_parts.SourceParts.{SourceParts}
 use Rattle.properties_editing.proofs.Editing.{editable, used-own}
 use Rattle.properties_editing.proofs.EditedParts.{after, before, changed-plan, changed-sound, division, division-guarded, encoding-own, slots-own, some-between, source-changed, source-edited}
-use Rattle.properties_editing.proofs.PartsReplaced.{IsLastOwn, IsPairText, found-bytes, found-own, turn-from}
+use Rattle.properties_editing.proofs.PartsChanged.{IsLastOwn, IsPairText, found-bytes, found-own}
 
 -- ---- a group by itself
 
--- A group in turn has the same text without its last line ending.
-pub group-lines-of : (e : Encoding) (g : List HeldLine) (ys : List (List HeldLine)) → AreInTurn e (g ∷ ys)
-    → (o : Option LineEnding) × AreLinesBy e o g × IsLastFit g
-group-lines-of e g [] a = (None, a.0, a.1)
-group-lines-of e g (y ∷ ys) a = (Some a.0.0, a.0.1, inl a.0.2)
-
+-- A group has the same text without its last line ending.
 alone-turn : (e : Encoding) (g : List HeldLine) (o : Option LineEnding) → AreLinesBy e o g → IsLastFit g → IsLastGroup e (without_ending g)
 alone-turn e g o a w = (lines-with e o None g a (λ c. refl), rw (texts-with None g) w)
 
@@ -117,15 +112,14 @@ module _ {r : Repertoire} {read now : List ℕ} {named : List ℕ → Bool} {gs 
   abbrev pair : List ℕ
   pair = text_bytes (drop old.opened.start read) (get_or old.parts.parts.items place no_part).text
 
-  abbrev own : IsLastOwn key 0 place s.stand.pieces
+  abbrev own : IsLastOwn key place s.stand.pieces
   own = found-own (drop old.opened.start read) named gs old.parts key place s.stand (sym at)
 
   pair-bytes : pair ≡ unended_bytes own.group
   pair-bytes = found-bytes f s.in_force.editable (drop old.opened.start read) named key gs old.parts s.turn s.stand place own
 
   lines : (o : Option LineEnding) × AreLinesBy f o own.group × IsLastFit own.group
-  lines = group-lines-of f own.group (after s key place own)
-      (turn-from f (before s key place own) own.group (after s key place own) (subst (AreInTurn f) (division s key place own) s.turn))
+  lines = turn-at f (before s key place own) own.group (after s key place own) (subst (AreInTurn f) (division s key place own) s.turn)
 
   -- The pair is one by itself.
   pub found-alone : IsPairAlone f pair

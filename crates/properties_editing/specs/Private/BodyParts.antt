@@ -1,5 +1,5 @@
 -- The parts of a body that is edited, and the groups that they stand for.
-use Rattle.std.specs.Prelude.{◌≡◌, ◌≢◌, get_or, ◌⊎◌, ◌||◌, ◌==◌, ℕ, ◌+◌, ◌-◌, ◌≤◌, suc, nat_lt, max, Bool, true, false, if◌then◌else◌, List, [], ◌∷◌, ◌++◌, length, take, drop, bytes_eq, encode_utf8_all, bit_and, not, ◌%◌, ◌^◌, Option, Some, None, Result, Ok, Err}
+use Rattle.std.specs.Prelude.{◌≡◌, ◌≢◌, get_or, ◌⊎◌, ◌||◌, ◌==◌, ℕ, ◌+◌, ◌-◌, ◌≤◌, suc, nat_lt, max, Bool, true, false, if◌then◌else◌, map, List, [], ◌∷◌, ◌++◌, length, take, drop, bytes_eq, encode_utf8_all, bit_and, not, ◌%◌, ◌^◌, Option, Some, None, Result, Ok, Err}
 use Rattle.std.specs.Int.{bit_at}
 use Rattle.std.specs.Str.{chars}
 use Rattle.std.specs.Option.{is_some, option_map, option_or}
@@ -14,7 +14,7 @@ use Rattle.properties_format.specs.Items.{Outcome}
 use Rattle.properties_format.specs.Body.{HeldLine, as_lines, groups_bytes, last_ending}
 use Rattle.properties_format.specs.Body as body
 use Rattle.properties_format.specs.Edited.{final_group, is_empty_line, is_left_open}
-use Rattle.properties_format.specs.Computed.Body.{held_groups_of, has_key, outcome_key, unended_bytes}
+use Rattle.properties_format.specs.Computed.Body.{held_groups_of, unended_bytes}
 use Rattle.properties_format.specs.Computed.Lines.{begins_with_lf}
 use Rattle.properties_items.specs.BorrowedItems.{outcome_pair}
 use Rattle.properties_format.specs.Computed.Items.{outcome_of}
@@ -277,13 +277,25 @@ abbrev pub pieces_groups : List Piece → List (List HeldLine)
 pieces_groups [] = []
 pieces_groups (p ∷ ps) = piece_groups p ++ pieces_groups ps
 
--- whether the outcome is a pair with a key that is named
-abbrev pub names_outcome : (List ℕ → Bool) → Option (List ℕ) → Bool
-names_outcome named None = false
-names_outcome named (Some key) = named key
+-- a key and its value, if something is a pair
+abbrev pub Said : Type 0
+Said = Option (List ℕ × List ℕ)
+
+-- what a group says as a pair, and a piece that is one
+abbrev pub group_said : List HeldLine → Said
+group_said g = outcome_pair (outcome g)
+
+abbrev pub piece_said : Piece → Said
+piece_said (own g) = group_said g
+piece_said (others gs) = None
+
+-- whether it is a pair with a key that is named
+abbrev pub names_said : (List ℕ → Bool) → Said → Bool
+names_said named None = false
+names_said named (Some (key, value)) = named key
 
 abbrev pub names_group : (List ℕ → Bool) → List HeldLine → Bool
-names_group named g = names_outcome named (outcome_key (outcome g))
+names_group named g = names_said named (group_said g)
 
 -- No group is a pair with such a key.
 abbrev pub NoneNamed : (List ℕ → Bool) → List (List HeldLine) → Type 0
@@ -292,7 +304,7 @@ NoneNamed named (g ∷ gs) = (names_group named g ≡ false) × NoneNamed named 
 
 -- the bytes of the last pair among groups, without its last line ending
 abbrev pub pair_bytes_of : List HeldLine → Option (List ℕ)
-pair_bytes_of g = option_map (λ said. unended_bytes g) (outcome_pair (outcome g))
+pair_bytes_of g = option_map (λ said. unended_bytes g) (group_said g)
 
 abbrev pub last_pair_bytes : List (List HeldLine) → Option (List ℕ)
 last_pair_bytes [] = None
@@ -345,57 +357,57 @@ abbrev pub place_if : Bool → ℕ → List ℕ → List ℕ
 place_if true n places = n ∷ places
 place_if false n places = places
 
--- the places of the pairs with a key, where the first place is this one
-abbrev pub places_with : List ℕ → ℕ → List Piece → List ℕ
-places_with key n [] = []
-places_with key n (own g ∷ ps) = place_if (has_key key g) n (places_with key (suc n) ps)
-places_with key n (others gs ∷ ps) = places_with key (suc n) ps
+-- whether a pair has a key
+abbrev pub said_with : List ℕ → Said → Bool
+said_with key said = names_said (λ k. bytes_eq k key) said
 
--- the value of a key among these pieces: that of the last pair with it
-abbrev pub value_if : List ℕ → Option (List ℕ × List ℕ) → Option (List ℕ)
+-- the places of the pairs with a key, where the first place is this one
+abbrev pub places_with : List ℕ → ℕ → List Said → List ℕ
+places_with key n [] = []
+places_with key n (s ∷ ss) = place_if (said_with key s) n (places_with key (suc n) ss)
+
+-- the value of a key among these: that of the last pair with it
+abbrev pub value_if : List ℕ → Said → Option (List ℕ)
 value_if key None = None
 value_if key (Some (k, v)) = if bytes_eq k key then Some v else None
 
-abbrev pub value_in : List ℕ → List Piece → Option (List ℕ)
+abbrev pub value_in : List ℕ → List Said → Option (List ℕ)
 value_in key [] = None
-value_in key (own g ∷ ps) = option_or (value_in key ps) (value_if key (outcome_pair (outcome g)))
-value_in key (others gs ∷ ps) = value_in key ps
+value_in key (s ∷ ss) = option_or (value_in key ss) (value_if key s)
 
--- the same among groups
 abbrev pub value_among : List ℕ → List (List HeldLine) → Option (List ℕ)
-value_among key [] = None
-value_among key (g ∷ gs) = option_or (value_among key gs) (value_if key (outcome_pair (outcome g)))
+value_among key gs = value_in key (map group_said gs)
 
--- The keys have the places of their pairs among these pieces, and, if all are named, their values.
-pub record ArePlaced (pieces : List Piece) (keys : NamedKeys) : Type 0 where
-  pub places : (key : List ℕ) → places_of (stored_of keys.places.entries key) ≡ places_with key 0 pieces
-  pub values : keys.all ≡ true → (key : List ℕ) → value_of (stored_of keys.places.entries key) ≡ value_in key pieces
+-- The keys have the places of their pairs, and, if all are named, their values.
+pub record ArePlaced (said : List Said) (keys : NamedKeys) : Type 0 where
+  pub places : (key : List ℕ) → places_of (stored_of keys.places.entries key) ≡ places_with key 0 said
+  pub values : keys.all ≡ true → (key : List ℕ) → value_of (stored_of keys.places.entries key) ≡ value_in key said
   pub ordered : IsOrdered string_cmp keys.places
 
--- The pieces are all groups but the last one, which is an empty line,
-pub record EndInLine (pieces : List Piece) (groups : List (List HeldLine)) : Type 0 where
-  pub line : List HeldLine
-  pub no_bytes : body.group_bytes line ≡ []
-  pub division : groups ≡ pieces_groups pieces ++ line ∷ []
+-- The last piece is one group.
+abbrev pub EndsAlone : List Piece → Type 0
+EndsAlone [] = ⊥
+EndsAlone (p ∷ []) = (g : List HeldLine) × (piece_groups p ≡ g ∷ [])
+EndsAlone (p ∷ q ∷ ps) = EndsAlone (q ∷ ps)
 
--- or all groups, and the last group is a piece by itself.
-pub record EndInGroup (pieces : List Piece) (groups : List (List HeldLine)) : Type 0 where
-  pub before : List Piece
-  pub last : Piece
-  pub group : List HeldLine
-  pub are_pieces : pieces ≡ before ++ last ∷ []
-  pub alone : piece_groups last ≡ group ∷ []
-  pub division : groups ≡ pieces_groups pieces
+-- Behind the pieces come no groups, and the last piece is one; or an empty line comes.
+abbrev pub IsEnd : List Piece → List (List HeldLine) → Type 0
+IsEnd pieces [] = EndsAlone pieces
+IsEnd pieces (l ∷ []) = body.group_bytes l ≡ []
+IsEnd pieces (l ∷ m ∷ ls) = ⊥
 
-abbrev pub AreEnded : List Piece → List (List HeldLine) → Type 0
-AreEnded pieces groups = EndInLine pieces groups ⊎ EndInGroup pieces groups
+-- The pieces are all groups, but for an empty line at the end.
+pub record AreEnded (pieces : List Piece) (groups : List (List HeldLine)) : Type 0 where
+  pub line : List (List HeldLine)
+  pub division : groups ≡ pieces_groups pieces ++ line
+  pub end : IsEnd pieces line
 
 -- Parts of a body stand for these groups, and the keys that are named have their places.
 pub record StandFor (d : List ℕ) (named : List ℕ → Bool) (groups : List (List HeldLine)) (parts : Parts) : Type 0 where
   pub pieces : List Piece
   pub ended : AreEnded pieces groups
   pub are_parts : ArePartsOf d named parts.parts.items pieces
-  pub placed : ArePlaced pieces parts.keys
+  pub placed : ArePlaced (map piece_said pieces) parts.keys
   pub closing : parts.closing ≡ closing_of (is_empty_line (final_group groups)) (is_left_open (final_group groups))
 
 -- A body without malformed escapes was read, but for those that are passed over, and the parts stand for its groups; or

@@ -4,27 +4,26 @@ use Rattle.std.specs.Borrow.{Bor}
 use Rattle.std.specs.Option.{option_map}
 use Rattle.std.specs.Str.{chars}
 use Rattle.std.specs.declared.string.String.{String}
-use Rattle.properties_format.specs.Computed.Body.{outcome_key}
 use Rattle.properties_format.specs.Computed.Maps.{AreFirstOf}
 use Rattle.properties_editing.specs.Documents.{characters_of}
-use Rattle.properties_editing.specs.Private.BodyParts.{outcome, ArePlaced, Piece, others, own, places_of, stored_of}
+use Rattle.properties_editing.specs.Private.BodyParts.{ArePlaced, Said, places_of, stored_of}
 use Rattle.properties_editing.specs.declared.parts.KeyPlaces.{KeyPlaces}
 use Rattle.properties_editing.specs.declared.parts.Parts.{Parts}
 
--- The keys of parts have the places of their pairs among some pieces, one for each part.
+-- The keys of parts have the places of their pairs, where something is said of each part.
 pub record HavePlaces (parts : Parts) : Type 0 where
-  pub pieces : List Piece
-  pub size : length parts.parts.items ≡ length pieces
-  pub placed : ArePlaced pieces parts.keys
+  pub said : List Said
+  pub size : length parts.parts.items ≡ length said
+  pub placed : ArePlaced said parts.keys
 
--- the key of a piece that is a pair
-abbrev pub piece_key : Piece → Option (List ℕ)
-piece_key (own g) = outcome_key (outcome g)
-piece_key (others gs) = None
+-- the key of what is a pair
+abbrev pub said_key : Said → Option (List ℕ)
+said_key None = None
+said_key (Some (key, value)) = Some key
 
 -- These are the keys of the pairs, each once, in the order of their first pairs.
 abbrev pub HasKeysOf : Parts → List (Bor (List ℕ)) → Type 0
-HasKeysOf parts keys = (pieces : List Piece) → ArePlaced pieces parts.keys → AreFirstOf (filter_map piece_key pieces) (characters_of keys)
+HasKeysOf parts keys = (said : List Said) → ArePlaced said parts.keys → AreFirstOf (filter_map said_key said) (characters_of keys)
 
 -- ---- the places of the first pairs
 

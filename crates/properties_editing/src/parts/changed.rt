@@ -74,7 +74,7 @@ impl Parts {
     }
 
     // Returns the last part with what closes its group, or `None` if nothing has to.
-    #[tactic(auto, using(crate::proofs::PartLists::within_at, crate::proofs::PartsFound::get_any))]
+    #[tactic(auto, using(crate::proofs::PartLists::within_at, std::proofs::lemmas::List::get_or_default))]
     fn closed_last(
         &self,
         alloc: Global,
@@ -132,7 +132,7 @@ fn closed_part(
 }
 
 // Puts a part in the place of the last one, if it is given.
-#[tactic(auto, using(crate::proofs::PartsClosed::set_in_end, crate::proofs::PartsClosed::none_in_end))]
+#[tactic(auto, using(crate::proofs::PartLists::set_in_end, crate::proofs::PartLists::none_in_end))]
 fn set_last(parts: &mut Vec<Part>, part: Option<Part>)
     ensures items { parts.new.items ≡ with_last part parts.old.items }
     ensures size { vec_len parts.new ≡ vec_len parts.old }

@@ -32,7 +32,7 @@ impl KeyPlaces {
     }
 
     /// Returns the place of the last pair.
-    #[tactic(auto, using(crate::proofs::PartsFound::last_pushed))]
+    #[tactic(auto, using(crate::proofs::PartLists::last_pushed))]
     pub fn last_place(&self) -> Option<usize>
         ensures { result ≡ last_place (places_in self.now) }
     {

@@ -54,7 +54,7 @@ fn take_all_out(body: &[u8], parts: &mut Vec<Part>, places: &Places, feeds: usiz
 }
 
 // Drops the empty parts at the end, so that a key that is added and removed again leaves none.
-#[tactic(auto, using(crate::proofs::PartEnds::empty_end, crate::proofs::PartEnds::some_end))]
+#[tactic(auto, using(crate::proofs::PartLists::empty_end, crate::proofs::PartLists::some_end))]
 fn drop_empty_end(parts: &mut Vec<Part>)
     ensures { parts.new.items ≡ without_empty_end parts.old.items }
 {

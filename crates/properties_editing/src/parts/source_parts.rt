@@ -145,7 +145,7 @@ impl SourceParts {
 }
 
 // Returns the place of the first part that isn't empty. All before `from` are.
-#[tactic(auto, using(crate::proofs::PartFronts::front_from, crate::proofs::PartFronts::front_next, crate::proofs::PartFronts::front_ends, crate::proofs::PartFronts::front_all))]
+#[tactic(auto, using(crate::proofs::PartsLeft::front_from, crate::proofs::PartsLeft::front_next, crate::proofs::PartsLeft::front_ends, crate::proofs::PartsLeft::front_all))]
 fn first_some(parts: &Vec<Part>, from: usize) -> usize
     requires within { from ≤ length parts.now.items }
     requires empty { from ≤ empty_front parts.now.items }
@@ -212,7 +212,7 @@ fn has_no_pair(part: &Part) -> bool
 }
 
 // Returns whether the parts would be taken for a byte order mark. `first` is the place of the first that isn't empty.
-#[tactic(auto, using(crate::proofs::PartLists::within_at, crate::proofs::PartFronts::front_text, crate::proofs::PartFronts::front_none))]
+#[tactic(auto, using(crate::proofs::PartLists::within_at, crate::proofs::PartsLeft::front_text, crate::proofs::PartsLeft::front_none))]
 fn begin_like_mark(body: &[u8], parts: &Vec<Part>, first: usize) -> bool
     requires within { AreTextsWithin body.now parts.now.items }
     requires first { first ≡ empty_front parts.now.items }

@@ -11,7 +11,7 @@ use Rattle.properties_editing.specs.Private.BodyParts.{places_in, places_of}
 use Rattle.properties_editing.specs.declared.parts.KeyPlaces.{KeyPlaces}
 use Rattle.properties_text.proofs.TextFronts.{at-error}
 use Rattle.properties_editing.specs.Private.ChangedParts.{last_place}
-use Rattle.properties_editing.proofs.PartsFound.{no-last}
+use Rattle.properties_editing.proofs.PartLists.{no-last}
 use Rattle.properties_editing.proofs.parts.NamedKeys.add_any.Goals as goal
 
 pub returns-in_ok-add-in-Occupied-clause-added : goal.returns-in_ok-add-in-Occupied-clause-added

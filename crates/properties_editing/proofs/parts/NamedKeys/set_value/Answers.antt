@@ -6,7 +6,7 @@ use Rattle.std.specs.Str.{chars}
 use Rattle.properties_items.proofs.TextMaps.Values.{at_chars-sorted, at_chars-updated}
 use Rattle.properties_editing.specs.Private.BodyParts.{stored_of}
 use Rattle.properties_editing.specs.Private.ChangedParts.{with_value}
-use Rattle.properties_editing.proofs.PartsFound.{none-changed}
+use Rattle.properties_editing.proofs.PartLists.{none-changed}
 use Rattle.properties_editing.proofs.parts.NamedKeys.set_value.Goals as goal
 
 pub returns-in-Some : goal.returns-in-Some

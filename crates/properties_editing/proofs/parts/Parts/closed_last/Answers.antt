@@ -4,7 +4,7 @@ use Rattle.properties_items.specs.Line.{ending_of}
 use Rattle.properties_editing.specs.Private.BodyParts.{ended_bytes, no_part}
 use Rattle.properties_editing.specs.Private.ChangedParts.{ClosesPart}
 use Rattle.properties_editing.proofs.NewPairs.{ending-bytes}
-use Rattle.properties_editing.proofs.PartsClosed.{in-end}
+use Rattle.properties_editing.proofs.PartLists.{in-end}
 use Rattle.properties_editing.proofs.parts.Parts.closed_last.Goals as goal
 
 pub returns-in_ok-closed_part-in-OneEnding : goal.returns-in_ok-closed_part-in-OneEnding

@@ -4,7 +4,7 @@ use Rattle.properties_editing.specs.Private.BodyParts.{no_part}
 use Rattle.properties_editing.specs.Private.ChangedParts.{closing_after_new, with_bytes}
 use Rattle.properties_editing.specs.declared.parts.Part.{Part}
 use Rattle.properties_editing.proofs.PartLists.{set_alone}
-use Rattle.properties_editing.proofs.PartsFound.{get_any}
+use Rattle.std.proofs.lemmas.List.{get_or_default}
 use Rattle.properties_editing.proofs.parts.Parts.replace.Goals as goal
 
 pub returns : goal.returns
@@ -12,7 +12,7 @@ returns c =
     let ps = c.args.self.now.parts.items in
     let place = c.args.place in
     let part : Part = c.index_mut-part.result.now in
-    let is : part ≡ get_or ps place no_part = c.index_mut-part.ensures.value ∙ get_any ps place part no_part c.requires.place in
+    let is : part ≡ get_or ps place no_part = c.index_mut-part.ensures.value ∙ get_or_default ps place part no_part c.requires.place in
     record {
       parts = set_alone ps place (with_bytes c.args.bytes part) c.requires.place
           ∙ ap (λ p. take place ps ++ with_bytes c.args.bytes p ∷ drop (place + 1) ps) is;

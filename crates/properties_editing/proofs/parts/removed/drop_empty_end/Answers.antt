@@ -2,7 +2,7 @@ use Rattle.std.proofs.Common.{◌≡◌, ◌∙◌, length, refl, ap, sym, arith
 use Rattle.std.proofs.Math.Seq.{take-length}
 use Rattle.properties_editing.specs.Private.BodyParts.{is_empty_part}
 use Rattle.properties_editing.specs.Private.RemovedParts.{without_empty_end}
-use Rattle.properties_editing.proofs.PartEnds.{empty_end, some_end}
+use Rattle.properties_editing.proofs.PartLists.{empty_end, some_end}
 use Rattle.properties_editing.proofs.parts.removed.drop_empty_end.Goals as goal
 use Rattle.properties_editing.proofs.parts.removed.drop_empty_end.Goals.{then-loop-size-test+else-is_empty, else-loop-size-test}
 

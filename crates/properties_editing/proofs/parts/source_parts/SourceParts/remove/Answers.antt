@@ -2,7 +2,7 @@ use Rattle.std.proofs.Common.{sym, subst}
 use Rattle.std.specs.Str.{chars}
 use Rattle.properties_editing.specs.Private.PartBounds.{ArePlainFrom}
 use Rattle.properties_editing.proofs.PartBounds.{front-removed, none-removed, plain-removed}
-use Rattle.properties_editing.proofs.PartFronts.{removed-within}
+use Rattle.properties_editing.proofs.PartsLeft.{removed-within}
 use Rattle.properties_editing.proofs.parts.source_parts.SourceParts.remove.Goals as goal
 
 pub remove-told-requires-clause-plain : goal.remove-told-requires-clause-plain
