@@ -85,7 +85,7 @@ gives 0 "$(cat ../output)\n" ''
 cp ../output ../usage
 for words in 'Usage: propedit COMMAND [OPTION ..] [ARGUMENT ..]' '  get KEY ..  ' '  list [PREFIX]  ' '  check [FILE ..]  ' \
     '  set KEY VALUE  ' '  remove KEY  ' '  convert ENCODING  ' '  help [COMMAND]  ' '-f, --file FILE' '-i, --in-place FILE' '--create' '-e, --encoding NAME' \
-    '-d, --default VALUE' '-z, --null' '-v, --values' '-a, --ascii' '-x, --existing' '-r, --readable' '-h, --help' '-V, --version' 'utf-8 (the default)' \
+    '-d, --default VALUE' '-z, --null' '-v, --values' '-a, --ascii' '-x, --existing' '-q, --quiet' '-r, --readable' '-h, --help' '-V, --version' 'utf-8 (the default)' \
     'Options come before or after the command, but before its first argument' "comes after '--'" 'standard input' \
     'Status: 0'; do
     grep -qF -- "$words" ../usage || fail "the usage lacks: $words"
@@ -117,7 +117,7 @@ while read -r name options; do
 done <<'end'
 get file encoding default null
 list file encoding null values
-check file encoding ascii
+check file encoding ascii quiet
 set file in-place create encoding ascii existing
 remove file in-place create encoding ascii existing
 convert file in-place encoding readable
@@ -126,7 +126,7 @@ run help help
 gives 0 "$(cat ../output)\n" ''
 is "$(head -n 3 ../output)" $'Prints the commands, or the page of one of them\n\nUsage: propedit help [COMMAND]'
 run help remove
-is "$(tail -n 2 ../output)" $'Status: 0 done; 1 no pair has a KEY to set, and -x is given; 2 an error.\nThe options -a and -x require a \'set\'.'
+is "$(tail -n 2 ../output)" $'Status: 0 done; 1 no pair has a KEY, and -x is given; 2 an error.\nThe option -a requires a \'set\'.'
 run get -V
 gives 0 'propedit 1.14.0\n' ''
 
@@ -373,6 +373,21 @@ run -a -e latin1 check app.properties
 gives 1 'app.properties:1: has a non-ASCII character\napp.properties:2: has a non-ASCII character\n' ''
 run -e latin1 check two.properties app.properties
 gives 1 'two.properties:1: looks like UTF-8; without -e it is read as UTF-8\n' ''
+# With -q, the status tells. What isn't read is said.
+for words in '-q check' 'check -q' '--quiet check' 'check --quiet'; do
+    run $words one.properties two.properties
+    gives 1 '' ''
+    run $words two.properties
+    gives 0 '' ''
+    run $words two.properties nowhere one.properties
+    gives 2 '' 'propedit: nowhere: No such file or directory (os error 2)\n'
+done
+run check -qa two.properties
+gives 1 '' ''
+run check -q
+gives 1 '' ''
+run check -q -e latin1
+gives 0 '' ''
 run -i two.properties convert ascii
 run -a check two.properties
 gives 0 '' ''
@@ -396,7 +411,11 @@ gives 0 '# ports\r\nport : 8080\r\n\r\n  host = a\r\n! end' ''
 holds app.properties '# ports\r\nport : 80\r\n\r\n  host = a\r\n! end'
 # With -x, a key that no pair has is refused.
 run -x set port 8080 remove absent
-gives 0 '# ports\r\nport : 8080\r\n\r\n  host = a\r\n! end' ''
+gives 1 '' "propedit: standard input: no pair has the key 'absent'\n"
+run -x set port 8080 remove host
+gives 0 '# ports\r\nport : 8080\r\n\r\n! end' ''
+run remove -x -i app.properties prot
+gives 1 '' "propedit: app.properties: no pair has the key 'prot'\n"
 run --existing set port 8080 set prot 1 set hots b
 gives 1 '' "propedit: standard input: no pair has the key 'prot'\n"
 run -x -i app.properties set port 8080 set prot 1
@@ -869,9 +888,11 @@ is_refused "unknown option '--fil' of 'get'; a key $dashes; did you mean '--file
 is_refused "unknown option '--val' of 'get'; a key $dashes" "$(shape get)" get --val k
 is_refused "unknown option '-i' of 'get'; a key $dashes; '-f FILE' reads a file" "$(shape get)" get -i app.properties k
 is_refused "unknown option '-a' of 'list'; a prefix $dashes" "$(shape list)" list -a
-is_refused "unknown option '-q' of 'check'; a file $dashes" "$(shape check)" -f app.properties check -q
+is_refused "unknown option '-u' of 'check'; a file $dashes" "$(shape check)" -f app.properties check -u
 is_refused "unknown option '-a' of 'convert'" "$(shape convert)" convert -a utf-8
 is_refused "unknown option '-q' of 'help'" "$(shape help)" help -q
+is_refused "unknown option '-q' of 'get'; a key $dashes" "$(shape get)" get -q a
+is_refused "the option '--quiet' takes no value" "$(shape check)" check --quiet=1
 is_refused "unexpected '-v': options of 'list' come before its argument" "$(shape list)" list a -v
 is_refused "unexpected '-i': options of 'convert' come before its argument" "$(shape convert)" convert ascii -i app.properties
 is_refused "the option '-z' is given twice" "$(shape get)" -z get -z k
@@ -929,8 +950,8 @@ is_refused "the option '--file FILE' requires a FILE" "$all" --file
 is_refused "the option '-f FILE' requires a FILE" "$all" -f '' get a
 is_refused "the option '--in-place FILE' requires a FILE" "$all" --create --in-place= set a 1
 is_refused "the option '--null' takes no value" "$all" --null=1 list
-is_refused "unknown option in '-q'" "$all" -q get a
-is_refused "unknown option in '-zq'" "$all" -zq list
+is_refused "unknown option in '-u'" "$all" -u get a
+is_refused "unknown option in '-zu'" "$all" -zu list
 is_refused "unknown option '--fil'; did you mean '--file'?" "$all" --fil app.properties get a
 labels='use utf-8, windows-1252, utf-16le or utf-16be'
 is_refused "unknown encoding 'latin2'; $labels" "$(shape get)" -e latin2 get a
@@ -959,10 +980,16 @@ is_refused "the option '-f FILE' cannot be used with '-i FILE'" "$(shape set)" -
 is_refused "the option '-f FILE' cannot be used with '-i FILE'" "$(shape set)" -i a -f a set a 1
 is_refused "the option '-f FILE' cannot be used with 'check FILE ..'" "$(shape check)" \
     -f app.properties check app.properties
-for words in 'get a' list 'remove a' 'remove a remove b'; do
+for words in 'get a' list; do
     is_refused "the option '-a' cannot be used with '${words%% *}'" "$(shape ${words%% *})" -a $words
 done
-for words in 'get a' list check 'remove a' 'remove a remove b'; do
+for words in 'remove a' 'remove a remove b'; do
+    is_refused "the option '-a' requires a 'set'" "$(shape remove)" -a $words
+done
+for words in 'get a' list 'set a 1' 'remove a'; do
+    is_refused "the option '-q' cannot be used with '${words%% *}'" "$(shape ${words%% *})" -q $words
+done
+for words in 'get a' list check; do
     is_refused "the option '-x' cannot be used with '${words%% *}'" "$(shape ${words%% *})" -x $words
 done
 is_refused "the option '-x' cannot be used with '--create'" "$(shape set)" -x --create -i new.properties set a 1

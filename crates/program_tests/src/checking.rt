@@ -138,6 +138,25 @@ const CHECK: &[Row] = &[
     ),
 ];
 
+// The status alone tells whether anything is wrong, of each kind.
+const QUIET: &[Row] = &[
+    ("-q check", b"", 0, b""),
+    ("check -q", b"# a\na=\\u00e9\nb = \xc3\xa9\n", 0, b""),
+    ("check --quiet", b"# C:\\users\na=1", 1, b""),
+    ("-q check", b"a=1\na=\\u12", 1, b""),
+    ("-qf x check", b"a=1\nb=2\na=3", 1, b""),
+    ("-q check", b"a=1\nb=\xe9", 1, b""),
+    ("-q check", b"a\0", 1, b""),
+    ("-q -e latin1 check", b"a=\xc3\xa9", 1, b""),
+    ("check -qa", b"# \xc3\xa9", 1, b""),
+    ("check -q -e utf-16le", b"a\0\x1e\xdc", 1, b""),
+];
+
+#[test]
+fn a_quiet_check_prints_nothing(rt: HostRuntime) -> Result<(), Fail> {
+    check_runs(&rt, Program::Propedit, QUIET)
+}
+
 #[test]
 fn check_prints_what_is_wrong(rt: HostRuntime) -> Result<(), Fail> {
     check_runs(&rt, Program::Propedit, CHECK)

@@ -84,17 +84,21 @@ const EXISTING: &[Row] = &[
         b"a=2\n\\u0062 : 3",
     ),
     ("-x set '' 2", b"=1", 0, b"=2"),
-    // Of `remove` nothing is asked.
+    ("-x remove a", b"a=1\nb=2\na=3", 0, b"b=2\n"),
+    ("-x remove a remove b remove a", b"b\na", 0, b""),
+    // What counts are the pairs before the first edit.
+    ("-x set a 2 remove a", b"a=1", 0, b""),
+    ("-x remove a set a 2", b"a=1", 0, b"a=2\n"),
     (
-        "-ax remove a remove b set a \u{e9}",
-        b"a=1\nc:2\n",
+        "-ax remove a remove c set a \u{e9}",
+        b"a=1\nb:3\nc:2\n",
         0,
-        b"c:2\na:\\u00e9\n",
+        b"b:3\na:\\u00e9\n",
     ),
 ];
 
 #[test]
-fn a_key_to_set_may_have_to_be_there(rt: HostRuntime) -> Result<(), Fail> {
+fn the_key_of_an_edit_may_have_to_be_there(rt: HostRuntime) -> Result<(), Fail> {
     check_runs(&rt, Program::Propedit, EXISTING)
 }
 
@@ -110,12 +114,28 @@ const LACKING: &[(&str, &[u8], &str, &str)] = &[
     ("-x set '' 2", b"", "standard input", ""),
     // A key counts that a pair of the source has, and not one that an edit before it sets.
     ("-x set b 2 set b 3", b"a=1", "standard input", "b"),
+    ("-x set b 2 remove b", b"a=1", "standard input", "b"),
+    // The same of a key to remove.
+    ("-x remove b", b"a=1", "standard input", "b"),
+    ("-x -f y remove b set b 1", b"a=1", "y", "b"),
+    (
+        "--existing set a 2 remove c remove b",
+        b"a=1\nd=2",
+        "standard input",
+        "c",
+    ),
+    (
+        "-ax remove a remove b set a \u{e9}",
+        b"a=1\nc:2\n",
+        "standard input",
+        "b",
+    ),
     // What a comment says is no pair.
     ("-x set b 2", b"a=1\n# b=\\u1", "standard input", "b"),
 ];
 
 #[test]
-fn a_key_to_set_that_is_not_there_is_named(rt: HostRuntime) -> Result<(), Fail> {
+fn the_key_of_an_edit_that_is_not_there_is_named(rt: HostRuntime) -> Result<(), Fail> {
     for (number, row) in (1usize..).zip(LACKING) {
         let (words, input, source, key) = *row;
         let errors = format!(in rt.alloc(); "propedit: {source}: no pair has the key '{key}'\n")?;

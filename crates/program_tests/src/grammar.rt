@@ -55,8 +55,13 @@ const PLACES: &[Placed] = &[
     ("-zvf x", "list", b"a=1", 0, b"a\x001\0"),
     ("-a", "set a \u{e9}", b"", 0, b"a=\\u00e9\n"),
     ("--ascii", "check x", b"", 3, b""),
+    ("-q", "check", b"a=1\na=2", 1, b""),
+    ("--quiet", "check x", b"", 3, b""),
+    ("-qaf x", "check", b"a=\xc3\xa9", 1, b""),
     ("-x", "set a 2", b"a=1", 0, b"a=2"),
-    ("--existing", "set a 2 remove b", b"a=1", 0, b"a=2"),
+    ("--existing", "set a 2 remove b", b"a=1\nb", 0, b"a=2\n"),
+    ("-x", "remove a", b"a=1", 0, b""),
+    ("--existing", "remove a remove b", b"a=1\nb", 0, b""),
     ("-r", "convert utf-8", b"a=\\u00e9", 0, b"a=\xc3\xa9"),
     (
         "--readable",
@@ -77,6 +82,7 @@ const BOTH_PLACES: &[Row] = &[
     ("-z get -d 1 b", b"a=1", 0, b"1\0"),
     ("-z -f x list -v a", b"a=1\nb=2", 0, b"a\x001\0"),
     ("-e latin1 check -a -- -x", b"", 3, b""),
+    ("-e latin1 check -qa", b"a=\xe9", 1, b""),
     ("-i x set -e latin1 -x -- -a 1", b"", 3, b""),
     ("-a set -x a \u{e9}", b"a=1", 0, b"a=\\u00e9"),
     ("-i x convert -r utf-8", b"", 3, b""),
@@ -87,13 +93,17 @@ const EXISTING: &[&str] = &[
     "-x set a 2",
     "set -x a 2",
     "set --existing a 2 remove b",
+    "-x remove a",
+    "remove -x a",
+    "remove --existing b set a 1",
+    "remove -x -- a set b 1",
     "-a set -x a \u{e9}",
     "set -x -- a 2",
     "set -xa a 2",
 ];
 
 #[test]
-fn a_key_to_set_has_to_be_there(rt: HostRuntime) -> Result<(), Fail> {
+fn the_key_of_an_edit_has_to_be_there(rt: HostRuntime) -> Result<(), Fail> {
     let errors = "propedit: standard input: no pair has the key 'a'\n";
     for (number, words) in (1usize..).zip(EXISTING) {
         let row = (*words, b"b=1".as_slice(), 1, b"".as_slice(), errors);
@@ -127,6 +137,7 @@ const DASHES: &[Row] = &[
     ("set opts -Xmx1g", b"opts=1", 0, b"opts=-Xmx1g"),
     ("set -a -- -a \u{e9}", b"", 0, b"-a=\\u00e9\n"),
     ("set -x -- a=1 b=2", b"a\\=1=3", 0, b"a\\=1=b=2"),
+    ("remove -x -- -a", b"-a=1", 0, b""),
     ("set - -", b"", 0, b"-=-\n"),
     ("remove -- -x", b"-x=1\nx=2", 0, b"x=2"),
     // After a later `set` or `remove` stands a KEY.

@@ -252,6 +252,7 @@ const EDITS: &[(&str, &[u8], &[u8])] = &[
         b"b=\xff\n",
     ),
     ("-x -i edited.properties set a 3", b"# x\na=1", b"# x\na=3"),
+    ("remove -x -i edited.properties a", b"# x\na=1", b"# x\n"),
     // A missing file that is to be made isn't made if nothing changes.
     ("-i 'no such file' --create remove a", b"a=1", b"a=1"),
 ];
@@ -274,6 +275,12 @@ const REFUSED: &[(&str, &[u8], u8, &str)] = &[
     // A key that no pair has is refused if that is asked for.
     (
         "-x -i edited.properties set a 3 set b 1",
+        b"# x\na=1",
+        1,
+        "propedit: edited.properties: no pair has the key 'b'\n",
+    ),
+    (
+        "-x -i edited.properties remove a remove b",
         b"# x\na=1",
         1,
         "propedit: edited.properties: no pair has the key 'b'\n",

@@ -207,7 +207,7 @@ const CUT_OFF: Streams = Streams {
 fn an_input_that_fails_is_named(rt: HostRuntime) -> Result<(), Fail> {
     let input = b"a=1\nb=2".as_slice();
     let errors = "propedit: standard input:2: entity not found\n";
-    for (number, words) in (1usize..).zip(["get a", "list", "check", "set a 2"]) {
+    for (number, words) in (1usize..).zip(["get a", "list", "check", "check -q", "set a 2"]) {
         let row = (words, input, 2, b"".as_slice(), errors);
         check_run(&rt, number, Program::Propedit, CUT_OFF, row)?;
     }

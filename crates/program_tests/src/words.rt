@@ -204,13 +204,15 @@ const REQUIRES_IN_PLACE: &str = "the option '--create' requires '-i FILE'";
 
 const OPTIONS: &[Refusal] = &[
     // Options that there are not, without their value, or with one.
-    ("-q check", "unknown option in '-q'"),
-    ("-zq check", "unknown option in '-zq'"),
+    ("-u check", "unknown option in '-u'"),
+    ("-zu check", "unknown option in '-zu'"),
     (
         "--fil x check",
         "unknown option '--fil'; did you mean '--file'?",
     ),
-    ("--quiet check", "unknown option '--quiet'"),
+    ("--silent check", "unknown option '--silent'"),
+    ("check --quiet=1", "the option '--quiet' takes no value"),
+    ("-q check -q x", "the option '-q' is given twice"),
     ("-f", "the option '-f FILE' requires a FILE"),
     ("--file", "the option '--file FILE' requires a FILE"),
     ("-i", "the option '-i FILE' requires a FILE"),
@@ -269,6 +271,13 @@ const OPTIONS: &[Refusal] = &[
     ("--create remove k", REQUIRES_IN_PLACE),
     ("remove --create k", REQUIRES_IN_PLACE),
     ("set -i - k v", REQUIRES_A_FILE),
+    // What is written in ASCII is what a `set` puts in.
+    ("-a remove a", "the option '-a' requires a 'set'"),
+    ("remove -ax a", "the option '-a' requires a 'set'"),
+    (
+        "remove --ascii a remove b",
+        "the option '--ascii' requires a 'set'",
+    ),
 ];
 
 #[test]
@@ -496,14 +505,16 @@ const USELESS_OPTIONS: &[Filled] = &[
     ("-z convert utf-8", "-z", "convert"),
     ("-a get a", "-a", "get"),
     ("-a list", "-a", "list"),
-    ("-a remove a", "-a", "remove"),
     ("-a convert utf-8", "-a", "convert"),
     ("-v get a", "-v", "get"),
     ("--values set a 1", "--values", "set"),
+    ("-q get a", "-q", "get"),
+    ("-q list", "-q", "list"),
+    ("--quiet set a 1", "--quiet", "set"),
+    ("-q remove a", "-q", "remove"),
+    ("-q convert utf-8", "-q", "convert"),
+    ("-q help", "-q", "help"),
     ("-x get a", "-x", "get"),
-    ("-x remove a remove b", "-x", "remove"),
-    ("remove -a a", "-a", "remove"),
-    ("remove -x -- -a", "-x", "remove"),
     ("set -f x -i x a 1", "-f FILE", "-i FILE"),
     ("check -f x y", "-f FILE", "check FILE .."),
     ("-z help", "-z", "help"),

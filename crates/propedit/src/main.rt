@@ -156,7 +156,7 @@ fn check_files<W: CountedWrite, E: CountedWrite>(
         let job = Job {
             encoding,
             source: source_named(path),
-            command: Command::Check(files.allowed),
+            command: Command::Check(files.check),
         };
         highest = highest.max(check_file(rt, alloc, &job, output, errors));
     }

@@ -47,6 +47,7 @@ pub enum OptionName {
     Values,
     Ascii,
     Existing,
+    Quiet,
     Readable,
     Help,
     Version,
@@ -101,7 +102,12 @@ pub const COMMANDS: &[CommandRow] = &[
         name: "check",
         words: "[FILE ..]",
         help: "Reports ill-formed lines, bad escapes, repeated keys",
-        options: &[OptionName::File, OptionName::Encoding, OptionName::Ascii],
+        options: &[
+            OptionName::File,
+            OptionName::Encoding,
+            OptionName::Ascii,
+            OptionName::Quiet,
+        ],
         other_names: &["lint", "validate", "verify"],
         examples: "propedit check app.properties\n  \
             propedit check -a -- *.properties",
@@ -116,7 +122,7 @@ pub const COMMANDS: &[CommandRow] = &[
         other_names: &["put", "add", "edit", "change", "update", "replace"],
         examples: "propedit set -i app.properties port 8080\n  \
             propedit set -x -i app.properties -- \"$key\" \"$value\"",
-        statuses: "0 done; 1 no pair has a KEY to set, and -x is given; 2 an error",
+        statuses: "0 done; 1 no pair has a KEY, and -x is given; 2 an error",
     },
     CommandRow {
         command: CommandName::Remove,
@@ -127,8 +133,8 @@ pub const COMMANDS: &[CommandRow] = &[
         other_names: &["delete", "del", "rm", "unset"],
         examples: "propedit remove -i app.properties port\n  \
             propedit remove port set server.port 8080 < app.properties",
-        statuses: "0 done; 1 no pair has a KEY to set, and -x is given; 2 an error.\n\
-            The options -a and -x require a 'set'",
+        statuses: "0 done; 1 no pair has a KEY, and -x is given; 2 an error.\n\
+            The option -a requires a 'set'",
     },
     CommandRow {
         command: CommandName::Convert,
@@ -229,7 +235,14 @@ const OPTIONS: &[OptionRow] = &[
         short: Some('x'),
         long: "existing",
         value: "",
-        help: "Has set refuse a KEY that no pair has, with status 1",
+        help: "Refuses edits of a KEY that no pair has, with status 1",
+    },
+    OptionRow {
+        option: OptionName::Quiet,
+        short: Some('q'),
+        long: "quiet",
+        value: "",
+        help: "Has check print nothing: the status tells",
     },
     OptionRow {
         option: OptionName::Readable,

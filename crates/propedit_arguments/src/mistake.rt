@@ -71,6 +71,8 @@ pub enum Mistake<'a> {
     Twice(TypedOption, Option<&'static CommandRow>),
     /// This command has no use for this option.
     NotWith(TypedOption, &'static CommandRow),
+    /// No edit sets anything, and this option has a use for nothing else.
+    NothingToSet(TypedOption, &'static CommandRow),
     /// These two options exclude each other.
     Both(TypedOption, TypedOption, &'static CommandRow),
     /// A file is given by this option, and others after this command.
@@ -122,6 +124,7 @@ impl Mistake<'_> {
             | Mistake::OptionForKey(row)
             | Mistake::OptionForKeyOf(_, row)
             | Mistake::NotWith(_, row)
+            | Mistake::NothingToSet(_, row)
             | Mistake::Both(_, _, row)
             | Mistake::TwoFiles(_, row)
             | Mistake::NothingToCreate(row)
@@ -221,6 +224,7 @@ impl fmt::Display for Mistake<'_> {
             Mistake::OptionValue(option, _) => write!(f, "the option '{option}' takes no value"),
             Mistake::Twice(option, _) => write!(f, "the option '{option}' is given twice"),
             Mistake::NotWith(option, row) => show_not_with(f, option, row),
+            Mistake::NothingToSet(option, _) => write!(f, "the option '{option}' requires a 'set'"),
             Mistake::Both(one, other, _) => {
                 write!(f, "the option '{one}' cannot be used with '{other}'")
             }

@@ -205,13 +205,10 @@ impl<'a> Options<'a> {
         }
     }
 
-    /// Fails if an option is given that only `set` has a use for, for edits that set nothing.
+    /// Fails if ASCII is asked for, for edits that set nothing.
     pub fn refuse_for_set(&self, command: &'static CommandRow) -> Result<(), Mistake<'a>> {
-        match self
-            .find(OptionName::Ascii)
-            .or(self.find(OptionName::Existing))
-        {
-            Some(given) => Err(Mistake::NotWith(given.option, command)),
+        match self.find(OptionName::Ascii) {
+            Some(given) => Err(Mistake::NothingToSet(given.option, command)),
             None => Ok(()),
         }
     }

@@ -13,7 +13,7 @@ use crate::options::{Options, options_in};
 use counted_io::CountedWrite;
 use java_properties::Edit;
 use properties_tools::propedit::request::{
-    Allowed, Change, CheckedFiles, Command, Conversion, Edits, FileChange, Request,
+    Allowed, Change, Check, CheckedFiles, Command, Conversion, Edits, FileChange, Request,
 };
 use properties_tools::propedit::{print_out_of_memory, print_text, print_usage_error};
 use std::alloc::{AllocError, Global};
@@ -238,18 +238,21 @@ fn check<'a>(
 ) -> Result<Request, Mistake<'a>> {
     let (before, after) = around_dashes(words);
     let paths = copies(alloc, before, after)?;
-    let allowed = if options.has(OptionName::Ascii) {
-        Allowed::Ascii
-    } else {
-        Allowed::All
+    let check = Check {
+        allowed: if options.has(OptionName::Ascii) {
+            Allowed::Ascii
+        } else {
+            Allowed::All
+        },
+        quiet: options.has(OptionName::Quiet),
     };
     if paths.is_empty() {
-        return options.job(alloc, row, Command::Check(allowed));
+        return options.job(alloc, row, Command::Check(check));
     }
     options.refuse_file(row)?;
     Ok(Request::CheckFiles(CheckedFiles {
         encoding: options.encoding(row)?,
-        allowed,
+        check,
         paths,
     }))
 }

@@ -7,8 +7,7 @@ use Rattle.std.specs.Str.{chars}
 use Rattle.std.specs.declared.string.String.{String}
 use native.Mathlib.Numerals.{unary_clauses}
 use Rattle.properties_format.specs.Encoding.{Encoding}
-use Rattle.properties_format.specs.Edits as format
-use Rattle.properties_format.specs.Edits.{put, remove, set_value, AreInComments, HasPairValue, IsFirstInPair}
+use Rattle.properties_format.specs.Edits.{AreInComments, HasPairValue, IsFirstInPair}
 use Rattle.properties_format.specs.Escapes.{Malformed}
 use Rattle.properties_format.specs.Found.{MalformedEscape}
 use Rattle.properties_format.proofs.MalformedEscapes.{malformed_escapes_of-only}
@@ -17,11 +16,11 @@ use Rattle.java_properties.specs.Maps.{characters}
 use Rattle.java_properties.specs.Findings.{IsFirstPairError}
 use Rattle.properties_items.specs.declared.error.ErrorKind.TheVariants as kind
 use Rattle.properties_items.specs.declared.error.PropertiesError.{PropertiesError}
-use Rattle.properties_tools.specs.Propedit.Change.{keys_set, HasKeys, IsFirstAbsent}
+use Rattle.properties_tools.specs.Propedit.Change.{HasKeys, IsFirstAbsent}
 use Rattle.properties_tools.specs.Propedit.Get.{HaveValues}
 use Rattle.properties_tools.specs.Propedit.Sources.{HasSoundBytes, IsSound}
 use Rattle.properties_tools.specs.Propedit.Texts.{borrowed_characters}
-use Rattle.properties_tools.specs.Private.Collected.{first_without, key_set}
+use Rattle.properties_tools.specs.Private.Collected.{first_without}
 use Rattle.properties_tools.specs.Private.Hinting.{FindsAbsent}
 
 -- ---- a sound source
@@ -89,25 +88,6 @@ module _ (e : Encoding) (source : List ℕ) where
       → FindsAbsent e source keys (Ok found)
   absent-found keys values None h is = none-absent keys values h is
   absent-found keys values (Some key) h is = one-absent keys values (chars key.now) h is
-
--- One more edit sets a key,
-pub edits-put : (edits : List format.Edit) (edit : format.Edit) (key : List ℕ) → Some key ≡ key_set edit
-    → keys_set (edits ++ edit ∷ []) ≡ keys_set edits ++ key ∷ []
-edits-put [] (put k v) key is = ap (λ w. w ∷ []) (cc)
-edits-put [] (remove k) key is = absurd (cc)
-edits-put [] (set_value k v) key is = ap (λ w. w ∷ []) (cc)
-edits-put (put k v ∷ es) edit key is = ap (λ w. k ∷ w) (edits-put es edit key is)
-edits-put (remove k ∷ es) edit key is = edits-put es edit key is
-edits-put (set_value k v ∷ es) edit key is = ap (λ w. k ∷ w) (edits-put es edit key is)
-
--- or none.
-pub edits-none : (edits : List format.Edit) (edit : format.Edit) → None ≡ key_set edit → keys_set (edits ++ edit ∷ []) ≡ keys_set edits
-edits-none [] (put k v) is = absurd (cc)
-edits-none [] (remove k) is = refl
-edits-none [] (set_value k v) is = absurd (cc)
-edits-none (put k v ∷ es) edit is = ap (λ w. k ∷ w) (edits-none es edit is)
-edits-none (remove k ∷ es) edit is = edits-none es edit is
-edits-none (set_value k v ∷ es) edit is = ap (λ w. k ∷ w) (edits-none es edit is)
 
 -- One more of these keys has a value.
 more-by : {X : Type 0} (keys : List (List ℕ)) (values : List X) (text : X → Option (List ℕ)) (i : ℕ) (value : X) (found : List ℕ)

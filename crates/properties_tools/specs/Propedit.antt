@@ -10,7 +10,7 @@ pub mod Lines
 pub mod Listing
 pub mod Sources
 pub mod Texts
-use Rattle.std.specs.Prelude.{◌≡◌, ℕ, List, [], ◌∷◌, Result, Ok, Err, codes, map, string_bytes, ◌≢◌, ◌⊎◌, Option, Some, None}
+use Rattle.std.specs.Prelude.{◌≡◌, ℕ, Bool, true, false, List, [], ◌∷◌, Result, Ok, Err, codes, map, string_bytes, ◌≢◌, ◌⊎◌, Option, Some, None}
 use Rattle.std.specs.Option.{option_map}
 use Rattle.properties_format.specs.Encoding.{Encoding}
 use Rattle.properties_text.specs.Encoding.{encoding_of}
@@ -22,7 +22,7 @@ use Rattle.properties_tools.specs.Propedit.Get.{Gets}
 use Rattle.properties_tools.specs.Propedit.Hints.{hint_bytes, IsHint, PrintsHint}
 use Rattle.properties_tools.specs.Propedit.Listing.{Lists, ListsValues}
 use Rattle.properties_tools.specs.declared.propedit.answer.Answer.{Answer}
-use Rattle.properties_tools.specs.declared.propedit.request.Allowed.{Allowed}
+use Rattle.properties_tools.specs.declared.propedit.request.Check.{Check as AskedCheck}
 use Rattle.properties_tools.specs.declared.propedit.request.Command.{Command}
 use Rattle.properties_tools.specs.declared.propedit.request.Change.{Change as AskedChange}
 use Rattle.properties_tools.specs.declared.propedit.request.Command.TheVariants as command
@@ -48,11 +48,22 @@ abbrev pub report_status : List ℕ → ℕ
 report_status [] = 0
 report_status (byte ∷ bytes) = 1
 
--- What checking gives: the report and its status; or memory ran out.
-abbrev pub Checks : List ℕ → Encoding → Allowed → List ℕ → Result Answer Failure → Type 0
-Checks name e allowed source (Ok answer) =
-    IsReport name e allowed source answer.text.items × (answer.status ≡ report_status answer.text.items)
-Checks name e allowed source (Err failure) = LacksMemory failure
+-- What is printed of a report: all of it, or nothing if the check is quiet.
+abbrev pub printed_report : Bool → List ℕ → List ℕ
+printed_report true report = []
+printed_report false report = report
+
+-- The source was checked: the status is that of its report, which is printed unless the check is quiet.
+pub record ChecksSource (name : List ℕ) (e : Encoding) (check : AskedCheck) (source : List ℕ) (answer : Answer) : Type 0 where
+  pub report : List ℕ
+  pub is_report : IsReport name e check.allowed source report
+  pub text : answer.text.items ≡ printed_report check.quiet report
+  pub status : answer.status ≡ report_status report
+
+-- What checking gives; or memory ran out.
+abbrev pub Checks : List ℕ → Encoding → AskedCheck → List ℕ → Result Answer Failure → Type 0
+Checks name e check source (Ok answer) = ChecksSource name e check source answer
+Checks name e check source (Err failure) = LacksMemory failure
 
 -- What a change gives as an answer: the bytes after it, and the status 0.
 abbrev pub ChangesTo : Encoding → List ℕ → AskedChange → Result Answer Failure → Type 0
@@ -64,7 +75,7 @@ abbrev pub AnswersCommand : List ℕ → Encoding → Command → List ℕ → R
 AnswersCommand name e (command.Get keys default end) source result = Gets e source (map characters keys.items) (option_map characters default) end result
 AnswersCommand name e (command.List prefix end) source result = Lists e source (characters prefix) end result
 AnswersCommand name e (command.ListValues prefix end) source result = ListsValues e source (characters prefix) end result
-AnswersCommand name e (command.Check allowed) source result = Checks name e allowed source result
+AnswersCommand name e (command.Check check) source result = Checks name e check source result
 AnswersCommand name e (command.Change change) source result = ChangesTo e source change result
 
 -- What the command of some job gives for its source.

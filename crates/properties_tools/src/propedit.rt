@@ -124,7 +124,7 @@ pub fn replacement(
 }
 
 /// Returns the exit status of a result: its own, or that of a failure, which is printed on `errors` as a line under the
-/// name of the source. It is 1 if no pair has a key that is set, and else 2. What can't be printed is dropped.
+/// name of the source. It is 1 if no pair has a key that is edited, and else 2. What can't be printed is dropped.
 ///
 /// If standard output is a pipe that nobody reads any more, as with `| head -1`, nothing is printed, and the status is
 /// 2.

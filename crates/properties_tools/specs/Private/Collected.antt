@@ -2,7 +2,7 @@
 use Rattle.std.specs.Prelude.{◌≡◌, ◌⊎◌, ℕ, true, false, List, [], Option, Some, None, Result, Ok, Err, ◌+◌, ◌∷◌, map, if◌then◌else◌, bytes_eq, ◌++◌, Bool}
 use Rattle.std.specs.Global.{Vec, Global}
 use Rattle.properties_format.specs.Encoding.{Encoding}
-use Rattle.properties_format.specs.Edits.{AreInComments, EscapesAre, put, remove, set_value}
+use Rattle.properties_format.specs.Edits.{AreInComments, EscapesAre}
 use Rattle.properties_format.specs.Lines.{is_comment_line}
 use Rattle.properties_format.specs.Found.{escapes_from, AreMalformedEscapes}
 use Rattle.properties_format.specs.Computed.Items.{outcome_of}
@@ -21,7 +21,6 @@ use Rattle.std.specs.Option.{option_map}
 use Rattle.std.specs.declared.string.String.{String}
 use Rattle.properties_format.specs.Writing.{Pair}
 use Rattle.java_properties.specs.Maps.{characters}
-use Rattle.properties_format.specs.Edits as format
 use Rattle.properties_tools.specs.Propedit.Change.{HasKeys, IsFirstAbsent}
 use Rattle.properties_tools.specs.Propedit.Failures.{LacksMemory}
 use Rattle.properties_tools.specs.Propedit.Get.{HaveValues}
@@ -114,12 +113,6 @@ FindsValues e source keys (Ok found) = HaveValues e source (map characters keys)
 FindsValues e source keys (Err error) = IsSound e source → IsBareError kind.Memory error
 
 -- ---- keys that no pair has
-
--- the key that an edit sets
-abbrev pub key_set : format.Edit → Option (List ℕ)
-key_set (put key value) = Some key
-key_set (remove key) = None
-key_set (set_value key value) = Some key
 
 -- the first of these keys that has no value
 abbrev pub first_without : List (List ℕ) → List (Option (List ℕ)) → Option (List ℕ)

@@ -1,5 +1,5 @@
 -- What a change gives: the bytes of a source after it.
-use Rattle.std.specs.Prelude.{◌≡◌, ◌⊎◌, ℕ, true, List, [], ◌∷◌, ◌++◌, Some, None, Result, Ok, Err}
+use Rattle.std.specs.Prelude.{◌≡◌, ◌⊎◌, ℕ, true, List, [], ◌∷◌, ◌++◌, Some, None, Result, Ok, Err, map}
 use Rattle.std.specs.Global.{Global, Vec}
 use Rattle.std.specs.declared.string.String.{String}
 use Rattle.properties_format.specs.Converting.{IsConverted}
@@ -20,14 +20,17 @@ use Rattle.properties_tools.specs.declared.propedit.request.Edits.{Edits}
 use Rattle.properties_tools.specs.declared.propedit.error.Failure.{Failure}
 use Rattle.properties_tools.specs.declared.propedit.error.Failure.TheVariants.{Absent, Input}
 
--- ---- keys that are set
+-- ---- keys of edits
 
--- the keys that edits set, in order
-abbrev pub keys_set : List format.Edit → List (List ℕ)
-keys_set [] = []
-keys_set (put key value ∷ edits) = key ∷ keys_set edits
-keys_set (remove key ∷ edits) = keys_set edits
-keys_set (set_value key value ∷ edits) = key ∷ keys_set edits
+-- the key that an edit sets or removes
+abbrev pub edited_key : format.Edit → List ℕ
+edited_key (put key value) = key
+edited_key (remove key) = key
+edited_key (set_value key value) = key
+
+-- the keys of edits, in order
+abbrev pub edited_keys : List format.Edit → List (List ℕ)
+edited_keys edits = map edited_key edits
 
 -- A pair of the source has the key.
 abbrev pub HasKey : Encoding → List ℕ → List ℕ → Type 0
@@ -48,10 +51,10 @@ pub record IsFirstAbsent (e : Encoding) (source : List ℕ) (keys : List (List �
 
 -- ---- edits
 
--- The source is sound, and these are its bytes after the edits. If that is asked for, a pair of it has each key that is set.
+-- The source is sound, and these are its bytes after the edits. If that is asked for, a pair of it has each of their keys.
 pub record MakesEdits (e : Encoding) (source : List ℕ) (edits : Edits) (bytes : List ℕ) : Type 0 where
   pub sound : IsSound e source
-  pub existing : edits.existing ≡ true → HasKeys e source (keys_set (edits_in edits.list.items))
+  pub existing : edits.existing ≡ true → HasKeys e source (edited_keys (edits_in edits.list.items))
   pub made : ArePairsMade (repertoire e edits.ascii_only) source (edits_in edits.list.items) bytes
 
 -- The source is sound, but the edits aren't made: its encoding is not one that is edited, or memory ran out.
@@ -61,15 +64,15 @@ pub record RefusesEdits (e : Encoding) (source : List ℕ) (edits : Edits) (fail
   pub refused : IsRefusal (IsEditPairsResult (repertoire e edits.ascii_only) source (edits_in edits.list.items)) error
   pub is : failure ≡ Input error
 
--- The source is sound, and the edits can be made. But a pair of it has to have each key that is set, and this is the first
--- of them that none has.
+-- The source is sound, and the edits can be made. But a pair of it has to have each of their keys, and this is the first of
+-- them that none has.
 pub record RefusesAbsent (e : Encoding) (source : List ℕ) (edits : Edits) (failure : Failure) : Type 0 where
   pub sound : IsSound e source
   pub existing : edits.existing ≡ true
   pub bytes : List ℕ
   pub made : ArePairsMade (repertoire e edits.ascii_only) source (edits_in edits.list.items) bytes
   pub key : String Global
-  pub first : IsFirstAbsent e source (keys_set (edits_in edits.list.items)) (characters key)
+  pub first : IsFirstAbsent e source (edited_keys (edits_in edits.list.items)) (characters key)
   pub is : failure ≡ Absent key
 
 -- What making edits returns.

@@ -11,7 +11,7 @@ use crate::propedit::error::Failure;
 use crate::propedit::get::get;
 use crate::propedit::list::list;
 use crate::propedit::pairs::list_values;
-use crate::propedit::request::{Allowed, Change, Command, Job, Source};
+use crate::propedit::request::{Change, Check, Command, Job, Source};
 use java_properties::Encoding;
 use std::alloc::Global;
 
@@ -52,25 +52,24 @@ pub fn answer_to(alloc: Global, job: &Job, source: &[u8]) -> Result<Answer, Fail
         Command::ListValues(prefix, end) => {
             list_values(alloc, source, job.encoding, prefix.as_str(), *end)
         }
-        Command::Check(allowed) => {
-            check(alloc, name(&job.source), source, job.encoding, *allowed)
-        }
+        Command::Check(asked) => check(alloc, name(&job.source), source, job.encoding, *asked),
         Command::Change(change) => changed(alloc, source, job.encoding, change),
     }
 }
 
-// Returns what is wrong in a source. The status is 1 if anything is.
+// Returns what is wrong in a source, unless the check is quiet. The status is 1 if anything is.
 fn check(
     alloc: Global,
     name: &str,
     source: &[u8],
     encoding: Encoding,
-    allowed: Allowed,
+    asked: Check,
 ) -> Result<Answer, Failure>
-    ensures { Checks name.now (encoding_of encoding) allowed source.now result }
+    ensures { Checks name.now (encoding_of encoding) asked source.now result }
 {
-    let text = report(alloc, name, source, encoding, allowed)?.into_bytes();
-    let status = if text.is_empty() { 0 } else { 1 };
+    let report = report(alloc, name, source, encoding, asked.allowed)?.into_bytes();
+    let status = if report.is_empty() { 0 } else { 1 };
+    let text = if asked.quiet { Vec::new(alloc) } else { report };
     Ok(Answer { text, status })
 }
 

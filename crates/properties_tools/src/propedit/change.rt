@@ -5,9 +5,9 @@ ghost use Rattle.std.specs.Option.{option_map};
 ghost use Rattle.java_properties.specs.Editing.{edit_in, edits_in};
 ghost use Rattle.java_properties.specs.Maps.{characters};
 ghost use Rattle.properties_text.specs.Encoding.{encoding_of};
-ghost use Rattle.properties_tools.specs.Private.Collected.{first_without, key_set, value_texts, RefusesIfAbsent};
+ghost use Rattle.properties_tools.specs.Private.Collected.{first_without, value_texts, RefusesIfAbsent};
 ghost use Rattle.properties_tools.specs.Private.Hinting.{FindsAbsent};
-ghost use Rattle.properties_tools.specs.Propedit.Change.{keys_set, Changes, ChangesByEdits, Converts};
+ghost use Rattle.properties_tools.specs.Propedit.Change.{edited_key, edited_keys, Changes, ChangesByEdits, Converts};
 ghost use Rattle.properties_tools.specs.Propedit.Texts.{borrowed_characters};
 
 use crate::propedit::error::Failure;
@@ -21,7 +21,7 @@ use std::alloc::{AllocError, Global};
 ///
 /// It refuses a source for its bytes: lines that are ill-formed in the encoding in force, or U+0000 if UTF-8 is in
 /// force without a byte order mark. Edits refuse a malformed escape in a pair too, then UTF-16, and then, if that is
-/// asked for, the first key to set that no pair of the source has. A conversion keeps what is malformed.
+/// asked for, the first key to set or remove that no pair of the source has. A conversion keeps what is malformed.
 ///
 /// ```text
 /// let edits = Change::Edits(Edits {
@@ -83,16 +83,16 @@ fn edited(
     }
 }
 
-// Refuses edits that set a key which no pair of a sound source has. The failure has the first such key.
+// Refuses edits of a key that no pair of a sound source has. The failure has the first such key.
 fn refuse_absent(
     alloc: Global,
     source: &[u8],
     encoding: Encoding,
     edits: &[Edit],
 ) -> Result<(), Failure>
-    ensures { RefusesIfAbsent (encoding_of encoding) source.now (keys_set (edits_in edits.now)) result }
+    ensures { RefusesIfAbsent (encoding_of encoding) source.now (edited_keys (edits_in edits.now)) result }
 {
-    let keys = keys_set(alloc, edits)?;
+    let keys = keys_of(alloc, edits)?;
     match first_absent(alloc, source, encoding, &keys)? {
         Some(key) => Err(Failure::Absent(String::from_str(alloc, key)?)),
         None => Ok(()),
@@ -112,27 +112,23 @@ pub(crate) fn first_absent<'a>(
     Ok(first_without_value(keys, &values))
 }
 
-// Returns the keys that edits set, in order.
-fn keys_set(alloc: Global, edits: &[Edit]) -> Result<Vec<String>, AllocError>
-    ensures { IfOk result (λ keys. map characters keys.items ≡ keys_set (edits_in edits.now)) }
+// Returns the keys of edits, in order.
+fn keys_of(alloc: Global, edits: &[Edit]) -> Result<Vec<String>, AllocError>
+    ensures { IfOk result (λ keys. map characters keys.items ≡ edited_keys (edits_in edits.now)) }
 {
     let mut keys = Vec::new(alloc);
     for edit in edits {
-        match key_set(edit) {
-            Some(key) => keys.push(String::from_str(alloc, key)?)?,
-            None => {}
-        }
+        keys.push(String::from_str(alloc, key_of(edit))?)?;
     }
     Ok(keys)
 }
 
-// Returns the key that an edit sets, if it sets one.
-fn key_set(edit: &Edit) -> Option<&str>
-    ensures { option_map borrowed_characters result ≡ key_set (edit_in edit.now) }
+// Returns the key that an edit sets or removes.
+fn key_of(edit: &Edit) -> &str
+    ensures { borrowed_characters result ≡ edited_key (edit_in edit.now) }
 {
     match edit {
-        Edit::Put(key, _) | Edit::SetValue(key, _) => Some(key.as_str()),
-        Edit::Remove(_) => None,
+        Edit::Put(key, _) | Edit::SetValue(key, _) | Edit::Remove(key) => key.as_str(),
     }
 }
 

@@ -49,7 +49,7 @@ pub enum Failure {
     NotUtf16(usize),
     /// A pair of the source has this malformed escape.
     Malformed(MalformedEscape),
-    /// No pair of the source has this key, which was to be set only if one has it.
+    /// No pair of the source has this key, which was to be set or removed only if one has it.
     Absent(String),
     /// The source can't be read or edited, or memory ran out.
     Input(PropertiesError),

@@ -27,7 +27,7 @@ use std::path::Path;
 const BLOCK: usize = 1 << 16;
 
 /// Changes a file in place, and returns the exit status: 0, or 2 after an error, which is printed on `errors` as a
-/// line. It is 1 if that error is a key to set which no pair of the file has.
+/// line. It is 1 if that error is a key to set or remove which no pair of the file has.
 ///
 /// The file is replaced whole, or stays as it is. Nothing is written if no byte changes. A missing file that
 /// may be created counts as empty. What can't be printed is dropped.

@@ -27,7 +27,7 @@ pub struct Job {
 pub struct CheckedFiles {
     /// The encoding of each. A byte order mark overrides it.
     pub encoding: Encoding,
-    pub allowed: Allowed,
+    pub check: Check,
     /// Their names. There is one at least.
     pub paths: Vec<String>,
 }
@@ -59,7 +59,7 @@ pub struct Edits {
     pub list: Vec<Edit>,
     /// Whether what they put in is ASCII-only.
     pub ascii_only: bool,
-    /// Whether a pair of the source has to have each key that they set.
+    /// Whether a pair of the source has to have each of their keys.
     pub existing: bool,
 }
 
@@ -101,10 +101,18 @@ pub enum Command {
     List(String, Terminator),
     /// Print these keys, each with its last value.
     ListValues(String, Terminator),
-    /// Print what is wrong.
-    Check(Allowed),
+    /// Find what is wrong.
+    Check(Check),
     /// Print the source after this change.
     Change(Change),
+}
+
+/// How a source is checked.
+#[derive(Clone, Copy, Debug, PartialEq, Eq)]
+pub struct Check {
+    pub allowed: Allowed,
+    /// Whether nothing is printed: the status alone tells whether anything is wrong.
+    pub quiet: bool,
 }
 
 /// The characters that a check allows.
