@@ -1,15 +1,9 @@
 -- Pairs that are collected, each key once and with its last value.
-use Rattle.std.proofs.Common.{◌≡◌, ◌≢◌, ℕ, zero, suc, ◌+◌, ◌^◌, ◌<◌, true, false, List, [], ◌∷◌, ◌++◌, length, refl, ap, sym, ◌∙◌, inl, inr, subst, arith, append_assoc, append-nil, if◌then◌else◌}
-use Rattle.std.specs.Prelude.{◌⊎◌, All, AllPairs, Option, Some, None, Result, Ok, Err, bytes_eq, cond}
-use Rattle.std.specs.BTreeMap.{BTreeMap, UpdatesBy, get_by_text}
-use Rattle.std.specs.Borrow.{Bor}
-use Rattle.std.specs.Cmp.Lexicographic.{slice_cmp}
-use Rattle.std.specs.Global.{Global, Vec}
+use Rattle.std.proofs.Common.{◌≡◌, ◌≢◌, ℕ, zero, suc, ◌+◌, ◌<◌, true, false, List, [], ◌∷◌, ◌++◌, length, refl, ap, sym, ◌∙◌, inl, inr, subst, arith, append_assoc, append-nil, if◌then◌else◌}
+use Rattle.std.specs.Prelude.{◌⊎◌, All, AllPairs, Option, Some, None, Result, Ok, Err, OnOk, bytes_eq, cond}
+use Rattle.std.specs.Global.{Global}
 use Rattle.std.specs.Map.{update}
 use Rattle.std.specs.Option.{option_map}
-use Rattle.std.specs.Ordering.{nat_cmp}
-use Rattle.std.specs.Str.{chars}
-use Rattle.std.specs.String.{string_bytes, string_cmp}
 use Rattle.std.specs.declared.string.String.{String}
 use Rattle.std.proofs.Math.ListN.{get_or, set}
 use Rattle.std.proofs.lemmas.Bool.{cases_Bool}
@@ -17,47 +11,28 @@ use Rattle.std.proofs.lemmas.List.{map-append, map-set, get_or-map, length-map}
 use Rattle.std.proofs.lemmas.List.Elements.{filter_map-append, All-append}
 use Rattle.std.proofs.lemmas.List.Kept.{AllPairs-cons}
 use Rattle.std.proofs.lemmas.Slice.Eq.{bytes_eq-Decides}
-use Rattle.std.proofs.lemmas.Str.{IsUtf8-string_bytes}
 use Rattle.properties_format.specs.Encoding.{Encoding}
-use Rattle.properties_format.specs.Lines.{Line, is_comment_line, joined, first_number}
-use Rattle.properties_format.specs.Items.{comment, pair, Entry, item, Outcome, ignored, given, broken}
-use Rattle.properties_format.specs.Escapes.{Meaning, means, breaks}
-use Rattle.properties_format.specs.Split.{Logical, IsSplit}
-use Rattle.properties_format.specs.Maps.{IsMap, IsValue}
-use Rattle.properties_format.specs.Found.{escapes_from}
-use Rattle.properties_format.specs.Edits.{AreInComments, EscapesAre, pair_from}
+use Rattle.properties_format.specs.Items.{pair, Entry, item}
+use Rattle.properties_format.specs.Maps.{IsValue}
 use Rattle.properties_format.specs.Writing.{Pair}
-use Rattle.properties_format.specs.ItemsToCome.{ReaderState, start}
-use Rattle.properties_format.specs.Computed.Escapes.{meaning_of}
-use Rattle.properties_format.specs.Computed.Items.{comment_outcome, outcome_of, split_outcome}
 use Rattle.properties_format.specs.Computed.Maps.{Has, HasNot, ComesBefore, AreFirstOf}
-use Rattle.properties_format.specs.Computed.Found.{escapes_in}
-use Rattle.properties_format.specs.Computed.Split.{split_of}
-use Rattle.properties_format.proofs.Edits.PairValues.{pairs_in, pairs_in-push}
+use Rattle.properties_format.proofs.Edits.PairValues.{pairs_in}
 use Rattle.properties_format.proofs.Found.{found-in_groups}
 use Rattle.properties_format.proofs.Keys.{contained, pair_key, pair_keys, are-keys}
-use Rattle.properties_format.proofs.MalformedEscapes.{escapes-are}
-use Rattle.properties_format.proofs.Maps.{map-none, map-pair, value_in-only}
+use Rattle.properties_format.proofs.Maps.{map-none, map-pair}
 use Rattle.properties_format.proofs.Changed.Maps.{other-test, same-test}
-use Rattle.properties_format.proofs.Split.Unique.{split_of-meets}
-use Rattle.properties_format.proofs.Valued.Parts.{comment_line-no_pair}
-use Rattle.properties_lines.specs.LineJoiner.{LineState, JoinsNext, JoinsError}
-use Rattle.properties_lines.specs.declared.error.LineError.{LineError}
-use Rattle.properties_items.proofs.TextMaps.Values.{at_chars-sorted, at_chars-updated}
-use Rattle.properties_items.specs.Errors.{IsBareError, IsLineError}
-use Rattle.properties_items.specs.BorrowedItems.{outcome_pair, IsNoItem}
 use Rattle.properties_items.specs.Texts.{characters}
-use Rattle.properties_items.specs.declared.error.ErrorKind.TheVariants as kind
-use Rattle.properties_items.specs.declared.error.PropertiesError.{PropertiesError}
-use Rattle.counted_io.specs.Streams.{Reader, HasRead, has_ended}
-use Rattle.java_properties.specs.Findings.{FailsToFind, StopsFinding}
-use Rattle.java_properties.specs.Private.LineByLine.{Collected}
-use Rattle.java_properties.proofs.MalformedEscapes.{collected-start, collected-next, collected-lines, collected-lost}
-use Rattle.java_properties.proofs.SliceReads.{collected-slice, slice_reader, slice-whole}
-use Rattle.java_properties.proofs.SoughtPairs.{HasSoughtPairs, StopsAtPair, comments-push, pairs-refused, pairs-error, slice-tells_pairs}
 use Rattle.properties_tools.specs.Propedit.Listing.{keys_of, AreLastPairs}
-use Rattle.properties_tools.specs.Private.Collected.{pair_of, pairs_of, place_of, with_line, with_pair, FindsLastPairs, HasPlaces, PutsLine}
-use Rattle.properties_tools.proofs.LookedUp.{lost}
+use Rattle.properties_items.specs.declared.findings.MalformedEscape.{MalformedEscape}
+use Rattle.properties_tools.specs.Private.Fold.{found_escape, found_pair, pairs_among, AreFindings, Finding, Takes}
+use Rattle.properties_tools.proofs.Among.{findings-groups, pairs-append, pairs-groups}
+use Rattle.properties_tools.specs.Private.Collected.{pair_of, pairs_of, place_of, with_pair, or_else, pair_value, AreLast, IndexesPairs, TookPairs}
+use Rattle.properties_tools.specs.Propedit.Sources.{first_in_pair}
+use Rattle.properties_tools.specs.Private.FirstKeys.{also_held, none_held, AddsKey, IsIndexed}
+use Rattle.properties_tools.specs.declared.propedit.first_keys.FirstKeys.{FirstKeys}
+use Rattle.properties_tools.specs.declared.propedit.pairs.LastPairs.{LastPairs}
+use Rattle.properties_tools.specs.declared.propedit.request.Terminator.{Terminator}
+use Rattle.properties_tools.proofs.Unsound.{first-kept, first-more}
 
 -- ---- keys in a list
 
@@ -86,7 +61,7 @@ pub has_not : (key : List ℕ) (ks : List (List ℕ)) → (Has key ks → ⊥) �
 has_not key [] never = tt
 has_not key (k ∷ ks) never = ((λ e. never (inl e)), has_not key ks (λ h. never (inr h)))
 
-no-both : (key : List ℕ) (ks : List (List ℕ)) → HasNot key ks → Has key ks → ⊥
+pub no-both : (key : List ℕ) (ks : List (List ℕ)) → HasNot key ks → Has key ks → ⊥
 no-both key [] n h = h
 no-both key (k ∷ ks) n (inl e) = n.0 e
 no-both key (k ∷ ks) n (inr h) = no-both key ks n.1 h
@@ -265,11 +240,6 @@ kept-with key value (q ∷ ps) n h = elim (cases_Bool (bytes_eq q.0 key)) [
   | inr other ↦ let found = some-place (place_of (keys_of ps) key) n (rw other at h) in rw other (ap (λ v. q.0 ∷ v) (kept-with key value ps found.0 found.1))
 ]
 
--- the place of a text
-pub place-found : {Y Z : Type 0} (places : BTreeMap (String Z) ℕ) (ps : List Pair) (key : String Y) (o : Option ℕ) → HasPlaces places.entries ps
-    → o ≡ get_by_text places (string_bytes key) → place_of (keys_of ps) (characters key) ≡ o
-place-found places ps key o placed h = sym (placed (characters key)) ∙ at_chars-sorted places (string_bytes key) (IsUtf8-string_bytes key) ∙ sym h
-
 -- The pair at that place takes the value.
 pub set-texts : (texts : List (String Global × String Global)) (n : ℕ) (key : List ℕ) (value : String Global) (p : String Global × String Global)
     → place_of (keys_of (pairs_of texts)) key ≡ Some n → p ≡ get_or texts n p
@@ -281,24 +251,38 @@ set-texts texts n key value p found at =
     map-set pair_of texts n (p.0, value)
     ∙ set-with key (characters value) (pairs_of texts) n (pair_of p) found (ap pair_of at ∙ sym (get_or-map pair_of texts n p (pair_of p) (omega arith)))
 
--- The map has the places, after a key more.
-pub places-new : {Y : Type 0} (m n : BTreeMap (String Y) ℕ) (key : String Y) (ps : List Pair) (value : List ℕ) → HasPlaces m.entries ps
-    → place_of (keys_of ps) (characters key) ≡ None
-    → UpdatesBy string_cmp (λ x. slice_cmp nat_cmp (string_bytes key) (string_bytes x)) m n (Some (length ps))
-    → HasPlaces n.entries (ps ++ (characters key, value) ∷ [])
-places-new m n key ps value placed none updates k =
-    at_chars-updated m n (string_bytes key) (IsUtf8-string_bytes key) (Some (length ps)) updates k
-    ∙ ap (λ v. cond (bytes_eq (characters key) k) (Some (length ps)) v) (placed k)
-    ∙ ap (λ v. cond (bytes_eq (characters key) k) (Some v) (place_of (keys_of ps) k)) (sym (length-map ps (λ (q : Pair). q.0)))
-    ∙ sym (place-new (characters key) (keys_of ps) k none)
-    ∙ ap (λ v. place_of v k) (sym (map-append (λ (q : Pair). q.0) ps ((characters key, value) ∷ [])))
+-- A key is held that has a place, or it comes last and is held from now on.
+module _ (end : Terminator) (key value : List ℕ) (ps : List Pair) (s t : FirstKeys) (place : ℕ) (h : IndexesPairs s ps)
+    (adds : AddsKey end key (length ps) s place t) where
+  pub placed-there : place < length ps → (place_of (keys_of ps) key ≡ Some place) × IndexesPairs t (with_pair key value ps)
+  placed-there below = elim (adds h.0 h.1) [
+    | inl (is, same) ↦
+        let at = sym (h.2 key) ∙ is in
+        (at, (h.0, subst (IsIndexed h.0) (sym same) h.1, λ k. h.2 k ∙ ap (λ v. place_of v k) (sym (kept-with key value ps place at))))
+    | inr (none, is, indexed, text) ↦ absurd (omega arith)
+  ]
+
+  pub placed-last : (place < length ps → ⊥) → (with_pair key value ps ≡ ps ++ (key, value) ∷ []) × IndexesPairs t (with_pair key value ps)
+  placed-last beyond = elim (adds h.0 h.1) [
+    | inl (is, same) ↦
+        let below = place-within key (keys_of ps) place (sym (h.2 key) ∙ is) in
+        let all = length-map ps (λ (q : Pair). q.0) in
+        absurd (beyond (omega arith))
+    | inr (none, is, indexed, text) ↦
+        let at = sym (h.2 key) ∙ none in
+        let last = new-with key value ps at in
+        (last, (also_held h.0 key (length ps), indexed, λ k. here k ∙ sym (place-new key (keys_of ps) k at) ∙ ap (λ v. place_of v k) (keys last)))
+  ]
+    where
+      here : (k : List ℕ) → also_held h.0 key (length ps) k ≡ update bytes_eq (place_of (keys_of ps)) key (Some (length (keys_of ps))) k
+      here k =
+          ap (λ v. cond (bytes_eq key k) (Some (length ps)) v) (h.2 k)
+          ∙ ap (λ v. cond (bytes_eq key k) (Some v) (place_of (keys_of ps) k)) (sym (length-map ps (λ (q : Pair). q.0)))
+
+      keys : with_pair key value ps ≡ ps ++ (key, value) ∷ [] → keys_of ps ++ key ∷ [] ≡ keys_of (with_pair key value ps)
+      keys last = sym (ap keys_of last ∙ map-append (λ (q : Pair). q.0) ps ((key, value) ∷ []))
 
 -- ---- values
-
--- the value of a key in pairs
-abbrev pub pair_value : List Pair → List ℕ → Option (List ℕ)
-pair_value [] key = None
-pair_value (p ∷ ps) key = if bytes_eq p.0 key then Some p.1 else pair_value ps key
 
 value-with : (key value : List ℕ) (ps : List Pair) (k : List ℕ)
     → pair_value (with_pair key value ps) k ≡ (if bytes_eq key k then Some value else pair_value ps k)
@@ -331,11 +315,6 @@ own-values (p ∷ ps) differ (suc k) d m =
 
 -- ---- logical lines, one after another
 
--- These are the pairs of some entries, each key once and with its last value.
-pub record AreLast (entries : List Entry) (ps : List Pair) : Type 0 where
-  pub keys : AreFirstOf (pair_keys entries) (keys_of ps)
-  pub values : IsMap entries (pair_value ps)
-
 pub last-none : AreLast [] []
 last-none = record {
   keys = record { only = λ key h. h; every = λ key h. h; in_order = λ i j d l m. absurd (omega arith) };
@@ -349,127 +328,49 @@ last-more entries number key value ps h = record {
   values = map-pair entries number key value (pair_value ps) (pair_value (with_pair key value ps)) h.values (value-with key value ps);
 }
 
--- a logical line more
-last-line : (gs : List (List Line)) (g : List Line) (ps : List Pair) → AreLast (pairs_in gs) ps
-    → AreLast (pairs_in (gs ++ g ∷ [])) (with_line (outcome_pair (outcome_of (joined g))) ps)
-last-line gs g ps h = rw (pairs_in-push gs g) (by (outcome_of (joined g)))
-  where
-    by : (o : Outcome) → AreLast (pairs_in gs ++ pair_from (first_number g) o []) (with_line (outcome_pair o) ps)
-    by ignored = rw append-nil h
-    by (given (comment text)) = rw append-nil h
-    by (given (pair key value)) = last-more (pairs_in gs) (first_number g) key value ps h
-    by (broken how) = rw append-nil h
+-- ---- what is taken
 
--- A comment is no pair, and what is malformed in it is in a comment.
-pub comment-none : (x : List ℕ) → is_comment_line x ≡ true → None ≡ outcome_pair (outcome_of x)
-comment-none x c = of-split (split_of x) (split_of-meets x)
-  where
-    of-meaning : (m : Meaning) → None ≡ outcome_pair (comment_outcome m)
-    of-meaning (means text) = refl
-    of-meaning (breaks how) = refl
+pub took-none : (first : LastPairs) → first.pairs.items ≡ [] → IsIndexed none_held first.places → first.malformed ≡ None → TookPairs first [] first
+took-none first pairs indexed none = record { malformed = none; last = rw pairs last-none; placed = (none_held, indexed, λ key. rw pairs refl) }
 
-    of-split : (l : Logical) → IsSplit x l → None ≡ outcome_pair (split_outcome l)
-    of-split Logical.blank h = refl
-    of-split (Logical.comment raw) h = of-meaning (meaning_of raw)
-    of-split (Logical.pair name value) h = absurd (comment_line-no_pair x name value c h)
+module _ (old new : LastPairs) where
+  -- a pair, if there was memory for it
+  pub took-result : {E : Type 0} (number : ℕ) (key value : List ℕ) → new.malformed ≡ old.malformed → (r : Result Unit E)
+      → OnOk r (pairs_of new.pairs.items ≡ with_pair key value (pairs_of old.pairs.items)) → OnOk r (IndexesPairs new.places (pairs_of new.pairs.items))
+      → OnOk r (Takes TookPairs old (found_pair number key value) new)
+  took-result number key value stays (Err error) puts placed = tt
+  took-result number key value stays (Ok done) puts placed = λ first findings took.
+      record {
+        malformed = stays ∙ took.malformed ∙ sym (first-kept findings number key value);
+        last = rw (puts, pairs-append findings (found_pair number key value ∷ []))
+            (last-more (pairs_among findings) number key value (pairs_of old.pairs.items) took.last);
+        placed = placed;
+      }
 
-pub comment-escapes : (number : ℕ) (x : List ℕ) (o : Outcome) → is_comment_line x ≡ true → AreInComments (escapes_from number x o [])
-comment-escapes number x ignored c = tt
-comment-escapes number x (given content) c = tt
-comment-escapes number x (broken how) c = (c, tt)
+  -- a malformed escape
+  pub took-escape : (escape : MalformedEscape) → new.pairs ≡ old.pairs → new.places ≡ old.places
+      → new.malformed ≡ or_else old.malformed (first_in_pair (escape ∷ [])) → Takes TookPairs old (found_escape escape) new
+  took-escape escape pairs places now_first = λ first findings took.
+      record {
+        malformed = first-more findings escape old.malformed new.malformed took.malformed now_first;
+        last = rw (pairs, pairs-append findings (found_escape escape ∷ []) ∙ append-nil (pairs_among findings)) took.last;
+        placed = rw (pairs, places) took.placed;
+      }
 
--- The input was read to its end, all malformed escapes are in comments, and these are its pairs, each key once and with its
--- last value.
-pub record ReadsLastPairs {R : Type 0} (reader : Reader R) (e : Encoding) (from : R) (pairs : List Pair) (to : R) : Type 0 where
-  pub bytes : List ℕ
-  pub read : HasRead reader from bytes to
-  pub ended : has_ended reader to ≡ true
-  pub in_comments : EscapesAre e bytes AreInComments
-  pub are : AreLastPairs e bytes pairs
+-- ---- a source
 
--- What reading them from an input returns.
-abbrev pub CollectsPairs : {R Y Z : Type 0} → Reader R → Encoding → R → Result (Vec (String Y × String Z)) PropertiesError → R → Type 0
-CollectsPairs reader e from (Ok found) to = ReadsLastPairs reader e from (pairs_of found.items) to
-CollectsPairs reader e from (Err error) to = StopsAtPair reader e from error to ⊎ (FailsToFind reader e from error to ⊎ StopsFinding reader e from error to)
-
--- These pairs were collected from the groups that came, in which only comments are malformed.
-pub record HasCollected {R : Type 0} (reader : Reader R) (e : Encoding) (from : R) (ps : List Pair) (state : ReaderState) (to : R) : Type 0 where
-  pub groups : List (List Line)
-  pub collected : Collected reader e from groups state to
-  pub in_comments : AreInComments (escapes_in groups)
-  pub last : AreLast (pairs_in groups) ps
-
-module _ {R : Type 0} {reader : Reader R} {e : Encoding} where
-  -- before the first line
-  pub pairs-none : (from : R) (s : ReaderState) → s ≡ start e → HasCollected reader e from [] s from
-  pairs-none from s is = rw is (record { groups = []; collected = collected-start e from; in_comments = tt; last = last-none })
-
-  -- as the search for some key
-  sought : {from to : R} {ps : List Pair} {s : ReaderState} → HasCollected reader e from ps s to → HasSoughtPairs reader e from [] (pair_value ps []) s to
-  sought {ps = ps} h = record {
-    groups = h.groups;
-    collected = h.collected;
-    in_comments = h.in_comments;
-    is = value_in-only (pairs_in h.groups) [] (pair_value ps []) (h.last.values []);
-  }
-
-  -- a line came
-  pub pairs-more : {from to next : R} {ps qs : List Pair} {s : ReaderState} (number : ℕ) (new : LineState) → HasCollected reader e from ps s to
-      → (n : JoinsNext reader s to number new next) → PutsLine number (chars new.line) ps (Ok tt) qs → HasCollected reader e from qs new.state next
-  pairs-more {ps = ps} number new h n puts =
-      let g = n.group.first ∷ n.group.others in
-      rw puts.1 (record {
-        groups = h.groups ++ g ∷ [];
-        collected = collected-next number new h.collected n;
-        in_comments = comments-push h.groups g number (chars new.line) n.group.number n.group.text h.in_comments puts.0;
-        last = rw n.group.text (last-line h.groups g ps h.last);
-      })
-
-  -- a line came that has no pair to put
-  pub pairs-lost : {from to next : R} {ps : List Pair} {s : ReaderState} {error : PropertiesError} (number : ℕ) (new : LineState)
-      → HasCollected reader e from ps s to
-      → JoinsNext reader s to number new next
-      → ((is_comment_line (chars new.line) ≡ false) × IsNoItem number (chars new.line) error) ⊎ IsBareError kind.Memory error
-      → StopsAtPair reader e from error next ⊎ (FailsToFind reader e from error next ⊎ StopsFinding reader e from error next)
-  pairs-lost number new h n (inl why) = pairs-refused number new (sought h) n why
-  pairs-lost number new h n (inr says) = inr (inr (collected-lost number new h.collected n says))
-
-  -- no line came
-  pub pairs-failed : {from to next : R} {ps : List Pair} {s t : ReaderState} {why : LineError} {error : PropertiesError} → HasCollected reader e from ps s to
-      → s.is_done ≡ false → JoinsError reader s to why t next → IsLineError why error
-      → StopsAtPair reader e from error next ⊎ (FailsToFind reader e from error next ⊎ StopsFinding reader e from error next)
-  pairs-failed h live f says = pairs-error (sought h) live f says
-
-  -- no more came
-  pub pairs-read : {from to next : R} {s : ReaderState} (ps : List Pair) → HasCollected reader e from ps s to → s.is_done ≡ true → next ≡ to
-      → ReadsLastPairs reader e from ps next
-  pairs-read ps h d same = rw same (record {
-    bytes = h.collected.bytes;
-    read = h.collected.read;
-    ended = h.collected.ended d;
-    in_comments = escapes-are AreInComments (collected-lines h.collected d) h.in_comments;
-    are = record {
-      entries = pairs_in h.groups;
-      are = found-in_groups _ (collected-lines h.collected d);
-      keys = are-keys (pairs_in h.groups) (pair_keys (pairs_in h.groups)) (keys_of ps) refl h.last.keys;
+pub pairs-read : (e : Encoding) (source : List ℕ) (first new : LastPairs) (findings : List Finding) → AreFindings e source findings → TookPairs first findings new
+    → AreLastPairs e source (pairs_of new.pairs.items)
+pairs-read e source first new findings are took =
+    let g = findings-groups e source findings are in
+    let pairs : pairs_among findings ≡ pairs_in g.0 = ap pairs_among g.2 ∙ pairs-groups g.0 in
+    let ps = pairs_of new.pairs.items in
+    let last : AreLast (pairs_in g.0) ps = subst (λ v. AreLast v ps) pairs took.last in
+    record {
+      entries = pairs_in g.0;
+      are = found-in_groups _ g.1;
+      keys = are-keys (pairs_in g.0) (pair_keys (pairs_in g.0)) (keys_of ps) refl last.keys;
       values = λ k m l.
-          let value = own-values ps (λ i j f n o. (h.last.keys.in_order i j f n o).differ) k m l in
-          subst (IsValue (pairs_in h.groups) (get_or ps k m).0) value (h.last.values (get_or ps k m).0);
-    };
-  })
-
--- ---- a slice
-
--- What collecting the pairs of a slice returns. In a sound source it fails only for want of memory.
-pub slice-pairs : {Y Z : Type 0} (e : Encoding) (from to : Bor (List ℕ)) (result : Result (Vec (String Y × String Z)) PropertiesError)
-    → length from.now + 1 < 2 ^ 64
-    → CollectsPairs slice_reader e from result to → FindsLastPairs e from.now result
-slice-pairs e from to (Ok found) small h =
-    subst (λ v. EscapesAre e v AreInComments × AreLastPairs e v (pairs_of found.items)) (slice-whole h.read h.ended) (h.in_comments, h.are)
-slice-pairs e from to (Err error) small h =
-    lost e from.now error (slice-tells_pairs {Z = Unit {0}} e from to [] (Err error) small h)
-
--- Where a slice is doesn't matter.
-pub collected-at : {e : Encoding} {from to next : Bor (List ℕ)} {ps : List Pair} {s : ReaderState} → to.now ≡ next.now
-    → HasCollected slice_reader e from ps s to → HasCollected slice_reader e from ps s next
-collected-at same h = record { groups = h.groups; collected = collected-slice same h.collected; in_comments = h.in_comments; last = h.last }
+          let value = own-values ps (λ i j f n o. (last.keys.in_order i j f n o).differ) k m l in
+          subst (IsValue (pairs_in g.0) (get_or ps k m).0) value (last.values (get_or ps k m).0);
+    }

@@ -1,3 +1,4 @@
+pub mod Among
 pub mod AsciiOnly
 pub mod Asking
 pub mod Failing
@@ -5,6 +6,7 @@ pub mod FilterErrors
 pub mod Filtering
 pub mod FirstKeys
 pub mod Flawed
+pub mod Folding
 pub mod Borrowed
 pub mod LastPairs
 pub mod LineFindings

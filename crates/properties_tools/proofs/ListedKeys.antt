@@ -1,57 +1,33 @@
 -- The keys of a source that are listed, found line by line.
-use Rattle.std.proofs.Common.{◌≡◌, ◌≢◌, ℕ, zero, suc, ◌+◌, ◌^◌, ◌<◌, List, [], ◌∷◌, ◌++◌, length, refl, ap, sym, ◌∙◌, inl, inr, subst, arith, append-nil, append_assoc}
-use Rattle.std.specs.Prelude.{◌⊎◌, AllPairs, true, false, Option, Some, None, Result, Ok, Err, bytes_eq, encode_utf8_all}
+use Rattle.std.proofs.Common.{◌≡◌, ◌≢◌, ℕ, zero, suc, ◌<◌, List, [], ◌∷◌, ◌++◌, length, refl, ap, sym, ◌∙◌, inl, inr, subst, arith, append-nil, append_assoc}
+use Rattle.std.specs.Prelude.{◌⊎◌, AllPairs, true, false, None, Result, Ok, Err, OnOk, bytes_eq, encode_utf8_all}
 use Rattle.std.specs.Str.{chars}
 use Rattle.std.proofs.lemmas.Bool.{cases_Bool}
 use Rattle.std.proofs.lemmas.List.{length-append}
-use Rattle.std.proofs.lemmas.Slice.Eq.{bytes_eq-Decides}
-use Rattle.std.specs.Borrow.{Bor}
-use Rattle.std.specs.Global.{Vec}
 use Rattle.std.proofs.lemmas.List.Elements.{filter_map-append}
-use Rattle.counted_io.specs.Streams.{Reader, HasRead, has_ended}
+use Rattle.std.proofs.lemmas.Slice.Eq.{bytes_eq-Decides}
 use Rattle.properties_format.specs.Encoding.{Encoding}
-use Rattle.properties_format.specs.Lines.{Line, is_comment_line, joined, first_number}
-use Rattle.properties_format.specs.Items.{comment, pair, Entry, item, malformed, read_fault, Outcome, ignored, given, broken}
+use Rattle.properties_format.specs.Items.{comment, pair, Entry, item, malformed, read_fault}
 use Rattle.properties_format.specs.Maps.{HasNoPair, PairComesBefore, AreKeys}
-use Rattle.properties_format.specs.ItemsToCome.{ReaderState, start}
-use Rattle.properties_format.specs.Edits.{AreInComments, pair_from}
-use Rattle.properties_format.specs.Computed.Items.{outcome_of}
-use Rattle.properties_format.specs.Computed.Found.{escapes_in}
+use Rattle.properties_format.specs.Edits.{AreInComments, EscapesAre}
 use Rattle.properties_format.specs.Computed.Maps.{Has, HasNot, AreFirstOf}
-use Rattle.properties_format.specs.Computed.Body.{outcome_key}
-use Rattle.properties_format.proofs.Edits.PairValues.{pairs_in, pairs_in-push, pairs_of-only}
+use Rattle.properties_format.proofs.Edits.PairValues.{pairs_in, pairs_of-only}
 use Rattle.properties_format.proofs.Found.{found-in_groups}
 use Rattle.properties_format.proofs.Keys.{contained, contains, pair_key, pair_keys, are-keys}
-use Rattle.properties_format.proofs.MalformedEscapes.{escapes-are}
-use Rattle.properties_lines.specs.LineJoiner.{LineState, JoinsNext, JoinsError}
-use Rattle.properties_lines.specs.declared.error.LineError.{LineError}
-use Rattle.properties_items.specs.Errors.{IsBareError, IsLineError}
-use Rattle.properties_items.specs.BorrowedItems.{outcome_pair, IsNoItem}
-use Rattle.properties_items.specs.declared.error.ErrorKind.TheVariants as kind
-use Rattle.properties_items.specs.declared.error.PropertiesError.{PropertiesError}
-use Rattle.java_properties.specs.Findings.{FailsToFind, StopsFinding}
-use Rattle.java_properties.specs.Private.LineByLine.{Collected}
-use Rattle.java_properties.proofs.MalformedEscapes.{collected-start, collected-next, collected-lines, collected-lost}
-use Rattle.java_properties.proofs.SliceReads.{collected-slice, slice_reader, slice-whole}
-use Rattle.java_properties.proofs.SoughtPairs.{HasSoughtPairs, StopsAtPair, comments-push, pairs-refused, pairs-error, slice-tells_pairs}
-use Rattle.properties_tools.proofs.LookedUp.{lost}
+use Rattle.properties_items.specs.declared.findings.MalformedEscape.{MalformedEscape}
+use Rattle.properties_tools.specs.Private.Fold.{found_escape, found_pair, pairs_among, AreFindings, Finding, Takes, TookSome}
+use Rattle.properties_tools.proofs.Among.{findings-groups, pairs-append, pairs-groups}
 use Rattle.properties_tools.specs.Propedit.Listing.{is_key_listed, list_status, listed_keys, AreKeysOf}
+use Rattle.properties_tools.specs.Propedit.Sources.{first_in_pair}
 use Rattle.properties_tools.specs.Propedit.Texts.{end_byte, ended, ended_all}
-use Rattle.properties_tools.proofs.LastPairs.{first-same, first-new, has_not, has-left, has-last, has-split}
-use Rattle.properties_tools.specs.declared.propedit.request.Terminator.{Terminator}
-use Rattle.properties_tools.specs.Private.FirstKeys.{also_held, none_held, AddsKey, IsIndexed}
-use Rattle.properties_tools.specs.Private.Collected.{FindsListed, HasListedText, ListsKey, ListsLine}
+use Rattle.properties_tools.specs.Private.FirstKeys.{also_held, none_held, AddsKey, IndexesSome, IsIndexed}
+use Rattle.properties_tools.specs.Private.Collected.{ListsKey, or_else, AreListed, TookListed}
 use Rattle.properties_tools.specs.declared.propedit.first_keys.FirstKeys.{FirstKeys}
+use Rattle.properties_tools.specs.declared.propedit.list.Listed.{Listed}
+use Rattle.properties_tools.specs.declared.propedit.request.Terminator.{Terminator}
 use Rattle.properties_tools.proofs.FirstKeys.{also-none, also-split}
-use Rattle.properties_format.proofs.Maps.{value_in}
-
--- ---- a logical line that has no key
-
-pub lists-none : (prefix : List ℕ) (end : Terminator) (o : Outcome) (s : FirstKeys) → None ≡ outcome_pair o → ListsKey prefix end (outcome_key o) s s
-lists-none prefix end ignored s none = refl
-lists-none prefix end (given (comment text)) s none = refl
-lists-none prefix end (given (pair key value)) s none = absurd (cc)
-lists-none prefix end (broken how) s none = refl
+use Rattle.properties_tools.proofs.LastPairs.{first-same, first-new, has_not, has-left, has-last, has-split}
+use Rattle.properties_tools.proofs.Unsound.{first-kept, first-more, none-found}
 
 -- ---- logical lines, one after another
 
@@ -100,19 +76,9 @@ listed-same prefix key (k ∷ ks) p = elim (cases_Bool (is_key_listed prefix k))
   | inr q ↦ rw q (listed-same prefix key ks p)
 ]
 
--- These keys came, and those of them that are listed are held and printed.
-pub record AreListed (prefix : List ℕ) (end : Terminator) (all : List (List ℕ)) (s : FirstKeys) : Type 0 where
-  pub keys : List (List ℕ)
-  pub first : AreFirstOf all keys
-  pub held : List ℕ → Option ℕ
-  pub indexed : IsIndexed held s
-  pub some : (key : List ℕ) (n : ℕ) → held key ≡ Some n → Has key (listed_keys prefix keys)
-  pub none : (key : List ℕ) → held key ≡ None → Has key (listed_keys prefix keys) → ⊥
-  pub text : s.text.items ≡ ended_all end (listed_keys prefix keys)
-
 -- one key more
 pub listed-more : (prefix : List ℕ) (end : Terminator) (all : List (List ℕ)) (key : List ℕ) (s t : FirstKeys) → AreListed prefix end all s
-    → ListsKey prefix end (Some key) s t
+    → ListsKey prefix end key s t
     → AreListed prefix end (all ++ key ∷ []) t
 listed-more prefix end all key s t h (inl (p, same)) = elim (has_or key h.keys) [
   | inl m ↦ rw same (there m)
@@ -168,109 +134,92 @@ listed-more prefix end all key s t h (inr (p, (number, first, adds))) = elim (ad
 -- what a key that is listed adds
 pub lists-key : (prefix : List ℕ) (end : Terminator) (key : List ℕ) (number first : ℕ) (s t : FirstKeys) → is_key_listed prefix key ≡ true
     → AddsKey end key number s first t
-    → ListsKey prefix end (Some key) s t
+    → ListsKey prefix end key s t
 lists-key prefix end key number first s t listed adds = inr (listed, (number, first, adds))
 
--- These keys were collected from the groups that came, in which only comments are malformed.
-pub record HasListed {R : Type 0} (reader : Reader R) (e : Encoding) (from : R) (prefix : List ℕ) (end : Terminator) (s : FirstKeys) (state : ReaderState)
-    (to : R) : Type 0 where
-  pub groups : List (List Line)
-  pub collected : Collected reader e from groups state to
-  pub in_comments : AreInComments (escapes_in groups)
-  pub listed : AreListed prefix end (pair_keys (pairs_in groups)) s
+-- ---- what is taken
 
--- a logical line more
-listed-line : (prefix : List ℕ) (end : Terminator) (gs : List (List Line)) (g : List Line) (s t : FirstKeys) → AreListed prefix end (pair_keys (pairs_in gs)) s
-    → ListsKey prefix end (outcome_key (outcome_of (joined g))) s t → AreListed prefix end (pair_keys (pairs_in (gs ++ g ∷ []))) t
-listed-line prefix end gs g s t h lists =
-    let grown = ap pair_keys (pairs_in-push gs g) ∙ filter_map-append pair_key (pairs_in gs) (pair_from (first_number g) (outcome_of (joined g)) []) in
-    subst (λ v. AreListed prefix end v t) (sym grown) (by (outcome_of (joined g)) lists)
-  where
-    same : t ≡ s → AreListed prefix end (pair_keys (pairs_in gs) ++ []) t
-    same is = rw (is, append-nil) h
+-- Nothing is listed at first.
+pub took-none : (first : Listed) → IsIndexed none_held first.keys → first.keys.text.items ≡ [] → first.malformed ≡ None → TookListed first [] first
+took-none first indexed none no_escape = record {
+  prefix = refl;
+  end = refl;
+  malformed = no_escape;
+  listed = record {
+    keys = [];
+    first = record { only = λ key h. h; every = λ key h. h; in_order = λ i j d l m. absurd (omega arith) };
+    held = none_held;
+    indexed = indexed;
+    some = λ key n h. absurd (cc);
+    none = λ key h m. m;
+    text = none;
+  };
+}
 
-    by : (o : Outcome) → ListsKey prefix end (outcome_key o) s t
-        → AreListed prefix end (pair_keys (pairs_in gs) ++ pair_keys (pair_from (first_number g) o [])) t
-    by ignored k = same k
-    by (given (comment text)) k = same k
-    by (given (pair key value)) k = listed-more prefix end (pair_keys (pairs_in gs)) key s t h k
-    by (broken how) k = same k
-
-module _ {R : Type 0} {reader : Reader R} {e : Encoding} {prefix : List ℕ} {end : Terminator} where
-  -- before the first line
-  pub listed-none : (from : R) (state : ReaderState) (s : FirstKeys) → state ≡ start e → IsIndexed none_held s → s.text.items ≡ []
-      → HasListed reader e from prefix end s state from
-  listed-none from state s is indexed none = rw is (record {
-    groups = [];
-    collected = collected-start e from;
-    in_comments = tt;
-    listed = record {
-      keys = [];
-      first = record { only = λ key h. h; every = λ key h. h; in_order = λ i j d l m. absurd (omega arith) };
-      held = none_held;
-      indexed = indexed;
-      some = λ key n h. absurd (cc);
-      none = λ key h m. m;
-      text = none;
-    };
-  })
-
-  -- as the search for some key
-  sought : {from to : R} {s : FirstKeys} {state : ReaderState} → HasListed reader e from prefix end s state to
-      → (value : Option (List ℕ)) × HasSoughtPairs reader e from [] value state to
-  sought h = (value_in (pairs_in h.groups) [], record { groups = h.groups; collected = h.collected; in_comments = h.in_comments; is = refl })
-
-  -- a line came
-  pub listed-next : {from to next : R} {s t : FirstKeys} {state : ReaderState} (number : ℕ) (new : LineState) → HasListed reader e from prefix end s state to
-      → (n : JoinsNext reader state to number new next) → ListsLine number (chars new.line) prefix end s (Ok tt) t
-      → HasListed reader e from prefix end t new.state next
-  listed-next {s = s} {t = t} number new h n lists =
-      let g = n.group.first ∷ n.group.others in
+module _ (old new : Listed) (prefix : new.prefix ≡ old.prefix) (end : new.end ≡ old.end) where
+  -- a pair
+  pub took-pair : (number : ℕ) (key value : List ℕ) → new.malformed ≡ old.malformed → ListsKey (chars old.prefix.now) old.end key old.keys new.keys
+      → Takes TookListed old (found_pair number key value) new
+  took-pair number key value stays lists = λ first findings took.
+      let more = found_pair number key value ∷ [] in
+      let grown = ap pair_keys (pairs-append findings more) ∙ filter_map-append pair_key (pairs_among findings) (pairs_among more) in
+      let same = subst (λ v. ListsKey (chars v.now) old.end key old.keys new.keys) took.prefix lists in
       record {
-        groups = h.groups ++ g ∷ [];
-        collected = collected-next number new h.collected n;
-        in_comments = comments-push h.groups g number (chars new.line) n.group.number n.group.text h.in_comments lists.0;
-        listed = listed-line prefix end h.groups g s t h.listed (subst (λ x. ListsKey prefix end (outcome_key (outcome_of x)) s t) n.group.text lists.1);
+        prefix = prefix ∙ took.prefix;
+        end = end ∙ took.end;
+        malformed = stays ∙ took.malformed ∙ sym (first-kept findings number key value);
+        listed = subst (λ v. AreListed (chars first.prefix.now) first.end v new.keys) (sym grown)
+            (listed-more (chars first.prefix.now) first.end (pair_keys (pairs_among findings)) key old.keys new.keys took.listed
+            (subst (λ v. ListsKey (chars first.prefix.now) v key old.keys new.keys) took.end same));
       }
 
-  -- a line came whose key isn't added
-  pub listed-lost : {from to next : R} {s : FirstKeys} {state : ReaderState} {error : PropertiesError} (number : ℕ) (new : LineState)
-      → HasListed reader e from prefix end s state to
-      → JoinsNext reader state to number new next
-      → ((is_comment_line (chars new.line) ≡ false) × IsNoItem number (chars new.line) error) ⊎ IsBareError kind.Memory error
-      → StopsAtPair reader e from error next ⊎ (FailsToFind reader e from error next ⊎ StopsFinding reader e from error next)
-  listed-lost number new h n (inl why) = pairs-refused number new (sought h).1 n why
-  listed-lost number new h n (inr says) = inr (inr (collected-lost number new h.collected n says))
+  -- a malformed escape
+  pub took-escape : (escape : MalformedEscape) → new.keys ≡ old.keys → new.malformed ≡ or_else old.malformed (first_in_pair (escape ∷ []))
+      → Takes TookListed old (found_escape escape) new
+  took-escape escape keys now_first = λ first findings took.
+      let more = found_escape escape ∷ [] in
+      let stays = pairs-append findings more ∙ append-nil (pairs_among findings) in
+      record {
+        prefix = prefix ∙ took.prefix;
+        end = end ∙ took.end;
+        malformed = first-more findings escape old.malformed new.malformed took.malformed now_first;
+        listed = subst (λ v. AreListed (chars first.prefix.now) first.end (pair_keys v) new.keys) (sym stays)
+            (subst (λ v. AreListed (chars first.prefix.now) first.end (pair_keys (pairs_among findings)) v) (sym keys) took.listed);
+      }
 
-  -- no line came
-  pub listed-failed : {from to next : R} {s : FirstKeys} {state after : ReaderState} {why : LineError} {error : PropertiesError}
-      → HasListed reader e from prefix end s state to
-      → state.is_done ≡ false → JoinsError reader state to why after next → IsLineError why error
-      → StopsAtPair reader e from error next ⊎ (FailsToFind reader e from error next ⊎ StopsFinding reader e from error next)
-  listed-failed h live f says = pairs-error (sought h).1 live f says
+-- a pair, if there was memory for its key
+pub took-result : {E : Type 0} (old new : Listed) → new.prefix ≡ old.prefix → new.end ≡ old.end → (number : ℕ) (key value : List ℕ)
+    → new.malformed ≡ old.malformed → (r : Result Unit E) → OnOk r (ListsKey (chars old.prefix.now) old.end key old.keys new.keys)
+    → OnOk r (Takes TookListed old (found_pair number key value) new)
+took-result old new prefix end number key value stays (Ok done) h = took-pair old new prefix end number key value stays h
+took-result old new prefix end number key value stays (Err error) h = tt
 
-  -- no more came
-  pub listed-read : {from to next : R} {state : ReaderState} {s : FirstKeys} → HasListed reader e from prefix end s state to → state.is_done ≡ true → next ≡ to
-      → (bytes : List ℕ) × HasRead reader from bytes next × (has_ended reader next ≡ true) × HasListedText e bytes prefix end s.text.items
-  listed-read h d same =
-      let bytes = h.collected.bytes in
-      rw same (
-        bytes,
-        h.collected.read,
-        h.collected.ended d,
-        (
-          escapes-are AreInComments (collected-lines h.collected d) h.in_comments,
-          (
-            h.listed.keys,
-            record {
-              entries = pairs_in h.groups;
-              are = found-in_groups _ (collected-lines h.collected d);
-              each = are-keys (pairs_in h.groups) (pair_keys (pairs_in h.groups)) h.listed.keys refl h.listed.first;
-            },
-            h.listed.text,
-          ),
-        ),
-      )
+pub took-indexed : (s : Listed) → TookSome TookListed s → IndexesSome s.keys
+took-indexed s h = (h.2.listed.held, h.2.listed.indexed)
+
+pub ruleset taken = (took-indexed)
+
+-- ---- a source
+
+-- A source is not refused if its bytes are sound and no escape of a pair is malformed: then these are its keys.
+pub listed-read : (e : Encoding) (source : List ℕ) (first new : Listed) (findings : List Finding) → AreFindings e source findings → TookListed first findings new
+    → new.malformed ≡ None
+    → EscapesAre e source AreInComments × ((keys : List (List ℕ)) × AreKeysOf e source keys
+    × (new.keys.text.items ≡ ended_all first.end (listed_keys (chars first.prefix.now) keys)))
+listed-read e source first new findings are took none =
+    let g = findings-groups e source findings are in
+    let pairs : pairs_among findings ≡ pairs_in g.0 = ap pairs_among g.2 ∙ pairs-groups g.0 in (
+      none-found e source findings are (sym none ∙ took.malformed),
+      (
+        took.listed.keys,
+        record {
+          entries = pairs_in g.0;
+          are = found-in_groups _ g.1;
+          each = are-keys (pairs_in g.0) (pair_keys (pairs_in g.0)) took.listed.keys refl (subst (λ v. AreFirstOf (pair_keys v) took.listed.keys) pairs took.listed.first);
+        },
+        took.listed.text,
+      ),
+    )
 
 -- ---- the status
 
@@ -284,28 +233,6 @@ status-none end (k ∷ ks) h =
 pub status-some : (end : Terminator) (ks : List (List ℕ)) → 0 < length (ended_all end ks) → list_status ks ≡ 0
 status-some end [] h = absurd (omega arith)
 status-some end (k ∷ ks) h = refl
-
--- ---- a slice
-
--- What reading them from an input returns.
-abbrev pub CollectsKeys : {R : Type 0} → Reader R → Encoding → List ℕ → Terminator → R → Result (Vec ℕ) PropertiesError → R → Type 0
-CollectsKeys reader e prefix end from (Ok text) to =
-    (bytes : List ℕ) × HasRead reader from bytes to × (has_ended reader to ≡ true) × HasListedText e bytes prefix end text.items
-CollectsKeys reader e prefix end from (Err error) to =
-    StopsAtPair reader e from error to ⊎ (FailsToFind reader e from error to ⊎ StopsFinding reader e from error to)
-
--- What collecting the keys of a slice returns. In a sound source it fails only for want of memory.
-pub slice-listed : (e : Encoding) (prefix : List ℕ) (end : Terminator) (from to : Bor (List ℕ)) (result : Result (Vec ℕ) PropertiesError)
-    → length from.now + 1 < 2 ^ 64
-    → CollectsKeys slice_reader e prefix end from result to → FindsListed e from.now prefix end result
-slice-listed e prefix end from to (Ok text) small h = subst (λ v. HasListedText e v prefix end text.items) (slice-whole h.1 h.2) h.3
-slice-listed e prefix end from to (Err error) small h =
-    lost e from.now error (slice-tells_pairs {Z = Unit {0}} e from to [] (Err error) small h)
-
--- Where a slice is doesn't matter.
-pub listed-at : {e : Encoding} {from to next : Bor (List ℕ)} {prefix : List ℕ} {end : Terminator} {s : FirstKeys} {state : ReaderState} → to.now ≡ next.now
-    → HasListed slice_reader e from prefix end s state to → HasListed slice_reader e from prefix end s state next
-listed-at same h = record { groups = h.groups; collected = collected-slice same h.collected; in_comments = h.in_comments; listed = h.listed }
 
 -- ---- no other keys
 

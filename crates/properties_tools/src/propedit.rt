@@ -6,6 +6,7 @@ pub mod change;
 pub mod check;
 pub mod error;
 mod first_keys;
+mod fold;
 pub mod get;
 pub mod hint;
 pub mod ill_formed;

@@ -2,19 +2,12 @@
 use Rattle.std.specs.Prelude.{◌≡◌, ◌⊎◌, ℕ, true, false, List, [], Option, Some, None, Result, Ok, Err, ◌+◌, ◌∷◌, map, if◌then◌else◌, bytes_eq, ◌++◌, Bool}
 use Rattle.std.specs.Global.{Vec, Global}
 use Rattle.properties_format.specs.Encoding.{Encoding}
-use Rattle.properties_format.specs.Edits.{AreInComments, EscapesAre}
-use Rattle.properties_format.specs.Lines.{is_comment_line}
-use Rattle.properties_format.specs.Found.{escapes_from, AreMalformedEscapes}
-use Rattle.properties_format.specs.Computed.Items.{outcome_of}
-use Rattle.properties_format.specs.Computed.Body.{outcome_key}
+use Rattle.properties_format.specs.Found.{AreMalformedEscapes}
 use Rattle.properties_items.specs.Errors.{IsBareError}
-use Rattle.properties_items.specs.BorrowedItems.{IsNoItem, outcome_pair, pair_characters}
-use Rattle.properties_items.specs.declared.error.ErrorKind.TheVariants as kind
 use Rattle.properties_items.specs.declared.error.PropertiesError.{PropertiesError}
-use Rattle.properties_tools.specs.Propedit.Listing.{is_key_listed, listed_keys, AreKeysOf, keys_of, AreLastPairs}
-use Rattle.properties_tools.specs.Propedit.Sources.{IsSound}
-use Rattle.properties_tools.specs.Propedit.Texts.{ended_all}
-use Rattle.properties_tools.specs.Private.FirstKeys.{AddsKey as HoldsKey}
+use Rattle.properties_tools.specs.Propedit.Listing.{is_key_listed, keys_of, listed_keys}
+use Rattle.properties_tools.specs.Propedit.Sources.{IsSound, first_in_pair}
+use Rattle.properties_tools.specs.Private.FirstKeys.{AddsKey as HoldsKey, IsIndexed}
 use Rattle.properties_tools.specs.declared.propedit.request.Terminator.{Terminator}
 use Rattle.properties_tools.specs.declared.propedit.first_keys.FirstKeys.{FirstKeys}
 use Rattle.std.specs.Option.{option_map}
@@ -27,36 +20,52 @@ use Rattle.properties_tools.specs.Propedit.Get.{HaveValues}
 use Rattle.properties_tools.specs.declared.propedit.error.Failure.{Failure}
 use Rattle.properties_tools.specs.declared.propedit.error.Failure.TheVariants.{Absent}
 use Rattle.std.specs.List.{flat_map}
-use Rattle.properties_format.specs.Found as meant
 use Rattle.java_properties.specs.Findings.{AreKeyLines, KeyEntry, escape_records}
-use Rattle.java_properties.specs.Private.LineByLine.{number_at}
 use Rattle.properties_tools.specs.Propedit.Check.{escape_finding, repeat_findings}
-use Rattle.properties_tools.specs.declared.propedit.check.Finding.{Finding}
 use Rattle.properties_tools.specs.declared.propedit.line_findings.LineFindings.{LineFindings}
+use Rattle.std.specs.Str.{chars}
+use Rattle.properties_format.specs.Items.{Entry}
+use Rattle.properties_format.specs.Maps.{IsMap}
+use Rattle.properties_tools.specs.declared.propedit.pairs.LastPairs.{LastPairs}
+use Rattle.java_properties.proofs.KeyLines.{first_place, key_entries}
+use Rattle.properties_format.proofs.Keys.{pair_keys}
+use Rattle.properties_format.specs.Computed.Maps.{Has, AreFirstOf}
+use Rattle.properties_tools.specs.Private.Fold.{escapes_among, keys_among, pairs_among}
+use Rattle.properties_tools.specs.Propedit.Texts.{ended_all}
+use Rattle.properties_tools.specs.declared.propedit.list.Listed.{Listed}
+use Rattle.properties_items.specs.declared.error.ErrorKind.TheVariants as kind
+use Rattle.properties_format.specs.Edits as format
+use Rattle.properties_format.specs.Found as meant
+use Rattle.properties_tools.specs.Private.Fold as fold
+
+-- the first of two, if there is one, else the second
+abbrev pub or_else : {A : Type 0} → Option A → Option A → Option A
+or_else (Some x) other = Some x
+or_else None other = other
 
 -- ---- The keys that are listed.
 
--- the key that a logical line adds, if it is listed
-abbrev pub ListsKey : List ℕ → Terminator → Option (List ℕ) → FirstKeys → FirstKeys → Type 0
-ListsKey prefix end None old new = new ≡ old
-ListsKey prefix end (Some key) old new =
+-- the key of a pair, if it is listed
+abbrev pub ListsKey : List ℕ → Terminator → List ℕ → FirstKeys → FirstKeys → Type 0
+ListsKey prefix end key old new =
     ((is_key_listed prefix key ≡ false) × (new ≡ old)) ⊎ ((is_key_listed prefix key ≡ true) × ((number : ℕ) × (first : ℕ) × HoldsKey end key number old first new))
 
--- What is held after a logical line; or why nothing is.
-abbrev pub ListsLine : ℕ → List ℕ → List ℕ → Terminator → FirstKeys → Result Unit PropertiesError → FirstKeys → Type 0
-ListsLine number x prefix end old (Ok done) new =
-    AreInComments (escapes_from number x (outcome_of x) []) × ListsKey prefix end (outcome_key (outcome_of x)) old new
-ListsLine number x prefix end old (Err error) new = ((is_comment_line x ≡ false) × IsNoItem number x error) ⊎ IsBareError kind.Memory error
+-- These keys came, and those of them that are listed are held and printed.
+pub record AreListed (prefix : List ℕ) (end : Terminator) (all : List (List ℕ)) (s : FirstKeys) : Type 0 where
+  pub keys : List (List ℕ)
+  pub first : AreFirstOf all keys
+  pub held : List ℕ → Option ℕ
+  pub indexed : IsIndexed held s
+  pub some : (key : List ℕ) (n : ℕ) → held key ≡ Some n → Has key (listed_keys prefix keys)
+  pub none : (key : List ℕ) → held key ≡ None → Has key (listed_keys prefix keys) → ⊥
+  pub text : s.text.items ≡ ended_all end (listed_keys prefix keys)
 
--- The text has the keys of a source that are listed, and all malformed escapes are in comments.
-abbrev pub HasListedText : Encoding → List ℕ → List ℕ → Terminator → List ℕ → Type 0
-HasListedText e source prefix end text =
-    EscapesAre e source AreInComments × ((keys : List (List ℕ)) × AreKeysOf e source keys × (text ≡ ended_all end (listed_keys prefix keys)))
-
--- What finding them in a source returns. In a sound source it fails only if memory runs out.
-abbrev pub FindsListed : Encoding → List ℕ → List ℕ → Terminator → Result (Vec ℕ) PropertiesError → Type 0
-FindsListed e source prefix end (Ok text) = HasListedText e source prefix end text.items
-FindsListed e source prefix end (Err error) = IsSound e source → IsBareError kind.Memory error
+-- The keys are those of what was taken that are listed, and the escape is the first of a pair.
+pub record TookListed (first : Listed) (findings : List fold.Finding) (new : Listed) : Type 0 where
+  pub prefix : new.prefix ≡ first.prefix
+  pub end : new.end ≡ first.end
+  pub malformed : new.malformed ≡ first_in_pair (escapes_among findings)
+  pub listed : AreListed (chars first.prefix.now) first.end (pair_keys (pairs_among findings)) new.keys
 
 -- ---- Pairs, each key once and with its last value.
 
@@ -72,35 +81,30 @@ abbrev pub with_pair : List ℕ → List ℕ → List Pair → List Pair
 with_pair key value [] = (key, value) ∷ []
 with_pair key value (p ∷ pairs) = if bytes_eq p.0 key then (p.0, value) ∷ pairs else p ∷ with_pair key value pairs
 
--- these pairs after a logical line, which is this pair or none
-abbrev pub with_line : Option Pair → List Pair → List Pair
-with_line None pairs = pairs
-with_line (Some p) pairs = with_pair p.0 p.1 pairs
-
--- The pair that a logical line is, if it is one. Or it is a pair with a malformed escape, or memory ran out.
-abbrev pub FindsLinePair : {Y Z : Type 0} → ℕ → List ℕ → Result (Option (String Y × String Z)) PropertiesError → Type 0
-FindsLinePair number x (Ok found) =
-    AreInComments (escapes_from number x (outcome_of x) []) × (option_map pair_characters found ≡ outcome_pair (outcome_of x))
-FindsLinePair number x (Err error) = ((is_comment_line x ≡ false) × IsNoItem number x error) ⊎ IsBareError kind.Memory error
-
--- The pairs after a logical line; or why there are none.
-abbrev pub PutsLine : ℕ → List ℕ → List Pair → Result Unit PropertiesError → List Pair → Type 0
-PutsLine number x old (Ok done) new = AreInComments (escapes_from number x (outcome_of x) []) × (new ≡ with_line (outcome_pair (outcome_of x)) old)
-PutsLine number x old (Err error) new = ((is_comment_line x ≡ false) × IsNoItem number x error) ⊎ IsBareError kind.Memory error
-
 -- the place of a key
 abbrev pub place_of : List (List ℕ) → List ℕ → Option ℕ
 place_of [] key = None
 place_of (k ∷ keys) key = if bytes_eq k key then Some 0 else option_map (λ n. n + 1) (place_of keys key)
 
--- The map has the place of each key.
-abbrev pub HasPlaces : {Z : Type 0} → List (String Z × ℕ) → List Pair → Type 0
-HasPlaces places pairs = (key : List ℕ) → number_at places key ≡ place_of (keys_of pairs) key
+-- the value of a key in pairs
+abbrev pub pair_value : List Pair → List ℕ → Option (List ℕ)
+pair_value [] key = None
+pair_value (p ∷ ps) key = if bytes_eq p.0 key then Some p.1 else pair_value ps key
 
--- What collecting them returns. All malformed escapes are in comments. In a sound source it fails only if memory runs out.
-abbrev pub FindsLastPairs : {Y Z : Type 0} → Encoding → List ℕ → Result (Vec (String Y × String Z)) PropertiesError → Type 0
-FindsLastPairs e source (Ok found) = EscapesAre e source AreInComments × AreLastPairs e source (pairs_of found.items)
-FindsLastPairs e source (Err error) = IsSound e source → IsBareError kind.Memory error
+-- These are the pairs of some entries, each key once and with its last value.
+pub record AreLast (entries : List Entry) (ps : List Pair) : Type 0 where
+  pub keys : AreFirstOf (pair_keys entries) (keys_of ps)
+  pub values : IsMap entries (pair_value ps)
+
+-- Each key of these pairs is held with its place among them, and no other.
+abbrev pub IndexesPairs : FirstKeys → List Pair → Type 0
+IndexesPairs places pairs = (held : List ℕ → Option ℕ) × IsIndexed held places × ((key : List ℕ) → held key ≡ place_of (keys_of pairs) key)
+
+-- These are the pairs of what was taken, each key once and with its last value, and the places of the keys are held.
+pub record TookPairs (first : LastPairs) (findings : List fold.Finding) (new : LastPairs) : Type 0 where
+  pub malformed : new.malformed ≡ first_in_pair (escapes_among findings)
+  pub last : AreLast (pairs_among findings) (pairs_of new.pairs.items)
+  pub placed : IndexesPairs new.places (pairs_of new.pairs.items)
 
 -- ---- The values of some keys.
 
@@ -133,12 +137,6 @@ RefusesIfAbsent e source keys (Err failure) = SaysAbsent e source keys failure �
 
 -- ---- What is wrong in lines.
 
--- ---- a logical line
-
--- The malformed escape of a logical line with this number and text is added, if it has one.
-abbrev pub AddsEscapes : ℕ → List ℕ → List Finding → List Finding → Type 0
-AddsEscapes number x old new = new ≡ old ++ map escape_finding (escape_records (escapes_from number x (outcome_of x) []))
-
 -- The key of a pair in this line is held from now on. If an earlier line has it, that is a finding.
 pub record AddsPair (w : Bool) (number : ℕ) (key : List ℕ) (old new : LineFindings) : Type 0 where
   pub end : Terminator
@@ -146,16 +144,14 @@ pub record AddsPair (w : Bool) (number : ℕ) (key : List ℕ) (old new : LineFi
   pub holds : HoldsKey end key number old.keys first new.keys
   pub repeats : new.repeats.items ≡ old.repeats.items ++ repeat_findings w (record { number = number; key = key; first = first })
 
--- So is that of a line which may be no pair.
-abbrev pub AddsKey : Bool → ℕ → Option (List ℕ) → LineFindings → LineFindings → Type 0
-AddsKey w number None old new = (new.repeats ≡ old.repeats) × (new.keys ≡ old.keys)
-AddsKey w number (Some key) old new = AddsPair w number key old new
-
--- What is wrong in a logical line is added; or memory ran out.
-abbrev pub AddsLine : Bool → ℕ → List ℕ → LineFindings → Result Unit PropertiesError → LineFindings → Type 0
-AddsLine w number x old (Ok done) new =
-    AddsEscapes number x old.escapes.items new.escapes.items × AddsKey w number (outcome_key (outcome_of x)) old new
-AddsLine w number x old (Err error) new = IsBareError kind.Memory error
+-- The findings are those of what was taken, and its keys are held, each with the line in which it came first.
+pub record TookFindings (first : LineFindings) (findings : List fold.Finding) (new : LineFindings) : Type 0 where
+  pub setting : new.is_well_formed ≡ first.is_well_formed
+  pub escapes : new.escapes.items ≡ map escape_finding (escapes_among findings)
+  pub repeats : new.repeats.items ≡ flat_map (repeat_findings first.is_well_formed) (key_entries (keys_among findings))
+  pub held : List ℕ → Option ℕ
+  pub indexed : IsIndexed held new.keys
+  pub first_lines : (key : List ℕ) → held key ≡ first_place (keys_among findings) key
 
 -- ---- a source
 

@@ -1,22 +1,17 @@
 // What is wrong in the logical lines of a source.
 
-ghost use Rattle.std.specs.Prelude.{◌≡◌, Bool, Some, OnOk};
+ghost use Rattle.std.specs.Prelude.{◌≡◌, OnOk};
 ghost use Rattle.std.specs.Str.{chars};
-ghost use Rattle.properties_format.specs.Computed.Body.{outcome_key};
-ghost use Rattle.properties_format.specs.Items.{given};
-ghost use Rattle.properties_items.specs.BorrowedItems.{borrowed_content, IsNoItem};
 ghost use Rattle.properties_text.specs.Encoding.{encoding_of};
 ghost use Rattle.properties_tools.specs.Propedit.Check.{has_replacement};
 ghost use Rattle.properties_tools.specs.Private.FirstKeys.{IndexesSome};
-ghost use Rattle.properties_tools.specs.Private.Collected.{AddsKey, AddsLine, FindsInLines};
+ghost use Rattle.properties_tools.specs.Private.Collected.{AddsPair, FindsInLines, TookFindings};
 
 use crate::propedit::check::{Finding, FindingKind};
 use crate::propedit::first_keys::FirstKeys;
+use crate::propedit::fold::{Taker, take_all};
 use crate::propedit::request::Terminator;
-use java_properties::{ContentRef, Encoding, ErrorKind, LineRef, MalformedEscape, PropertiesError};
-use properties_items::found::{cut_item, find_item};
-use properties_lines::continuation::is_comment;
-use properties_lines::joiner::LineJoiner;
+use java_properties::{Encoding, MalformedEscape, PropertiesError};
 use std::alloc::{AllocError, Global};
 
 /// What is wrong in logical lines.
@@ -28,6 +23,8 @@ pub(crate) struct LineFindings {
     pub repeats: Vec<Finding>,
     // The keys that came.
     pub keys: FirstKeys,
+    // Whether the source is well-formed.
+    pub is_well_formed: bool,
 }
 
 /// Returns the malformed escapes of a source and the pairs that repeat a key, each in the order of the lines. Unless
@@ -40,77 +37,49 @@ pub(crate) fn line_findings(
 ) -> Result<LineFindings, PropertiesError>
     ensures { FindsInLines (encoding_of encoding) is_well_formed source.now result }
 {
-    let mut input = source;
-    let mut lines = LineJoiner::new(alloc, encoding);
-    let mut found = LineFindings {
+    let none = LineFindings {
         escapes: Vec::new(alloc),
         repeats: Vec::new(alloc),
         keys: FirstKeys::for_source(alloc, source.len())?,
+        is_well_formed,
     };
-    while let Some(number) = lines.next_text(&mut input) {
-        found.add_line(alloc, number, lines.line(), is_well_formed)?;
-    }
-    lines.finish()?;
-    Ok(found)
+    take_all(alloc, source, encoding, none)
 }
 
-impl LineFindings {
-    // Adds what is wrong in a logical line.
-    #[inline(always)]
-    fn add_line(
-        &mut self,
-        alloc: Global,
-        line_number: usize,
-        line: &str,
-        is_well_formed: bool,
-    ) -> Result<(), PropertiesError>
-        requires { IndexesSome self.old.keys }
-        ensures { AddsLine is_well_formed line_number (chars line.now) self.old result self.new }
-    {
-        match find_item(alloc, line_number, line) {
-            Ok(Some(found)) => {
-                let item = cut_item(found, line);
-                Ok(self.add_item(alloc, line_number, item, is_well_formed)?)
-            }
-            Ok(None) => Ok(()),
-            Err(error) => self.add_malformed(line_number, line, error),
-        }
-    }
+impl Taker for LineFindings {
+    ghost took = { TookFindings };
 
-    // Adds the key of an item, if it is a pair.
+    #[tactic(auto, using(crate::proofs::LineFindings::taken))]
     #[inline(always)]
-    fn add_item(
-        &mut self,
-        alloc: Global,
-        line_number: usize,
-        item: LineRef<'_>,
-        is_well_formed: bool,
-    ) -> Result<(), AllocError>
-        requires { IndexesSome self.old.keys }
-        ensures adds { let key = outcome_key (given (borrowed_content item.entry.content)) in
-            OnOk result (AddsKey is_well_formed line_number key self.old self.new) }
-        ensures kept { self.new.escapes ≡ self.old.escapes }
-    {
-        match item.content() {
-            ContentRef::Comment(_) => Ok(()),
-            ContentRef::KVPair(key, _) => {
-                self.add_key(alloc, line_number, key.as_str(), is_well_formed)
-            }
-        }
-    }
-
-    // Adds a key. If an earlier pair has it, that is a finding.
-    #[inline(always)]
-    fn add_key(
+    fn pair(
         &mut self,
         alloc: Global,
         line_number: usize,
         key: &str,
-        is_well_formed: bool,
-    ) -> Result<(), AllocError>
+        _value: &str,
+    ) -> Result<(), AllocError> {
+        self.add_key(alloc, line_number, key)
+    }
+
+    #[tactic(auto, using(crate::proofs::LineFindings::taken))]
+    fn malformed(&mut self, escape: MalformedEscape) -> Result<(), AllocError> {
+        Ok(
+            self.escapes.push(Finding {
+                line_number: escape.line_number,
+                kind: FindingKind::Escape(escape),
+            })?,
+        )
+    }
+}
+
+impl LineFindings {
+    // Adds a key. If an earlier pair has it, that is a finding.
+    #[inline(always)]
+    fn add_key(&mut self, alloc: Global, line_number: usize, key: &str) -> Result<(), AllocError>
         requires { IndexesSome self.old.keys }
-        ensures adds { OnOk result (AddsKey is_well_formed line_number (Some (chars key.now)) self.old self.new) }
+        ensures adds { OnOk result (AddsPair self.old.is_well_formed line_number (chars key.now) self.old self.new) }
         ensures kept { self.new.escapes ≡ self.old.escapes }
+        ensures setting { self.new.is_well_formed ≡ self.old.is_well_formed }
     {
         let first = self
             .keys
@@ -118,7 +87,7 @@ impl LineFindings {
         if first == line_number {
             return Ok(());
         }
-        if !is_well_formed && may_stand_for_bytes(key) {
+        if !self.is_well_formed && may_stand_for_bytes(key) {
             return Ok(());
         }
         Ok(
@@ -127,34 +96,6 @@ impl LineFindings {
                 kind: FindingKind::Repeats(first),
             })?,
         )
-    }
-
-    // Adds the malformed escape of a logical line, or fails if memory ran out.
-    fn add_malformed(
-        &mut self,
-        line_number: usize,
-        line: &str,
-        error: PropertiesError,
-    ) -> Result<(), PropertiesError>
-        requires { IsNoItem line_number (chars line.now) error }
-        ensures { (w : Bool) → AddsLine w line_number (chars line.now) self.old result self.new }
-    {
-        match error.kind() {
-            ErrorKind::Memory => Err(error),
-            kind => {
-                let escape = MalformedEscape {
-                    line_number,
-                    kind,
-                    in_comment: is_comment(line.as_bytes()),
-                };
-                Ok(
-                    self.escapes.push(Finding {
-                        line_number,
-                        kind: FindingKind::Escape(escape),
-                    })?,
-                )
-            }
-        }
     }
 }
 

@@ -1,27 +1,21 @@
 // The keys of a source.
 
-ghost use Rattle.std.specs.Prelude.{◌≡◌, OnOk};
-ghost use Rattle.std.specs.Cow.{cow_str_bytes};
+ghost use Rattle.std.specs.Prelude.{◌≡◌, ◌∷◌, [], OnOk, Some};
 ghost use Rattle.std.specs.Str.{chars};
-ghost use Rattle.properties_format.specs.Computed.Body.{outcome_key};
-ghost use Rattle.properties_format.specs.Items.{given};
-ghost use Rattle.properties_items.specs.BorrowedItems.{borrowed_content};
 ghost use Rattle.properties_text.specs.Encoding.{encoding_of};
 ghost use Rattle.properties_tools.specs.Propedit.Listing.{is_key_listed, Lists};
+ghost use Rattle.properties_tools.specs.Propedit.Sources.{first_in_pair};
 ghost use Rattle.properties_tools.specs.Private.FirstKeys.{IndexesSome};
-ghost use Rattle.properties_tools.specs.Private.Collected.{FindsListed, ListsKey, ListsLine};
+ghost use Rattle.properties_tools.specs.Private.Collected.{ListsKey, or_else, TookListed};
 
 use crate::propedit::answer::Answer;
 use crate::propedit::error::Failure;
 use crate::propedit::first_keys::FirstKeys;
+use crate::propedit::fold::{Taker, take_all};
 use crate::propedit::request::Terminator;
-use crate::propedit::sound::{refuse_bytes, refuse_unsound};
-use java_properties::{ContentRef, Encoding, LineRef, PropertiesError};
-use properties_items::found::{cut_item, find_item};
-use properties_lines::continuation::is_comment;
-use properties_lines::joiner::LineJoiner;
+use crate::propedit::sound::refuse_bytes;
+use java_properties::{Encoding, MalformedEscape};
 use std::alloc::{AllocError, Global};
-use std::borrow::CowStr;
 
 /// Returns the keys that begin with a prefix, each once and with the byte that ends it, in the order of their first
 /// pairs. If there is none, the status is 1.
@@ -43,89 +37,102 @@ pub fn list(
     ensures { Lists (encoding_of encoding) source.now (chars prefix.now) end result }
 {
     refuse_bytes(source, encoding)?;
-    match listed(alloc, source, encoding, prefix, end) {
-        Ok(text) => {
-            let status = if text.is_empty() { 1 } else { 0 };
-            Ok(Answer { text, status })
-        }
-        Err(error) => {
-            refuse_unsound(alloc, source, encoding)?;
-            Err(Failure::from(error))
-        }
+    let none = Listed {
+        keys: FirstKeys::for_source(alloc, source.len())?,
+        malformed: None,
+        prefix,
+        end,
+    };
+    let listed = take_all(alloc, source, encoding, none)?;
+    if let Some(escape) = listed.malformed {
+        return Err(Failure::Malformed(escape));
+    }
+    let keys = listed.keys;
+    let text = keys.text;
+    let status = if text.is_empty() { 1 } else { 0 };
+    Ok(Answer { text, status })
+}
+
+// The keys that are listed, and the first malformed escape of a pair.
+#[derive(Drop)]
+pub(crate) struct Listed<'a> {
+    pub keys: FirstKeys,
+    pub malformed: Option<MalformedEscape>,
+    pub prefix: &'a str,
+    pub end: Terminator,
+}
+
+impl Taker for Listed<'_> {
+    ghost took = { TookListed };
+
+    #[tactic(auto, using(crate::proofs::ListedKeys::taken))]
+    #[inline(always)]
+    fn pair(
+        &mut self,
+        alloc: Global,
+        line_number: usize,
+        key: &str,
+        _value: &str,
+    ) -> Result<(), AllocError> {
+        list_key(
+            alloc,
+            &mut self.keys,
+            line_number,
+            key,
+            self.prefix,
+            self.end,
+        )
+    }
+
+    fn malformed(&mut self, escape: MalformedEscape) -> Result<(), AllocError> {
+        self.malformed = first_of(self.malformed, escape);
+        Ok(())
     }
 }
 
-// Returns the keys that are listed, each with the byte that ends it. Passes over comments.
-fn listed(
-    alloc: Global,
-    source: &[u8],
-    encoding: Encoding,
-    prefix: &str,
-    end: Terminator,
-) -> Result<Vec<u8>, PropertiesError>
-    ensures { FindsListed (encoding_of encoding) source.now (chars prefix.now) end result }
+// Returns the first escape of a pair, given that of those before this one.
+pub(crate) fn first_of(
+    earlier: Option<MalformedEscape>,
+    escape: MalformedEscape,
+) -> Option<MalformedEscape>
+    ensures { result ≡ or_else earlier (first_in_pair (escape ∷ [])) }
 {
-    let mut input = source;
-    let mut lines = LineJoiner::new(alloc, encoding);
-    let mut keys = FirstKeys::for_source(alloc, source.len())?;
-    while let Some(number) = lines.next_text(&mut input) {
-        add_line(alloc, &mut keys, number, lines.line(), prefix, end)?;
+    match earlier {
+        Some(first) => Some(first),
+        None => {
+            if escape.in_comment {
+                None
+            } else {
+                Some(escape)
+            }
+        }
     }
-    lines.finish()?;
-    Ok(keys.text)
 }
 
-// Adds the key of a logical line, if it is a pair and its key is listed.
+// Adds a key, if it is listed.
 #[inline(always)]
-fn add_line(
+fn list_key(
     alloc: Global,
     keys: &mut FirstKeys,
     line_number: usize,
-    line: &str,
-    prefix: &str,
-    end: Terminator,
-) -> Result<(), PropertiesError>
-    requires { IndexesSome keys.old }
-    ensures { ListsLine line_number (chars line.now) (chars prefix.now) end keys.old result keys.new }
-{
-    if is_comment(line.as_bytes()) {
-        return Ok(());
-    }
-    match find_item(alloc, line_number, line)? {
-        Some(found) => Ok(add_item(alloc, keys, cut_item(found, line), prefix, end)?),
-        None => Ok(()),
-    }
-}
-
-// Adds the key of an item, if it is a pair and its key is listed.
-#[inline(always)]
-fn add_item(
-    alloc: Global,
-    keys: &mut FirstKeys,
-    line: LineRef<'_>,
+    key: &str,
     prefix: &str,
     end: Terminator,
 ) -> Result<(), AllocError>
     requires { IndexesSome keys.old }
-    ensures { OnOk result (let item = outcome_key (given (borrowed_content line.entry.content)) in
-        ListsKey (chars prefix.now) end item keys.old keys.new) }
+    ensures { OnOk result (ListsKey (chars prefix.now) end (chars key.now) keys.old keys.new) }
 {
-    match line.content() {
-        ContentRef::Comment(_) => Ok(()),
-        ContentRef::KVPair(key, _) => {
-            if !is_listed(key, prefix) {
-                return Ok(());
-            }
-            keys.first_line(alloc, key.as_str(), line.line_number(), end)?;
-            Ok(())
-        }
+    if !is_listed(key, prefix) {
+        return Ok(());
     }
+    keys.first_line(alloc, key, line_number, end)?;
+    Ok(())
 }
 
 // Returns whether the key begins with the prefix.
 #[inline(always)]
-fn is_listed(key: &CowStr<'_>, prefix: &str) -> bool
-    ensures { result ≡ is_key_listed (chars prefix.now) (chars (cow_str_bytes key.now)) }
+fn is_listed(key: &str, prefix: &str) -> bool
+    ensures { result ≡ is_key_listed (chars prefix.now) (chars key.now) }
 {
-    key.as_str().starts_with(prefix)
+    key.starts_with(prefix)
 }

@@ -1,23 +1,20 @@
 // The keys of a source with their values.
 
 ghost use Rattle.std.specs.Prelude.{◌≡◌, ◌++◌, IfOk, OnOk};
-ghost use Rattle.std.specs.BTreeMap.{IsOrdered};
 ghost use Rattle.std.specs.Str.{chars};
-ghost use Rattle.std.specs.String.{string_cmp};
 ghost use Rattle.properties_text.specs.Encoding.{encoding_of};
 ghost use Rattle.properties_tools.specs.Propedit.Listing.{ended_pair, is_pair_listed, listed_pairs, separator_byte, ListsValues, PrintsAll};
-ghost use Rattle.properties_tools.specs.Private.Collected.{pair_of, pairs_of, with_pair, FindsLastPairs, FindsLinePair, HasPlaces, PutsLine};
+ghost use Rattle.properties_tools.specs.Private.Collected.{pair_of, pairs_of, with_pair, IndexesPairs, TookPairs};
 
 use crate::propedit::answer::{Answer, push_ended, push_followed};
 use crate::propedit::error::Failure;
+use crate::propedit::first_keys::FirstKeys;
+use crate::propedit::fold::{Taker, take_all};
+use crate::propedit::list::first_of;
 use crate::propedit::request::Terminator;
-use crate::propedit::sound::{refuse_bytes, refuse_unsound};
-use java_properties::{Encoding, PropertiesError};
-use properties_items::found::{find_item, item_pair};
-use properties_lines::continuation::is_comment;
-use properties_lines::joiner::LineJoiner;
+use crate::propedit::sound::refuse_bytes;
+use java_properties::{Encoding, MalformedEscape};
 use std::alloc::{AllocError, Global};
-use std::collections::BTreeMap;
 
 /// Returns the keys that begin with a prefix, each once and with its last value, in the order of their first pairs. If
 /// there is none, the status is 1.
@@ -39,90 +36,65 @@ pub fn list_values(
     ensures { ListsValues (encoding_of encoding) source.now (chars prefix.now) end result }
 {
     refuse_bytes(source, encoding)?;
-    match last_pairs(alloc, source, encoding) {
-        Ok(pairs) => Ok(listed(alloc, &pairs, prefix, end)?),
-        Err(error) => {
-            refuse_unsound(alloc, source, encoding)?;
-            Err(Failure::from(error))
-        }
+    let none = LastPairs {
+        pairs: Vec::new(alloc),
+        places: FirstKeys::for_source(alloc, source.len())?,
+        malformed: None,
+    };
+    let last = take_all(alloc, source, encoding, none)?;
+    if let Some(escape) = last.malformed {
+        return Err(Failure::Malformed(escape));
     }
+    Ok(listed(alloc, &last.pairs, prefix, end)?)
 }
 
-// Returns each key with its last value, in the order of the first pairs. Passes over comments.
-fn last_pairs(
-    alloc: Global,
-    source: &[u8],
-    encoding: Encoding,
-) -> Result<Vec<(String, String)>, PropertiesError>
-    ensures { FindsLastPairs (encoding_of encoding) source.now result }
-{
-    let mut input = source;
-    let mut lines = LineJoiner::new(alloc, encoding);
-    let mut pairs = Vec::new(alloc);
-    let mut places = BTreeMap::new(alloc);
-    while let Some(number) = lines.next_text(&mut input) {
-        put_line(alloc, &mut pairs, &mut places, number, lines.line())?;
-    }
-    lines.finish()?;
-    Ok(pairs)
+// Each key with its last value, in the order of the first pairs, and the first malformed escape of a pair.
+#[derive(Drop)]
+pub(crate) struct LastPairs {
+    pub pairs: Vec<(String, String)>,
+    pub places: FirstKeys,
+    pub malformed: Option<MalformedEscape>,
 }
 
-// Puts the pair of a logical line among those before it, if it is one.
-fn put_line(
-    alloc: Global,
-    pairs: &mut Vec<(String, String)>,
-    places: &mut BTreeMap<String, usize>,
-    line_number: usize,
-    line: &str,
-) -> Result<(), PropertiesError>
-    requires ordered { IsOrdered string_cmp places.old }
-    requires placed { HasPlaces places.old.entries (pairs_of pairs.old.items) }
-    ensures puts { PutsLine line_number (chars line.now) (pairs_of pairs.old.items) result (pairs_of pairs.new.items) }
-    ensures placed { OnOk result (HasPlaces places.new.entries (pairs_of pairs.new.items)) }
-    ensures ordered { IsOrdered string_cmp places.new }
-{
-    match pair_in(alloc, line_number, line)? {
-        Some((key, value)) => Ok(put(pairs, places, key, value)?),
-        None => Ok(()),
-    }
-}
+impl Taker for LastPairs {
+    ghost took = { TookPairs };
 
-// Returns the key and the value of a logical line, or `None` if it isn't a pair.
-fn pair_in(
-    alloc: Global,
-    line_number: usize,
-    line: &str,
-) -> Result<Option<(String, String)>, PropertiesError>
-    ensures { FindsLinePair line_number (chars line.now) result }
-{
-    if is_comment(line.as_bytes()) {
-        return Ok(None);
+    fn pair(
+        &mut self,
+        alloc: Global,
+        _line_number: usize,
+        key: &str,
+        value: &str,
+    ) -> Result<(), AllocError> {
+        put(alloc, &mut self.pairs, &mut self.places, key, value)
     }
-    match find_item(alloc, line_number, line)? {
-        Some(found) => Ok(item_pair(alloc, found, line)?),
-        None => Ok(None),
+
+    fn malformed(&mut self, escape: MalformedEscape) -> Result<(), AllocError> {
+        self.malformed = first_of(self.malformed, escape);
+        Ok(())
     }
 }
 
 // Sets the value of a key, or appends it with its value.
 fn put(
+    alloc: Global,
     pairs: &mut Vec<(String, String)>,
-    places: &mut BTreeMap<String, usize>,
-    key: String,
-    value: String,
+    places: &mut FirstKeys,
+    key: &str,
+    value: &str,
 ) -> Result<(), AllocError>
-    requires ordered { IsOrdered string_cmp places.old }
-    requires placed { HasPlaces places.old.entries (pairs_of pairs.old.items) }
-    ensures puts { OnOk result (let p = pair_of (key, value) in pairs_of pairs.new.items ≡ with_pair p.0 p.1 (pairs_of pairs.old.items)) }
-    ensures placed { OnOk result (HasPlaces places.new.entries (pairs_of pairs.new.items)) }
-    ensures ordered { IsOrdered string_cmp places.new }
+    requires { IndexesPairs places.old (pairs_of pairs.old.items) }
+    ensures puts { OnOk result (pairs_of pairs.new.items ≡ with_pair (chars key.now) (chars value.now) (pairs_of pairs.old.items)) }
+    ensures placed { OnOk result (IndexesPairs places.new (pairs_of pairs.new.items)) }
 {
-    if let Some(place) = places.get(key.as_str()) {
-        pairs[*place].1 = value;
+    let last = pairs.len();
+    let place = places.first_line(alloc, key, last, Terminator::Nul)?;
+    let value = String::from_str(alloc, value)?;
+    if place < last {
+        pairs[place].1 = value;
         return Ok(());
     }
-    places.insert(key.clone()?, pairs.len())?;
-    pairs.push((key, value))?;
+    pairs.push((String::from_str(alloc, key)?, value))?;
     Ok(())
 }
 

@@ -4,5 +4,5 @@ use Rattle.properties_tools.proofs.propedit.list.is_listed.Goals as goal
 
 pub returns : goal.returns
 returns c =
-    rw c.as_str.ensures.value at (starts-chars c.starts_with.result c.as_str.result.now c.args.prefix.now c.as_str.utf8 c.utf8.prefix
-    (starts_text c.starts_with.result c.args.prefix.now c.as_str.result.now c.starts_with.ensures.cases))
+    starts-chars c.starts_with.result c.args.key.now c.args.prefix.now c.utf8.key c.utf8.prefix
+    (starts_text c.starts_with.result c.args.prefix.now c.args.key.now c.starts_with.ensures.cases)
