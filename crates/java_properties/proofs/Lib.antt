@@ -16,5 +16,4 @@ pub mod WholeSources
 pub mod FewLines
 pub mod SliceReads
 pub mod SourceFindings
-pub mod SoughtValues
-pub mod SoughtPairs
+pub mod TakenPairs

@@ -13,14 +13,20 @@ use Rattle.properties_items.specs.declared.error.ErrorKind.TheVariants as kind
 use Rattle.properties_items.specs.declared.error.PropertiesError.{PropertiesError}
 use Rattle.properties_items.specs.declared.findings.MalformedEscape.{MalformedEscape}
 use Rattle.properties_format.specs.Items.{pair, Outcome, given}
-use Rattle.properties_items.specs.Texts.{characters}
+use Rattle.properties_items.specs.Texts.{characters, value_at}
 use Rattle.properties_items.specs.declared.findings.KeyLine as code
+use Rattle.std.specs.BTreeMap.{BTreeMap}
 use Rattle.std.specs.Option.{option_map}
 use Rattle.std.specs.declared.string.String.{String}
 use Rattle.properties_format.specs.Edited.{IsFirstMalformed, ItemsAre}
 use Rattle.properties_format.specs.Edits.{EscapesAre, HasPairValue, IsFirstInPair}
 use Rattle.properties_format.specs.Escapes.{Malformed}
 use Rattle.properties_format.specs.Maps.{HasValue}
+use Rattle.properties_text.specs.Encoding.{encoding_of}
+use Rattle.properties_editing.specs.Documents.{HasValueFor}
+use Rattle.properties_editing.specs.declared.source.Comments.{Comments}
+use Rattle.properties_editing.specs.declared.source.Comments.TheVariants.{Read, PassedOver}
+use Rattle.properties_editing.specs.declared.source.SourceOptions.{SourceOptions}
 
 -- ---- The malformed escapes of an input, all of them or the first one.
 
@@ -215,3 +221,24 @@ IsFirstPairError e source = IsErrorOfFirst (λ how number. EscapesAre e source (
 abbrev pub TellsPairValue : {Z : Type 0} → Encoding → List ℕ → List ℕ → Result (Option (String Z)) PropertiesError → Type 0
 TellsPairValue e source key (Ok value) = HasPairValue e source key (option_map characters value)
 TellsPairValue e source key (Err error) = IsFirstPairError e source error ⊎ IsBareError kind.Memory error
+
+-- ---- where options say whether comments are read or passed over
+
+-- the result of looking up a key
+abbrev pub TellsValueFor : {Z : Type 0} → Comments → Encoding → List ℕ → List ℕ → Result (Option (String Z)) PropertiesError → Type 0
+TellsValueFor Read e source key result = TellsValue e source key result
+TellsValueFor PassedOver e source key result = TellsPairValue e source key result
+
+abbrev pub TellsValueWith : {Z : Type 0} → SourceOptions → List ℕ → List ℕ → Result (Option (String Z)) PropertiesError → Type 0
+TellsValueWith options source key result = TellsValueFor options.comments (encoding_of options.encoding) source key result
+
+-- An escape that is read is malformed, and this is the error of the first; or memory ran out.
+abbrev pub IsSourceError : Comments → Encoding → List ℕ → PropertiesError → Type 0
+IsSourceError Read e source error = IsFirstError e source error ⊎ IsBareError kind.Memory error
+IsSourceError PassedOver e source error = IsFirstPairError e source error ⊎ IsBareError kind.Memory error
+
+-- The map has each key that some pair has, with the value of the last such pair. No escape that is read is malformed.
+abbrev pub TellsMap : {Y Z : Type 0} → SourceOptions → List ℕ → Result (BTreeMap (String Y) (String Z)) PropertiesError → Type 0
+TellsMap options source (Ok m) =
+    (key : List ℕ) → HasValueFor options.comments (encoding_of options.encoding) source key (value_at m.entries key)
+TellsMap options source (Err error) = IsSourceError options.comments (encoding_of options.encoding) source error

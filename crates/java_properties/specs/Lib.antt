@@ -3,6 +3,7 @@ pub use Rattle.properties_items.specs.Line
 pub use Rattle.properties_items.specs.Texts
 pub use Rattle.properties_items.specs.DisplayTexts
 pub use Rattle.properties_items.specs.BorrowedItems
+pub use Rattle.properties_editing.specs.Comments
 pub use Rattle.properties_editing.specs.Editing
 pub use Rattle.properties_editing.specs.Documents
 pub mod PropertiesWriter

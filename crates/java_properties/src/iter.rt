@@ -23,7 +23,7 @@ use counted_io::CountedRead;
 pub use escapes::{first_malformed_escape, malformed_escapes};
 pub use keys::key_lines;
 pub use lines::{Stopped, read_lines};
-pub use lookup::{value_among_pairs, value_of};
+pub use lookup::{map_of, value_of, value_with};
 use properties_items::borrowed::LineRef;
 use properties_items::error::PropertiesError;
 use properties_items::found::Found;

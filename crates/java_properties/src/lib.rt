@@ -29,7 +29,7 @@ pub use converting::convert;
 pub use copy::CopyError;
 pub use iter::{
     PropertiesIter, Stopped, first_malformed_escape, key_lines, key_lines_of, malformed_escapes,
-    malformed_escapes_of, read_lines, value_among_pairs, value_of,
+    malformed_escapes_of, map_of, read_lines, value_of, value_with,
 };
 pub use maps::{read, read_sorted, write, write_sorted};
 pub use properties_editing::{

@@ -69,7 +69,7 @@ pub fn read_sorted<R: CountedRead>(
 }
 
 // A map of texts, sorted or not.
-trait TextMap: Drop {
+pub(crate) trait TextMap: Drop {
     // Its keys and values, in the order in which it holds them.
     ghost entries: { Self → Entries Global Global };
 

@@ -10,7 +10,7 @@ use crate::findings::findings_in;
 use crate::items::deliver_items;
 use crate::out::{fail, line_in, refuse, write_bytes, write_result};
 use crate::status::{Status, status_of};
-use java_properties::{Encoding, PropertiesError, read_lines, value_among_pairs, value_of};
+use java_properties::{Comments, Encoding, PropertiesError, SourceOptions, read_lines, value_with};
 use std::alloc::Global;
 
 /// Gives the value of a key: that of the last pair with it.
@@ -102,9 +102,15 @@ fn sought_value(
 ) -> Result<Option<String>, PropertiesError>
     ensures { TellsAs read_comments (encoding_of encoding) source.now (chars key.now) result }
 {
-    if read_comments {
-        value_of(alloc, source, encoding, key)
+    let comments = if read_comments {
+        Comments::Read
     } else {
-        value_among_pairs(alloc, source, encoding, key)
-    }
+        Comments::PassedOver
+    };
+    let options = SourceOptions {
+        encoding,
+        ascii_only: false,
+        comments,
+    };
+    value_with(alloc, source, options, key)
 }

@@ -1,3 +1,4 @@
+pub mod Comments
 pub mod Editing
 pub mod Views
 pub mod Documents

@@ -2,7 +2,7 @@
 
 ghost use Rattle.std.specs.Prelude.{◌≡◌, false};
 ghost use Rattle.std.specs.Str.{chars};
-ghost use Rattle.properties_editing.specs.Private.Sound.{passes_over};
+ghost use Rattle.properties_editing.specs.Comments.{passes_over};
 ghost use Rattle.properties_editing.specs.Private.Sources.{OpensSource};
 ghost use Rattle.properties_editing.specs.Editing.{asked_for};
 ghost use Rattle.properties_editing.specs.declared.source.SourceOptions.{SourceOptions};
@@ -24,8 +24,13 @@ pub enum Comments {
 
 impl Comments {
     /// Returns whether this logical line is a comment that is passed over.
+    ///
+    /// ```text
+    /// assert!(rt; Comments::PassedOver.are_passed_over("# C:\\users"));
+    /// assert!(rt; !Comments::Read.are_passed_over("# C:\\users"));
+    /// ```
     #[inline(always)]
-    pub(crate) fn are_passed_over(self, line: &str) -> bool
+    pub fn are_passed_over(self, line: &str) -> bool
         ensures { result ≡ passes_over self (chars line.now) }
     {
         match self {

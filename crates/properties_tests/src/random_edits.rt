@@ -7,8 +7,8 @@ ghost use Rattle.std.specs.Prelude.{◌<◌};
 use crate::same::same;
 use java_properties::Encoding::WINDOWS_1252;
 use java_properties::{
-    Comments, Document, Edit, PropertiesError, SourceOptions, edit_all, edit_with, remove_key,
-    set_key, set_value, value_among_pairs, value_of,
+    Comments, Document, Edit, PropertiesError, SourceOptions, edit_all, edit_with, map_of,
+    remove_key, set_key, set_value, value_of, value_with,
 };
 use std::alloc::{AllocError, Global};
 use std::process::Abort;
@@ -165,8 +165,19 @@ fn check_source(
     let bytes = document.to_bytes()?;
     let value = value_of(alloc, &bytes, WINDOWS_1252, key)?;
     same(rt, value.as_deref(), document.get(key));
-    let value = value_among_pairs(alloc, &bytes, WINDOWS_1252, key)?;
+    let options = SourceOptions {
+        comments: Comments::PassedOver,
+        ..SourceOptions::new(WINDOWS_1252)
+    };
+    let value = value_with(alloc, &bytes, options, key)?;
     same(rt, value.as_deref(), document.get(key));
+    let map = map_of(alloc, &bytes, options)?;
+    same(
+        rt,
+        map.get(key).map(|value| value.as_str()),
+        document.get(key),
+    );
+    same(rt, map.len(), document.keys()?.len());
     Ok(())
 }
 

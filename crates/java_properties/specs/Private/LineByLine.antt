@@ -1,12 +1,12 @@
 -- What a logical line adds to what was found, sought or copied, by its outcome as it is computed.
-use Rattle.std.specs.Prelude.{◌≡◌, ◌⊎◌, ℕ, true, false, List, [], ◌∷◌, ◌++◌, Option, Some, None, bytes_eq, Result, Ok, Err, if◌then◌else◌}
+use Rattle.std.specs.Prelude.{◌≡◌, ◌⊎◌, ℕ, true, false, List, [], ◌∷◌, ◌++◌, Option, Some, None, bytes_eq, Result, Ok, Err}
 use Rattle.std.specs.Option.{option_map, unwrap_or}
 use Rattle.std.specs.Map.{lookup, update}
 use Rattle.std.specs.declared.string.String.{String}
 use Rattle.counted_io.specs.Streams.{Reader, HasRead, has_ended}
 use Rattle.properties_format.specs.Encoding.{Encoding}
-use Rattle.properties_format.specs.Lines.{end, Line, IsGroups, AreWhole, lines_in, is_comment_line}
-use Rattle.properties_format.specs.Items.{broken, comment, pair, ignored, given, Content, Outcome}
+use Rattle.properties_format.specs.Lines.{end, Line, IsGroups, AreWhole, lines_in}
+use Rattle.properties_format.specs.Items.{broken, comment, pair, ignored, given}
 use Rattle.properties_format.specs.Found.{escapes_from}
 use Rattle.properties_format.specs.ItemsToCome.{ReaderState, start}
 use Rattle.properties_format.specs.Computed.Items.{outcome_of}
@@ -17,7 +17,9 @@ use Rattle.properties_text.specs.Escaping.{malformed_in}
 use Rattle.properties_text.specs.declared.escape.Malformed.{Malformed}
 use Rattle.properties_items.specs.Errors.{IsBareError}
 use Rattle.properties_items.specs.Texts.{characters}
-use Rattle.java_properties.specs.Findings.{escape_records, FindsAll, FailsToFind, StopsFinding, CompletesNone}
+use Rattle.java_properties.specs.Findings.{escape_records, FindsAll, FailsToFind, StopsFinding, CompletesNone, IsSourceError}
+use Rattle.properties_editing.specs.Documents.{HasValueFor}
+use Rattle.properties_editing.specs.declared.source.Comments.{Comments}
 use Rattle.properties_items.specs.declared.error.ErrorKind.TheVariants as kind
 use Rattle.properties_items.specs.declared.error.PropertiesError.{PropertiesError}
 use Rattle.properties_items.specs.declared.findings.KeyLine as code
@@ -31,8 +33,6 @@ use Rattle.java_properties.specs.Private.Engine.{line_bytes, NumbersLine}
 use Rattle.java_properties.specs.declared.copy.Built.{Built}
 use Rattle.java_properties.specs.declared.copy.Built.TheVariants.{Nothing, Pair}
 use Rattle.java_properties.specs.declared.writer.engine.Engine.{Engine}
-use Rattle.properties_format.specs.Edits.{AreInComments}
-use Rattle.properties_items.specs.BorrowedItems.{IsNoItem}
 
 -- the key of a logical line, if it is a pair without a malformed escape; or memory ran out
 abbrev pub FindsLineKey : {Z : Type 0} → List ℕ → Result (Option (String Z)) PropertiesError → Type 0
@@ -124,20 +124,15 @@ BuildsLine text (Ok (Pair number)) w = HasBuilt text number w
 BuildsLine text (Err (error.Malformed malformed)) w = outcome_of text ≡ broken (malformed_in malformed)
 BuildsLine text (Err error.Memory) w = Unit {0}
 
--- ---- How the value of a key is sought, item after item or logical line after logical line.
+-- ---- How the pairs of a source are taken, by what the taker has of the values that keys have by then.
 
--- the value of a key after an item, given that of the items before it
-abbrev pub value_after : List ℕ → Content → Option (List ℕ) → Option (List ℕ)
-value_after key (comment text) before = before
-value_after key (pair name value) before = if bytes_eq name key then Some value else before
+-- the values of the keys after a logical line, given its pair if it is one, and those after the lines before it
+abbrev pub values_after : Option (List ℕ × List ℕ) → (List ℕ → Option (List ℕ)) → List ℕ → Option (List ℕ)
+values_after None before = before
+values_after (Some p) before = update bytes_eq before p.0 (Some p.1)
 
--- the value of a key after a logical line, by the outcome of the line
-abbrev pub value_through : List ℕ → Outcome → Option (List ℕ) → Option (List ℕ)
-value_through key (given content) before = value_after key content before
-value_through key other before = before
-
--- The value after a logical line, which is no pair with a malformed escape; or it is one, or memory ran out.
-abbrev pub TellsLineValue : {Y Z : Type 0} → List ℕ → ℕ → List ℕ → Option (String Y) → Result (Option (String Z)) PropertiesError → Type 0
-TellsLineValue key number x before (Ok value) =
-    AreInComments (escapes_from number x (outcome_of x) []) × (option_map characters value ≡ value_through key (outcome_of x) (option_map characters before))
-TellsLineValue key number x before (Err error) = (is_comment_line x ≡ false) × IsNoItem number x error
+-- All pairs of the source were taken; or why not.
+abbrev pub TakesPairs : {T : Type 0} → (T → (List ℕ → Option (List ℕ)) → Type 0) → Comments → Encoding → List ℕ → Result T PropertiesError → Type 0
+TakesPairs Has comments e source (Ok taker) =
+    (values : List ℕ → Option (List ℕ)) × Has taker values × ((key : List ℕ) → HasValueFor comments e source key (values key))
+TakesPairs Has comments e source (Err error) = IsSourceError comments e source error

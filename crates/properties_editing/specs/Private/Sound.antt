@@ -1,13 +1,14 @@
 -- What is asked of the comments of a source, and the results of an edit by that.
-use Rattle.std.specs.Prelude.{◌≡◌, ◌⊎◌, ℕ, Bool, true, false, List, [], ◌∷◌, Result, Ok, Err, ◌+◌, ◌++◌, length}
+use Rattle.std.specs.Prelude.{◌≡◌, ◌⊎◌, ℕ, true, false, List, [], ◌∷◌, Result, Ok, Err, ◌+◌, ◌++◌, length}
 use Rattle.std.specs.Global.{Vec}
 use Rattle.properties_format.specs.Encoding.{Encoding, byte_order_mark}
-use Rattle.properties_format.specs.Lines.{is_comment_line, joined}
+use Rattle.properties_format.specs.Lines.{joined}
 use Rattle.properties_format.specs.Body.{HeldLine, as_lines, held_in}
 use Rattle.properties_format.specs.Edited.{EditResult, edited, unsupported, is_editable, IsEditResult}
 use Rattle.properties_format.specs.Edits.{IsPairsResult}
 use Rattle.properties_format.specs.Computed.Edited.{IsSound}
 use Rattle.properties_format.specs.Computed.Items.{outcome_of}
+pub use Rattle.properties_editing.specs.Comments.{passes_over}
 use Rattle.properties_editing.specs.Editing.{IsRefusal}
 use Rattle.properties_editing.specs.declared.source.Comments.{Comments}
 use Rattle.properties_editing.specs.declared.source.Comments.TheVariants.{Read, PassedOver}
@@ -15,11 +16,6 @@ use Rattle.properties_items.specs.declared.error.PropertiesError.{PropertiesErro
 use Rattle.properties_items.specs.BorrowedItems.{IsNoItem}
 use Rattle.properties_items.specs.Errors.{IsBareError}
 use Rattle.properties_items.specs.declared.error.ErrorKind.TheVariants as kind
-
--- whether a logical line is passed over
-abbrev pub passes_over : Comments → List ℕ → Bool
-passes_over Read x = false
-passes_over PassedOver x = is_comment_line x
 
 -- Nothing in the logical line is malformed, or it is passed over.
 abbrev pub IsSoundFor : Comments → List ℕ → Type 0

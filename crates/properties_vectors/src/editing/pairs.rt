@@ -5,8 +5,8 @@ use crate::items::error_text;
 use crate::notation::{Clause, Halt, Row, Source, quoted, text};
 use crate::outcome::Outcome;
 use java_properties::{
-    Comments, Document, Edit, PropertiesError, SourceOptions, edit_all, edit_with,
-    value_among_pairs, value_of,
+    Comments, Document, Edit, Encoding, PropertiesError, SourceOptions, edit_all, edit_with,
+    map_of, value_of, value_with,
 };
 use std::alloc::{AllocError, Global};
 use std::slice;
@@ -30,15 +30,23 @@ pub fn check_edit_pairs(row: Row<'_>, outcome: &mut Outcome) -> Result<(), Halt>
     Ok(())
 }
 
-/// Each key has its value, or all of them the same error. Where comments can be read, a key has the same value.
+/// Each key has its value, and so it has in a map; or all of them have the same error. Where comments can be read, a key
+/// has the same value.
 pub fn check_get_pairs(row: Row<'_>, outcome: &mut Outcome) -> Result<(), Halt> {
     let alloc = row.alloc;
     let (source, steps) = row.source()?;
     let mut came = String::new(alloc);
     for step in steps {
         let key = text(key_of(step).ok_or(Halt::Unreadable)?)?;
-        match value_among_pairs(alloc, source.bytes, row.encoding, key) {
+        let options = passing_over(row.encoding);
+        match value_with(alloc, source.bytes, options, key) {
             Ok(value) => {
+                let map = map_of(alloc, source.bytes, options);
+                let is_same = map.is_ok_and(|map| map.get(key).map(|found| found.as_str())
+                    == value.as_deref());
+                if !is_same {
+                    outcome.fail(format!(in alloc; "a map has another value of {key:?}")?);
+                }
                 if !came.is_empty() {
                     came.push_str("; ")?;
                 }
@@ -49,13 +57,26 @@ pub fn check_get_pairs(row: Row<'_>, outcome: &mut Outcome) -> Result<(), Halt> 
                     }
                 }
             }
-            Err(error) => outcome.compare("looked up", error_text(alloc, &error)?.as_str())?,
+            Err(error) => {
+                outcome.compare("looked up", error_text(alloc, &error)?.as_str())?;
+                match map_of(alloc, source.bytes, options) {
+                    Ok(_) => outcome.fail(format!(in alloc; "a map has no error")?),
+                    Err(error) => outcome.compare("in a map", error_text(alloc, &error)?.as_str())?,
+                }
+            }
         }
     }
     if !came.is_empty() {
         outcome.compare("looked up", &came)?;
     }
     Ok(())
+}
+
+fn passing_over(encoding: Encoding) -> SourceOptions {
+    SourceOptions {
+        comments: Comments::PassedOver,
+        ..SourceOptions::new(encoding)
+    }
 }
 
 // The key that a clause has looked up, if it is such a clause.
@@ -69,10 +90,7 @@ fn key_of(step: &Clause) -> Option<&Vec<u8>> {
 // An empty list comes first, which refuses what no edit can be made to.
 fn one_at_a_time(source: Source<'_>, runs: &[Run]) -> Result<Vec<u8>, PropertiesError> {
     let (alloc, encoding) = (source.alloc, source.encoding);
-    let options = SourceOptions {
-        comments: Comments::PassedOver,
-        ..SourceOptions::new(encoding)
-    };
+    let options = passing_over(encoding);
     let mut bytes = edit_with(alloc, source.bytes, options, &[])?;
     for run in runs {
         for edit in &run.edits {
@@ -101,7 +119,7 @@ fn check_document(
             for step in steps {
                 if let Some(key) = key_of(step) {
                     let key = text(key)?;
-                    let value = value_among_pairs(alloc, &bytes, encoding, key);
+                    let value = value_with(alloc, &bytes, passing_over(encoding), key);
                     let is_same = value.is_ok_and(|value| value.as_deref() == document.get(key));
                     if !is_same {
                         outcome.fail(format!(in alloc; "a document has another value of {key:?}")?);
@@ -116,10 +134,7 @@ fn check_document(
 }
 
 fn document_of(source: Source<'_>, runs: &[Run]) -> Result<Document, PropertiesError> {
-    let options = SourceOptions {
-        comments: Comments::PassedOver,
-        ..SourceOptions::new(source.encoding)
-    };
+    let options = passing_over(source.encoding);
     let mut document = Document::parse_with(source.alloc, source.bytes, options)?;
     for run in runs {
         document.set_ascii_only(run.ascii_only);
@@ -151,7 +166,7 @@ fn shown(
     for step in steps {
         if let Some(key) = key_of(step) {
             shown.push_str("; ")?;
-            match value_among_pairs(alloc, bytes.as_slice(), encoding, text(key)?) {
+            match value_with(alloc, bytes.as_slice(), passing_over(encoding), text(key)?) {
                 Ok(value) => shown.push_str(value_text(alloc, value.as_deref())?.as_str())?,
                 Err(error) => shown.push_str(error_text(alloc, &error)?.as_str())?,
             }
