@@ -70,7 +70,7 @@ const PLACES: &[Placed] = &[
         0,
         b"a=\xc3\xa9",
     ),
-    ("-V", "get a", b"", 0, b"propedit 1.14.0\n"),
+    ("-V", "get a", b"", 0, b"propedit 1.15.0\n"),
 ];
 
 #[test]

@@ -3,7 +3,7 @@
 use java_properties::Repertoire;
 use std::fmt;
 
-const VERSION: &str = "1.14.0";
+const VERSION: &str = "1.15.0";
 
 /// A command.
 #[derive(Clone, Copy, Debug, PartialEq, Eq)]

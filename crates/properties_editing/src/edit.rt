@@ -169,9 +169,9 @@ impl BorrowedEdit<'_> {
 /// Returns the source after these edits, in order: each edit applies to the result of the one before it.
 ///
 /// Without edits, the result is a copy of the source. The source is read once, and the result is made once, after the
-/// last edit. Each edit takes a few comparisons for each doubling of the number of keys in the list, and no edit moves
-/// what it doesn't change. [`Edit::SetValue`] also reads the pair that it changes or, if no pair has the key, the last
-/// pair that is left.
+/// last edit. Each edit takes a few comparisons for each doubling of the number of keys in the list, and a removal also
+/// a step for each pair with its key. No edit moves what it doesn't change. [`Edit::SetValue`] also reads the pair that
+/// it changes or, if no pair has the key, the last pair that is left.
 ///
 /// UTF-16 is refused. A source with a malformed escape anywhere is refused with the error that reading the source would
 /// return.

@@ -14,12 +14,17 @@ use Rattle.java_properties.specs.PropertiesWriter.{Writing, WritesLine, Flushes}
 use Rattle.java_properties.specs.ReadLines.{BeginsWith}
 use Rattle.properties_items.specs.declared.error.PropertiesError.{PropertiesError}
 use Rattle.java_properties.proofs.Readings.{Comes, Collected, collected-start, collected-next, collected-none, collected-error}
-use Rattle.java_properties.proofs.SoughtValues.{items-added}
 use Rattle.java_properties.specs.Copying.{HasScalars, WritesIfPair, Copies}
 use Rattle.java_properties.specs.declared.copy.CopyError.{CopyError}
 use Rattle.java_properties.specs.declared.copy.CopyError.TheVariants.{Read, Write}
 use Rattle.properties_tools.specs.Filter.{pair_writer, Filters}
 use Rattle.properties_tools.proofs.Pairs.{HasWrittenPairs, pairs-none, pairs-comment, pairs-more, pairs-live, pairs-fail, pairs-refused, pairs-flushed, pairs-flush, pairs-flush-failed}
+
+-- one item more
+items-added : (entries : List Entry) (number : ℕ) (content : Content) → AreItems entries → AreItems (entries ++ item number content ∷ [])
+items-added [] number content h = tt
+items-added (item n c ∷ entries) number content h = items-added entries number content h
+items-added (entry ∷ entries) number content h = absurd h
 
 -- the texts of pairs are of scalar values, one more among them
 scalars-more : (xs : List Entry) (number : ℕ) (content : Content) → ArePairsOfScalars (pairs_in xs) → HasScalars content

@@ -1,7 +1,7 @@
 #!/usr/bin/env python3
 """Compares what a View shows of random sources with a model, written here, that shares nothing with the library.
 
-    docs/try_view.py [SEEDS [SOURCES [PROGRAM]]]
+    tests/try_view.py [SEEDS [SOURCES [PROGRAM]]]
 
 SEEDS seeds, 3 if left out, with SOURCES sources each, 20,000 if left out: short ones in windows-1252 and UTF-8, many
 with joins, malformed escapes, ill-formed bytes or a byte order mark. They become rows of tables, whose right sides the
