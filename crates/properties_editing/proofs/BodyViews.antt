@@ -54,7 +54,7 @@ use Rattle.properties_editing.specs.declared.cuts.Cut as code
 use Rattle.properties_editing.specs.Private.BodyCuts.{IsCutOf, added_lines, adds, past, cut_at, cut_size, placed}
 use Rattle.properties_lines.specs.LineSearch.{unit_size}
 use Rattle.properties_format.specs.Edited.{is_editable}
-use Rattle.properties_editing.proofs.CutMeanings.{IsAlone, cut-meets, group-added, group-alone}
+use Rattle.properties_editing.proofs.CutMeanings.{AreJoined, IsAlone, cut-meets, group-added, group-alone, group-joined}
 use Rattle.properties_format.specs.Body.{ending_bytes, last_ending}
 use Rattle.properties_format.specs.Computed.Body.{unended_bytes}
 use Rattle.properties_format.proofs.InTurn.Lines.{bytes-unended}
@@ -365,6 +365,7 @@ pub record IsLeftBefore (view : Walk) (held : List HeldLine) : Type 0 where
   pub lines : lines_left view.source.now view.before ≡ first ∷ more ++ rest
   pub viewed : lines_of view ≡ first ∷ more
   pub alone : IsAlone (first ∷ more)
+  pub joined : AreJoined (first ∷ more)
 
 pub left-before : {view : Walk} {group : WalkedGroup} (v : IsViewed view group) → IsLeftBefore view v.takes.held
 left-before {view} {group} v =
@@ -377,7 +378,8 @@ left-before {view} {group} v =
     subst (λ sc. let w : Scanner = sc in (if w.is_done then [] else held_groups_of (encoding_of w.encoding) (drop w.at body)) ≡ v.takes.held ∷ more)
     v.before v.takes.groups in
     let live : view.before.is_done ≡ false = subst (λ sc. let w : Scanner = sc in w.is_done ≡ false) v.before v.takes.live in
-    let some = group-some [] (lines_left body view.before) v.takes.held more (sym (groups-lines body s) ∙ groups) in
+    let after : held_groups_after [] (lines_left body view.before) ≡ v.takes.held ∷ more = sym (groups-lines body s) ∙ groups in
+    let some = group-some [] (lines_left body view.before) v.takes.held more after in
     let all : held_groups_of e d ≡ v.takes.held ∷ more = subst (λ b. (if b then [] else held_groups_of e d) ≡ v.takes.held ∷ more) live groups in
     let lines : lines_left body view.before ≡ held_in (held_groups_of e d) = rw live (sym (lines-in e d)) in
     record {
@@ -387,7 +389,8 @@ left-before {view} {group} v =
       rest = held_in more;
       lines = lines ∙ ap held_in all ∙ ap (λ g. g ++ held_in more) some.2;
       viewed = ap first_of groups ∙ some.2;
-      alone = subst IsAlone some.2 (group-alone [] (lines_left body view.before) v.takes.held more tt (sym (groups-lines body s) ∙ groups));
+      alone = subst IsAlone some.2 (group-alone [] (lines_left body view.before) v.takes.held more tt after);
+      joined = subst AreJoined some.2 (group-joined [] (lines_left body view.before) v.takes.held more tt after);
     }
 
 -- A cut of the lines that were left before a group was taken is one of the group.

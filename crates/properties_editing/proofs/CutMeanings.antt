@@ -1,12 +1,12 @@
 -- What a cut of a group's logical line means.
 use Rattle.std.proofs.Common.{◌≡◌, ◌≢◌, ◌<◌, ◌≤◌, ℕ, zero, suc, ◌+◌, ◌-◌, Bool, true, false, List, [], ◌∷◌, ◌++◌, length, take, drop, refl, inl, inr, ap, ap₂, sym, ◌∙◌, subst, arith, append-nil, append_assoc, length-append}
-use Rattle.std.specs.Prelude.{nat_le, ◌||◌, not}
+use Rattle.std.specs.Prelude.{nat_le, ◌||◌, ◌&&◌, not}
 use Rattle.std.proofs.lemmas.Bool.{cases_Bool}
 use Rattle.std.proofs.lemmas.Bool.Decides.{nat_tests}
 use Rattle.std.proofs.lemmas.List.{take-append-le, take-append-drop, length-take-le, length-drop}
 use Rattle.properties_format.specs.Encoding.{Encoding}
-use Rattle.properties_format.specs.Text.{without_leading_blanks}
-use Rattle.properties_format.specs.Lines.{is_comment_line, is_open, joined}
+use Rattle.properties_format.specs.Text.{backslash, without_leading_blanks}
+use Rattle.properties_format.specs.Lines.{AreOpen, is_comment_line, is_open, joined, without_last}
 use Rattle.properties_format.specs.Edited.{is_editable}
 use Rattle.properties_format.specs.Body.{HeldLine, as_lines, ending_bytes, group_bytes}
 use Rattle.properties_format.specs.Computed.Cut.{decoded_line}
@@ -15,7 +15,8 @@ use Rattle.properties_format.specs.Computed.Body.{held_groups_after}
 use Rattle.properties_format.specs.Computed.Valued.{without_indent, added_by, head_of, head_size, front_in}
 use Rattle.properties_format.proofs.Body.Groups.{groups-close, groups-leave}
 use Rattle.properties_format.proofs.Groups.Joined.{joined-comment_line}
-use Rattle.properties_format.proofs.Valued.Fronts.{indented, indent-full, indent-none, indent-only, AreDecoded, joined_by, joined-by, front-here, front-later}
+use Rattle.properties_format.proofs.Groups.Open.{open-ends}
+use Rattle.properties_format.proofs.Valued.Fronts.{indented, indent-full, indent-none, indent-only, open-indent, AreDecoded, joined_by, joined-by, front-here, front-later}
 use Rattle.properties_format.proofs.Valued.Heads.{head_of-meets}
 use Rattle.properties_editing.specs.Private.BodyCuts.{Cut, IsCutOf, added_lines, adds, cut_at, cut_size, indent_size, is_first_after, past}
 use Rattle.properties_editing.proofs.BodyCuts.{added-part, cut-here, cut-past, head-inside}
@@ -70,6 +71,7 @@ meets-here e first n h hs ok d l =
       up_to = sym (indent-front first x q r rest);
       some = λ n k. n (sym (indent-front first x q r rest) ∙ k);
       later = λ n. absurd (n refl);
+      within = let added = ap length (indent-front first x q r rest) in omega arith;
       number = ap (λ c. let w : Cut = c in w.line) (cut-here e first n h hs l);
       kept_size = ap (λ c. let w : Cut = c in w.before) (cut-here e first n h hs l);
       head_size = ap (λ c. let w : Cut = c in w.head) (cut-here e first n h hs l) ∙ ap (λ m. length (head_of e m h.bytes)) same;
@@ -102,6 +104,7 @@ meets-past e first h hs before cut some m =
           ∙ sym (append_assoc (adds first h.text) (added_lines false m.kept) (without_indent false m.head_text));
       some = λ n. added;
       later = λ n. added;
+      within = subst (λ b. length (without_indent b m.head_text) ≤ length (adds b m.line.text)) (later m.kept) m.within;
       number = omega arith;
       kept_size = omega arith;
       head_size = m.head_size;
@@ -165,6 +168,60 @@ group-alone (i ∷ p) (h ∷ hs) g gs n k = elim (cases_Bool (closes (as_lines (
   | inl t ↦ let q = groups-close (i ∷ p) h hs t in subst IsAlone {x = i ∷ p ++ h ∷ []} (cc) (λ c. absurd (cc))
   | inr t ↦ group-alone (i ∷ p ++ h ∷ []) hs g gs n (sym (groups-leave (i ∷ p) h hs t) ∙ k)
 ]
+
+-- each line but the last is open
+abbrev pub AreJoined : List HeldLine → Type 0
+AreJoined [] = Unit {0}
+AreJoined (h ∷ []) = Unit {0}
+AreJoined (h ∷ i ∷ is) = (is_open h.text ≡ true) × AreJoined (i ∷ is)
+
+-- open lines are such, and so are they with any line after them
+open-joined : (p : List HeldLine) → AreOpen (as_lines p) → AreJoined p
+open-joined [] o = tt
+open-joined (h ∷ []) o = tt
+open-joined (h ∷ i ∷ p) o = (o.0, open-joined (i ∷ p) o.1)
+
+push-joined : (p : List HeldLine) (h : HeldLine) → AreOpen (as_lines p) → AreJoined (p ++ h ∷ [])
+push-joined [] h o = tt
+push-joined (i ∷ []) h o = (o.0, tt)
+push-joined (i ∷ j ∷ p) h o = (o.0, push-joined (j ∷ p) h o.1)
+
+push-open : (p : List HeldLine) (h : HeldLine) → AreOpen (as_lines p) → is_open h.text ≡ true → AreOpen (as_lines (p ++ h ∷ []))
+push-open [] h o k = (k, tt)
+push-open (i ∷ p) h o k = (o.0, push-open p h o.1 k)
+
+pub group-joined : (p hs g : List HeldLine) (gs : List (List HeldLine)) → AreOpen (as_lines p) → held_groups_after p hs ≡ g ∷ gs → AreJoined g
+group-joined [] [] g gs o k = absurd (cc)
+group-joined (h ∷ p) [] g gs o k = subst AreJoined {x = h ∷ p} (cc) (open-joined (h ∷ p) o)
+group-joined p (h ∷ hs) g gs o k = elim (cases_Bool (closes (as_lines p) (record { number = 0; text = h.text }))) [
+  | inl t ↦ let q = groups-close p h hs t in subst AreJoined {x = p ++ h ∷ []} (cc) (push-joined p h o)
+  | inr t ↦ group-joined (p ++ h ∷ []) hs g gs (push-open p h o (opened p t)) (sym (groups-leave p h hs t) ∙ k)
+]
+  where
+    opened : (p : List HeldLine) → closes (as_lines p) (record { number = 0; text = h.text }) ≡ false → is_open h.text ≡ true
+    opened [] t = last (is_comment_line h.text) (is_open h.text) t
+      where
+        last : (a b : Bool) → (a || not b) ≡ false → b ≡ true
+        last a b t = grind (arith)
+    opened (i ∷ p) t = grind (arith)
+
+-- A line is open if others follow it.
+pub joined-open : (kept more : List HeldLine) (line : HeldLine) → AreJoined (kept ++ line ∷ more) → more ≢ [] → is_open line.text ≡ true
+joined-open [] [] line j some = absurd (some refl)
+joined-open [] (m ∷ more) line j some = j.0
+joined-open (h ∷ []) more line j some = joined-open [] more line j.1 some
+joined-open (h ∷ i ∷ kept) more line j some = joined-open (i ∷ kept) more line j.1 some
+
+-- An open line that isn't a comment adds less than it has.
+pub open-adds : (first : Bool) (x : List ℕ) → is_open x ≡ true → (first && is_comment_line x) ≡ false
+    → length (adds first x) < length (without_indent first x)
+open-adds first x o n =
+    let y = without_indent first x in
+    let opened : is_open y ≡ true = open-indent first x ∙ o in
+    let add : adds first x ≡ without_last y = rw (n, opened) refl in
+    let same = ap length add in
+    let size : length y ≡ length (without_last y) + 1 = ap length (open-ends y opened) ∙ length-append (without_last y) (backslash ∷ []) in
+    omega arith
 
 later-added : (hs : List HeldLine) → added_lines false hs ≡ joined_by false hs
 later-added [] = refl

@@ -1,12 +1,13 @@
 -- What a view shows of its walk.
-use Rattle.std.proofs.Common.{◌≡◌, ◌≤◌, ℕ, ◌+◌, true, false, List, [], ◌∷◌, ◌++◌, length, take, drop, refl, inl, inr, ap, ap₂, sym, ◌∙◌, subst, arith, append-nil, append_assoc, length-append}
-use Rattle.std.specs.Prelude.{Option, Some, None}
+use Rattle.std.proofs.Common.{◌≡◌, ◌≢◌, ◌≤◌, ℕ, ◌+◌, true, false, List, [], ◌∷◌, ◌++◌, length, take, drop, refl, inl, inr, ap, ap₂, sym, ◌∙◌, subst, arith, append-nil, append_assoc, length-append}
+use Rattle.std.specs.Prelude.{Option, Some, None, ◌&&◌}
 use Rattle.std.proofs.Math.Seq.{take-append_seam}
 use Rattle.std.proofs.lemmas.Bool.{cases_Bool}
 use Rattle.std.specs.Str.{chars}
 use Rattle.properties_format.specs.Text.{backslash, is_empty, without_leading_blanks, is_blank}
 use Rattle.properties_format.specs.Encoding.{Encoding, windows_1252, utf_8, utf_16le, utf_16be}
 use Rattle.properties_format.specs.Edited.{is_editable}
+use Rattle.properties_format.specs.Lines.{is_comment_line}
 use Rattle.properties_format.specs.Escapes as format
 use Rattle.properties_format.specs.Escapes.{Spelling, letter_u, spelling_text, spellings_before}
 use Rattle.properties_format.specs.Split as split
@@ -32,7 +33,7 @@ use Rattle.properties_items.specs.Errors.{malformed_kind}
 use Rattle.properties_items.specs.declared.error.ErrorKind.{ErrorKind}
 use Rattle.properties_editing.specs.Views.{ArePlaces, AreTexts, EndsAt, IsCutBehind, IsFlaw, IsRawKey, IsRawValue, IsTextIn, IsViewOf, OpenView, TakesNext, TellsFlaw, TellsIllFormed, end_of, joined_with, kind_of, line_of, past, places_at, size_before, with_bytes}
 use Rattle.properties_editing.specs.Views as public
-use Rattle.properties_editing.specs.Private.BodyCuts.{added_lines, cut_size, is_first_after}
+use Rattle.properties_editing.specs.Private.BodyCuts.{added_lines, adds, cut_size, is_first_after}
 use Rattle.properties_editing.specs.Private.BodyViews as walked
 use Rattle.properties_editing.specs.Private.BodyViews.{IsViewed, IsWalkOf, KeepsWalk, TakesWalk, counts_by, cut_in, groups_to_come, lines_of, place_in, places_by, places_in, text_in}
 use Rattle.properties_editing.specs.Private.OpenViews.{HasGroup, IsView, open_view}
@@ -41,7 +42,7 @@ use Rattle.properties_editing.specs.declared.walk.FoundFlaw.{FoundFlaw}
 use Rattle.properties_editing.specs.declared.walk.WalkedGroup.{WalkedGroup}
 use Rattle.properties_editing.specs.declared.walk.Walk.{Walk}
 use Rattle.properties_editing.proofs.BodyViews.{left-before, no-bytes, view-ordered, viewed-editable, viewed-meets, viewed-text}
-use Rattle.properties_editing.proofs.CutMeanings.{IsAlone, group-added}
+use Rattle.properties_editing.proofs.CutMeanings.{AreJoined, IsAlone, group-added, joined-open, open-adds}
 use Rattle.properties_editing.proofs.CutOrder.{comment-counts, pair-counts}
 
 -- ---- a view that is opened
@@ -68,6 +69,7 @@ opens-view {requested} {source} {walk} w =
       record {
         source_is = w.source_is;
         in_force = w.in_force;
+        within = subst (λ s. walk.reader.scanner.at ≤ length s) w.source_is w.opened.within_body.fits.within;
         editable = w.editable;
         none_given = refl;
         none_passed = w.none_passed;
@@ -231,6 +233,21 @@ joined-kept [] more line head alone = refl
 joined-kept (h ∷ hs) more line head alone =
     ap (λ v. v ++ without_leading_blanks head) (sym (group-added h hs (λ c. absurd (no-line hs more line (alone c)))))
 
+-- The tail of a line that others follow isn't empty.
+tail-some : (kept more : List HeldLine) (line : HeldLine) (head tail : List ℕ) → IsAlone (kept ++ line ∷ more) → AreJoined (kept ++ line ∷ more)
+    → line.text ≡ head ++ tail → length (without_indent (is_first_after true kept) head) ≤ length (adds (is_first_after true kept) line.text)
+    → more ≢ [] → tail ≢ []
+tail-some kept more line head tail alone joined text within some none =
+    let first = is_first_after true kept in
+    let same : line.text ≡ head = text ∙ ap (λ t. head ++ t) none ∙ append-nil head in
+    let size : length (without_indent first line.text) ≡ length (without_indent first head) = ap (λ t. length (without_indent first t)) same in
+    let less = open-adds first line.text (joined-open kept more line joined some) (no-comment kept alone) in
+    omega arith
+  where
+    no-comment : (kept : List HeldLine) → IsAlone (kept ++ line ∷ more) → (is_first_after true kept && is_comment_line line.text) ≡ false
+    no-comment [] alone = elim (cases_Bool (is_comment_line line.text)) [ inl k ↦ absurd (some (alone k)) | inr k ↦ k ]
+    no-comment (h ∷ hs) alone = refl
+
 -- A computed cut, as callers see it.
 record IsSeen (walk : Walk) (n : ℕ) (text : List ℕ) : Type 0 where
   cut : IsCutBehind (encoding_of walk.before.encoding) (lines_of walk) text
@@ -245,7 +262,9 @@ cut-seen {walk} {group} n text rest v whole count =
     let sizes : length (text_in walk) ≡ length text + length rest = ap length whole ∙ length-append text rest in
     let m = viewed-meets n v (omega arith) in
     let b = left-before v in
-    let alone = subst IsAlone (sym b.viewed ∙ m.division) b.alone in
+    let division = sym b.viewed ∙ m.division in
+    let alone = subst IsAlone division b.alone in
+    let joined = subst AreJoined division b.joined in
     let front : take n (text_in walk) ≡ text = ap₂ take count whole ∙ take-append_seam text rest in
     let kept_size = m.kept_size in
     let head_size = m.head_size in
@@ -265,6 +284,7 @@ cut-seen {walk} {group} n text rest v whole count =
         is_tail = (pieces_of e m.tail, pieces_of-meets e m.tail, sym m.is_tail);
         text_is = sym front ∙ m.up_to ∙ joined-kept m.kept m.more m.line m.head_text alone;
         not_blank = m.later;
+        before_join = tail-some m.kept m.more m.line m.head_text m.tail_text alone joined m.cut_text m.within;
       };
       size = omega arith;
       number = m.number;

@@ -47,6 +47,7 @@ pub record AreGiven (e : Encoding) (body : List ℕ) (groups : List (List HeldLi
 pub record IsViewOf (requested : Encoding) (source : List ℕ) (v : OpenView) : Type 0 where
   pub source_is : v.source ≡ source
   pub in_force : byte_order_mark requested source ≡ record { encoding = v.encoding; body = drop v.start source }
+  pub within : v.start ≤ length source
   pub editable : is_editable v.encoding ≡ true
   pub none_given : v.group ≡ []
   pub none_passed : v.passed ≡ 0
@@ -125,7 +126,8 @@ joined_with [] head = head
 joined_with (h ∷ hs) head = joined (as_lines (h ∷ hs)) ++ without_leading_blanks head
 
 -- A group is cut behind this text of its logical line: into whole lines, a line that is cut into a head and a tail, and
--- others. The head of a later line isn't blank, so the cut is where the text ends first.
+-- others. The head of a later line isn't blank, so the cut is where the text ends first. If others follow, the tail has
+-- the backslash that joins them, which no text has, though a later line may begin with another.
 pub record IsCutBehind (e : Encoding) (group : List HeldLine) (text : List ℕ) : Type 0 where
   pub kept : List HeldLine
   pub line : HeldLine
@@ -141,6 +143,7 @@ pub record IsCutBehind (e : Encoding) (group : List HeldLine) (text : List ℕ) 
   pub is_tail : IsDecodedLine e tail tail_text
   pub text_is : text ≡ joined_with kept head_text
   pub not_blank : kept ≢ [] → without_leading_blanks head_text ≢ []
+  pub before_join : more ≢ [] → tail_text ≢ []
 
 -- the bytes of the group before the cut
 abbrev pub size_before : {e : Encoding} {group : List HeldLine} {text : List ℕ} → IsCutBehind e group text → ℕ

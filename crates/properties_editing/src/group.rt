@@ -34,8 +34,8 @@ pub struct ViewedGroup {
 }
 
 /// Where the parts of a group begin and end, in bytes from the source's first byte. The places don't descend. Each but
-/// the first is the end of what comes before it: a backslash, a line ending and blanks that join two lines belong to
-/// the part that follows them.
+/// the last is the end of the text before it: a backslash, a line ending and blanks that join two lines belong to the
+/// part that follows them. The value of a pair ends where its group's last line ends, behind a last backslash too.
 ///
 /// [`View::places`](crate::View::places) finds them.
 #[derive(Debug, Clone, Copy, PartialEq, Eq)]

@@ -17,8 +17,9 @@ use std::marker::Model;
 /// shows where something is, such as a linter or an editor that colours a file.
 ///
 /// Nothing is refused but UTF-16: [`flaw`](View::flaw) says which escape is malformed, and
-/// [`ill_formed`](View::ill_formed) which line isn't UTF-8. The calls that take no group speak of the one that `next`
-/// returned last; before the first group, and after a `next` that returned none, of an empty group.
+/// [`ill_formed_line`](View::ill_formed_line) which line isn't UTF-8. `line`, `raw_key`, `raw_value`, `places`, `flaw`
+/// and `ill_formed_line` speak of the group that `next` returned last; before the first one, and after a `next` that
+/// returned none or failed, of an empty group.
 ///
 /// ```text
 /// let mut view = View::open(alloc, b"# doors\nfront = 80\n", Encoding::UTF_8)?;
@@ -218,17 +219,17 @@ impl<'a> View<'a> {
     /// ```text
     /// let mut view = View::open(alloc, b"a = \\\n  \xff", Encoding::UTF_8)?;
     /// view.next()?;
-    /// assert!(rt; view.ill_formed()? == Some(2));
+    /// assert!(rt; view.ill_formed_line()? == Some(2));
     /// ```
     ///
     /// Fails only if memory runs out.
-    pub fn ill_formed(&self) -> Result<Option<usize>, AllocError>
+    pub fn ill_formed_line(&self) -> Result<Option<usize>, AllocError>
         ensures { IfOk result (λ number. TellsIllFormed self.now number) }
     {
         let Some(group) = self.group else {
             return Ok(None);
         };
-        let number = self.walk.ill_formed(group)?;
+        let number = self.walk.ill_formed_line(group)?;
         Ok(number)
     }
 }

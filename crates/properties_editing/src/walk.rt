@@ -158,7 +158,7 @@ impl<'a> Walk<'a> {
 
     /// Returns the number of the first natural line of the group that was returned last whose bytes aren't text of the
     /// encoding, if there is one.
-    pub fn ill_formed(&self, group: WalkedGroup) -> Result<Option<usize>, AllocError>
+    pub fn ill_formed_line(&self, group: WalkedGroup) -> Result<Option<usize>, AllocError>
         requires { IsViewed self.now group }
         ensures { IfOk result (λ number. TellsIllFormed self.now number) }
     {

@@ -74,7 +74,7 @@ fn group_text(alloc: Global, view: &View<'_>, group: ViewedGroup) -> Result<Stri
         )?;
         text.push_str(told.as_str())?;
     }
-    if let Some(number) = view.ill_formed()? {
+    if let Some(number) = view.ill_formed_line()? {
         text.push_str(format!(in alloc; " ill-formed {number}")?.as_str())?;
     }
     Ok(text)

@@ -1,5 +1,5 @@
 -- Where a cut of a group's logical line is among the bytes of the group.
-use Rattle.std.specs.Prelude.{◌≡◌, ◌≢◌, ◌++◌, ℕ, suc, ◌+◌, ◌-◌, ◌&&◌, nat_le, Bool, true, false, if◌then◌else◌, List, [], ◌∷◌, length}
+use Rattle.std.specs.Prelude.{◌≡◌, ◌≢◌, ◌≤◌, ◌++◌, ℕ, suc, ◌+◌, ◌-◌, ◌&&◌, nat_le, Bool, true, false, if◌then◌else◌, List, [], ◌∷◌, length}
 use Rattle.properties_format.specs.Encoding.{Encoding}
 use Rattle.properties_format.specs.Text.{without_leading_blanks}
 use Rattle.properties_format.specs.Lines.{is_comment_line}
@@ -53,7 +53,7 @@ is_first_after first (h ∷ hs) = false
 
 -- What a cut means. The lines are whole lines, one that is cut into a head and a tail, which are decoded each by
 -- itself, and others. What the whole lines add and the text of the head, without indentation if it is a later line's, are the
--- text before the cut. The head of a later line adds some of it.
+-- text before the cut. The head of a later line adds some of it, and no head more than its line.
 pub record IsCutOf (e : Encoding) (first : Bool) (lines : List HeldLine) (before : List ℕ) (cut : Cut) : Type 0 where
   pub kept : List HeldLine
   pub line : HeldLine
@@ -70,6 +70,7 @@ pub record IsCutOf (e : Encoding) (first : Bool) (lines : List HeldLine) (before
   pub up_to : before ≡ added_lines first kept ++ without_indent (is_first_after first kept) head_text
   pub some : before ≢ [] → without_indent (is_first_after first kept) head_text ≢ []
   pub later : kept ≢ [] → without_leading_blanks head_text ≢ []
+  pub within : length (without_indent (is_first_after first kept) head_text) ≤ length (adds (is_first_after first kept) line.text)
   pub number : cut.line ≡ length kept + 1
   pub kept_size : cut.before ≡ length (group_bytes kept)
   pub head_size : cut.head ≡ length head
