@@ -195,7 +195,7 @@ module _ {r : Repertoire} {read now : List ℕ} {named : List ℕ → Bool} {gs 
       (some-between before (group_of f bytes.items (last_ending k.group)) after)
       (stands-replaced f s.in_force.editable d named key gs old.parts s.turn s.stand place k bytes value new h t)
       (ap empty_front set ∙ front-set items place (with_bytes bytes (get_or items place no_part)) no_part own-within full-part refl ∙ sym s.empty)
-      (bounds-set d old.bounds place bytes items new.parts.items set s.bounds)
+      (bounds-set d old.bounds place bytes items new.parts.items full-part set s.bounds)
 
 -- ---- a printed pair
 

@@ -1,5 +1,6 @@
 -- The last pair and the last line ending of parts: among the groups that the parts stand for, and by themselves.
-use Rattle.std.proofs.Common.{◌≡◌, List, [], ◌∷◌, Option, Some, None, drop, ap, sym, ◌∙◌, subst, inl, inr, ℕ, Bool, true, ap₂, false, refl, ◌++◌}
+use Rattle.std.proofs.Common.{◌≡◌, List, [], ◌∷◌, Option, Some, None, drop, ap, sym, ◌∙◌, subst, inl, inr, ℕ, zero, suc, Bool, true, ap₂, false, refl, ◌++◌}
+use Rattle.std.specs.Prelude.{get_or}
 use Rattle.std.specs.Option.{option_or, option_map, is_some}
 use Rattle.properties_format.specs.Encoding.{Encoding, Repertoire}
 use Rattle.properties_format.specs.Body.{HeldLine, as_lines, ending_bytes, held_in, last_ending}
@@ -7,11 +8,12 @@ use Rattle.properties_format.specs.Edited.{is_editable}
 use Rattle.properties_format.proofs.Valued.Unended.{without_ending, unended-joined}
 use Rattle.properties_text.specs.Encoding.{encoding_of}
 use Rattle.properties_items.specs.BorrowedItems.{outcome_pair}
-use Rattle.properties_editing.specs.Private.BodyParts.{outcome, last_pair_bytes, pair_bytes_of, ArePartsOf, IsEnd, IsPartOf, Piece, Said, StandFor, group_said, names_said, pieces_groups}
+use Rattle.properties_editing.specs.Private.BodyParts.{outcome, is_empty_part, no_part, last_pair_bytes, pair_bytes_of, ArePartsOf, IsEnd, IsPartOf, Piece, Said, StandFor, group_said, names_said, pieces_groups}
 use Rattle.properties_editing.specs.Private.EditedParts.{IsPairIn, StandForSource, between_last}
-use Rattle.properties_editing.specs.Private.PartEndings.{ArePartsWithin, last_some, part_pair, IsPartWithin, kind_pair, last_of}
+use Rattle.properties_editing.specs.Private.PartBounds.{AreEmpty}
+use Rattle.properties_editing.specs.Private.PartEndings.{ArePartsWithin, HaveNoBytes, last_some, part_cr_end, part_pair, IsPartWithin, kind_pair, last_of}
 use Rattle.properties_editing.specs.declared.parts.source_parts.SourceParts.{SourceParts}
-use Rattle.properties_editing.proofs.PartsRemoved.{IsTail, tail-next, lf-no_pair, tail-back}
+use Rattle.properties_editing.proofs.PartsRemoved.{IsTail, empty-none, tail-next, lf-no_pair, tail-back}
 use Rattle.properties_editing.proofs.ValuedParts.{alone-groups}
 use Rattle.properties_format.specs.Computed.Body.{unended_bytes, held_groups_of}
 use Rattle.properties_format.proofs.InTurn.Merged.{AreInTurn, after-lf, are_one_ending, merged, merged-one, merged-two, one-ending, turn-first}
@@ -93,6 +95,20 @@ stand-last e d named gs p turn s =
     of-line (l ∷ m ∷ ls) k t = absurd k
 
 -- ---- the last line ending
+
+-- Empty parts have no bytes.
+no-bytes : (d : List ℕ) (named : List ℕ → Bool) (ps : List Part) (qs : List Piece) → ArePartsOf d named ps qs → (i : ℕ)
+    → is_empty_part (get_or ps i no_part) ≡ true → part_cr_end d (get_or ps i no_part) ≡ None
+no-bytes d named [] qs k i e = refl
+no-bytes d named (p ∷ ps) [] k i e = absurd k
+no-bytes d named (p ∷ ps) (q ∷ qs) k (suc i) e = no-bytes d named ps qs k.1 i e
+no-bytes d named (p ∷ ps) (q ∷ qs) k zero e =
+    let none = subst (IsPartOf d named p) (empty-none d named p q k.0 e) k.0 in rw (none.bytes, none.ending) refl
+
+pub source-empty : {r : Repertoire} {read now : List ℕ} {named : List ℕ → Bool} {gs : List (List HeldLine)} {p : SourceParts} (n end : ℕ)
+    → StandForSource r read now named gs p → AreEmpty n end p.parts.parts.items → HaveNoBytes (drop p.opened.start read) n end p.parts.parts.items
+source-empty {read = read} {named = named} {p = p} n end s h =
+    λ i from before. no-bytes (drop p.opened.start read) named p.parts.parts.items s.stand.pieces s.stand.are_parts i (h i from before)
 
 -- The last line ending of bytes is that of their groups, or an LF.
 pub last-among : (e : Encoding) (body : List ℕ) (by : declared.LineEnding) → is_editable e ≡ true → IsLastEnding body by

@@ -1,8 +1,9 @@
 -- What bounds say of parts stays after edits.
-use Rattle.std.proofs.Common.{◌≡◌, ◌<◌, ◌≤◌, ◌-◌, ℕ, zero, suc, Bool, true, false, List, [], ◌∷◌, ◌++◌, Option, Some, None, take, drop, length, length-append, refl, ap, sym, ◌∙◌, subst, inl, inr, arith}
+use Rattle.std.proofs.Common.{◌≡◌, ◌<◌, ◌≤◌, ◌-◌, ◌+◌, ℕ, zero, suc, Bool, true, false, List, [], ◌∷◌, ◌++◌, Option, Some, None, take, drop, length, length-append, refl, ap, sym, ◌∙◌, subst, inl, inr, arith}
 use Rattle.std.specs.Prelude.{get_or, min}
 use Rattle.std.specs.Global.{Vec}
 use Rattle.std.proofs.Math.Nat.{eq-or-lt_of_le}
+use Rattle.std.proofs.Math.Seq.{take-length}
 use Rattle.std.proofs.lemmas.Bool.{cases_Bool, cases_lt}
 use Rattle.std.proofs.lemmas.List.{get_or_append_left, get_or_default, get_or_past}
 use Rattle.properties_items.specs.declared.line.LineEnding as declared
@@ -15,10 +16,11 @@ use Rattle.properties_editing.specs.declared.parts.Part.{Part}
 use Rattle.properties_editing.specs.declared.parts.Parts.{Parts}
 use Rattle.properties_editing.specs.Private.BodyParts.{is_empty_part, no_part, parts_behind, taken_all, taken_out, without_lf, without_lf_first}
 use Rattle.properties_editing.specs.Private.ChangedParts.{ClosesLast, ClosesPart, HasAdded, closed_as, with_bytes, with_last}
-use Rattle.properties_editing.specs.Private.PartBounds.{AreBounds, ArePlainFrom, HasNoPair, HaveNoPair, IsPlain}
-use Rattle.properties_editing.specs.Private.PartEndings.{last_some, part_pair}
+use Rattle.properties_editing.specs.Private.PartBounds.{AreBounds, AreEmpty, ArePlainFrom, HasNoPair, HaveNoPair, IsPlain}
+use Rattle.properties_editing.specs.Private.PartEndings.{kind_pair, last_some, part_pair}
 use Rattle.properties_editing.specs.Private.RemovedParts.{RemovesPairs, before_end, key_places, without_empty_end}
 use Rattle.properties_editing.specs.Private.SourceParts.{empty_front}
+use Rattle.properties_editing.proofs.PartEndings.{last-passed}
 use Rattle.properties_editing.proofs.PartsLeft.{plus-one}
 
 -- ---- pairs that went
@@ -113,6 +115,28 @@ pub none-removed : (d key : List ℕ) (n end : ℕ) (old new : Parts) (told : Bo
     → HaveNoPair n end old.parts.items → HaveNoPair n end new.parts.items
 none-removed d key n end old new told r h = λ i from before. (leaves-removed d key old new told r i).none (h i from before)
 
+pub empty_taken : (d : List ℕ) (n end i : ℕ) (ps : List Part) → AreEmpty n end ps → AreEmpty n end (taken_out d i ps)
+empty_taken d n end i ps h = λ k from before. (leaves-taken d i ps k).empty (h k from before)
+
+-- The part that went is empty too.
+pub empty_from : (d : List ℕ) (i end : ℕ) (ps : List Part) → i < length ps → AreEmpty (i + 1) end ps → AreEmpty i end (taken_out d i ps)
+empty_from d i end ps inside h = λ k from before. elim (eq-or-lt_of_le from) [
+  | inl at ↦ subst (λ n. is_empty_part (get_or (taken_out d i ps) n no_part) ≡ true) at (ap is_empty_part (at-gone i ps _ inside))
+  | inr behind ↦ empty_taken d (i + 1) end i ps h k (omega arith) before
+]
+  where
+    at-gone : (i : ℕ) (ps qs : List Part) → i < length ps → get_or (take i ps ++ no_part ∷ qs) i no_part ≡ no_part
+    at-gone i [] qs k = absurd (omega arith)
+    at-gone zero (p ∷ ps) qs k = refl
+    at-gone (suc i) (p ∷ ps) qs k = at-gone i ps qs (omega arith)
+
+pub empty-trimmed : (d : List ℕ) (n end : ℕ) (ps : List Part) → AreEmpty n end ps → AreEmpty n end (without_empty_end ps)
+empty-trimmed d n end ps h = λ i from before. (leaves-trimmed d ps i).empty (h i from before)
+
+pub empty-removed : (d key : List ℕ) (n end : ℕ) (old new : Parts) (told : Bool) → RemovesPairs d key old told new
+    → AreEmpty n end old.parts.items → AreEmpty n end new.parts.items
+empty-removed d key n end old new told r h = λ i from before. (leaves-removed d key old new told r i).empty (h i from before)
+
 -- Parts at the front that were empty still are.
 front-left : (d : List ℕ) (ps qs : List Part) → LeavesAll d ps qs → min (empty_front ps) (length qs) ≤ empty_front qs
 front-left d [] qs k = omega arith
@@ -136,6 +160,10 @@ record Keeps (d : List ℕ) (p q : Part) : Type 0 where
 abbrev KeepAll : List ℕ → List Part → List Part → Type 0
 KeepAll d ps qs = (i : ℕ) → Keeps d (get_or ps i no_part) (get_or qs i no_part)
 
+-- Where parts were empty, but for the last one, these are.
+abbrev KeepEmpty : List Part → List Part → Type 0
+KeepEmpty ps qs = (i : ℕ) → suc i < length ps → is_empty_part (get_or ps i no_part) ≡ true → is_empty_part (get_or qs i no_part) ≡ true
+
 kept : (d : List ℕ) (p : Part) → Keeps d p p
 kept d p = record { plain = λ h. h; none = λ h. h }
 
@@ -144,27 +172,40 @@ keep-set d bytes j ps =
     around (Keeps d) (kept d) j ps (with_bytes bytes (get_or ps j no_part)) (drop (suc j) ps) (record { plain = λ h. refl; none = λ h. h })
     (λ i. kept d (get_or (drop (suc j) ps) i no_part))
 
+-- If the part wasn't empty, those that are still are.
+empty-set : (bytes : Vec ℕ) (j : ℕ) (ps : List Part) → is_empty_part (get_or ps j no_part) ≡ false
+    → KeepEmpty ps (take j ps ++ with_bytes bytes (get_or ps j no_part) ∷ drop (suc j) ps)
+empty-set bytes j ps full i inside =
+    around (λ p q. is_empty_part p ≡ true → is_empty_part q ≡ true) (λ p h. h) j ps (with_bytes bytes (get_or ps j no_part)) (drop (suc j) ps)
+    (λ h. absurd (cc)) (λ i h. h) i
+
 set-length : (j : ℕ) (q : Part) (ps : List Part) → length ps ≤ length (take j ps ++ q ∷ drop (suc j) ps)
 set-length j q [] = omega arith
 set-length zero q (p ∷ ps) = omega arith
 set-length (suc j) q (p ∷ ps) = let m = set-length j q ps in omega arith
 
 -- Bounds of parts are bounds of these.
-bounds-kept : (d : List ℕ) (b : Bounds) (ps qs : List Part) → KeepAll d ps qs → length ps ≤ length qs → AreBounds d b ps → AreBounds d b qs
-bounds-kept d b ps qs k more h = (
-  λ i from. (k i).plain (h.0 i from),
-  record {
-    none = λ i from before. (k i).none (h.1.none i from before);
-    ordered = h.1.ordered;
-    within = (let w = h.1.within in omega arith);
-  },
-)
+bounds-kept : (d : List ℕ) (b : Bounds) (ps qs : List Part) → KeepAll d ps qs → KeepEmpty ps qs → length ps ≤ length qs → AreBounds d b ps
+    → AreBounds d b qs
+bounds-kept d b ps qs k e more h =
+    let w = h.1.within in
+    let v = h.1.gone_within in (
+      λ i from. (k i).plain (h.0 i from),
+      record {
+        none = λ i from before. (k i).none (h.1.none i from before);
+        ordered = h.1.ordered;
+        within = omega arith;
+        empty = λ i from before. e i (omega arith) (h.1.empty i from before);
+        gone = λ i from before. e i (omega arith) (h.1.gone i from before);
+        gone_within = omega arith;
+      },
+    )
 
-pub bounds-set : (d : List ℕ) (b : Bounds) (place : ℕ) (bytes : Vec ℕ) (ps qs : List Part)
+pub bounds-set : (d : List ℕ) (b : Bounds) (place : ℕ) (bytes : Vec ℕ) (ps qs : List Part) → is_empty_part (get_or ps place no_part) ≡ false
     → qs ≡ take place ps ++ with_bytes bytes (get_or ps place no_part) ∷ drop (suc place) ps → AreBounds d b ps → AreBounds d b qs
-bounds-set d b place bytes ps qs is h =
+bounds-set d b place bytes ps qs full is h =
     let p = with_bytes bytes (get_or ps place no_part) in
-    subst (AreBounds d b) (sym is) (bounds-kept d b ps _ (keep-set d bytes place ps) (set-length place p ps) h)
+    subst (AreBounds d b) (sym is) (bounds-kept d b ps _ (keep-set d bytes place ps) (empty-set bytes place ps full) (set-length place p ps) h)
 
 -- ---- a part that is added
 
@@ -176,6 +217,12 @@ keep-last d p (q ∷ r ∷ qs) k zero = kept d q
 keep-last d p (q ∷ r ∷ qs) k (suc i) =
     let n : length (q ∷ r ∷ qs) - 1 ≡ suc (length (r ∷ qs) - 1) = omega arith in
     keep-last d p (r ∷ qs) (subst (λ n. Keeps d (get_or (q ∷ r ∷ qs) n no_part) p) n k) i
+
+empty-last : (p : Part) (ps : List Part) → KeepEmpty ps (with_last (Some p) ps)
+empty-last p [] i inside h = absurd (omega arith)
+empty-last p (q ∷ []) i inside h = absurd (omega arith)
+empty-last p (q ∷ r ∷ qs) zero inside h = h
+empty-last p (q ∷ r ∷ qs) (suc i) inside h = empty-last p (r ∷ qs) i (omega arith) h
 
 last-length : (p : Part) (ps : List Part) → length (with_last (Some p) ps) ≡ length ps
 last-length p [] = refl
@@ -193,7 +240,7 @@ bounds-closed : (d : List ℕ) (b : Bounds) (by : declared.LineEnding) (closing 
     → AreBounds d b (with_last closed ps)
 bounds-closed d b by closing ps None c h = h
 bounds-closed d b by closing ps (Some p) c h =
-    bounds-kept d b ps (with_last (Some p) ps) (keep-last d p ps (keep-closed d _ by _ p c.2)) (let m = last-length p ps in omega arith) h
+    bounds-kept d b ps (with_last (Some p) ps) (keep-last d p ps (keep-closed d _ by _ p c.2)) (empty-last p ps) (let m = last-length p ps in omega arith) h
 
 at-push : (d : List ℕ) (q : Part) → IsPlain d q → (ps : List Part) (i : ℕ) → IsPlain d (get_or ps i no_part) → IsPlain d (get_or (ps ++ q ∷ []) i no_part)
 at-push d q is [] zero h = is
@@ -210,8 +257,14 @@ bounds-push d b ps q is h = (
         subst HasNoPair (sym (get_or_append_left ps (q ∷ []) no_part i n)) (h.1.none i from before);
     ordered = h.1.ordered;
     within = (let w = h.1.within in let m = length-append ps (q ∷ []) in omega arith);
+    empty = λ i from before. still i (let w = h.1.within in omega arith) (h.1.empty i from before);
+    gone = λ i from before. still i (let w = h.1.gone_within in omega arith) (h.1.gone i from before);
+    gone_within = (let w = h.1.gone_within in let m = length-append ps (q ∷ []) in omega arith);
   },
 )
+  where
+    still : (i : ℕ) → i < length ps → is_empty_part (get_or ps i no_part) ≡ true → is_empty_part (get_or (ps ++ q ∷ []) i no_part) ≡ true
+    still i n e = ap is_empty_part (get_or_append_left ps (q ∷ []) no_part i n) ∙ e
 
 pub bounds-added : (d key value : List ℕ) (b : Bounds) (by ending : declared.LineEnding) (bytes : Vec ℕ) (old new : Parts)
     → HasAdded d key value by bytes ending old new → AreBounds d b old.parts.items → AreBounds d b new.parts.items
@@ -236,18 +289,27 @@ plain-rest d n zero (p ∷ ps) h k = elim (cases_Bool (is_empty_part p)) [
 ]
 
 -- Where none has a pair, the last pair is in front.
-pub none-behind : (d : List ℕ) (n : ℕ) (ps : List Part) → HaveNoPair n (length ps) ps → last_some (part_pair d) ps ≡ last_some (part_pair d) (take n ps)
-none-behind d n [] h = nil n
+pub none-behind : (d : List ℕ) (n : ℕ) (ps : List Part) → n ≤ length ps → HaveNoPair n (length ps) ps
+    → last_some (part_pair d) ps ≡ last_some (part_pair d) (take n ps)
+none-behind d n ps within h =
+    sym (last-passed (part_pair d) n (length ps) ps within (λ i from before. ap (kind_pair d (get_or ps i no_part)) (h i from before))
+    ∙ ap (last_some (part_pair d)) (take-length ps))
+
+-- Empty parts are passed over.
+pub empty_passed : (d : List ℕ) (n m : ℕ) (ps : List Part) → n ≤ m → AreEmpty n m ps
+    → take n ps ++ without_lf_first d (drop n ps) ≡ take m ps ++ without_lf_first d (drop m ps)
+empty_passed d n m [] k h = nil n ∙ sym (nil m)
   where
-    nil : (n : ℕ) → None ≡ last_some (part_pair d) (take n [])
+    nil : (n : ℕ) → take n [] ++ without_lf_first d (drop n []) ≡ []
     nil zero = refl
     nil (suc n) = refl
-none-behind d (suc n) (p ∷ ps) h =
-    let m = none-behind d n ps (λ i from before. h (suc i) (omega arith) (omega arith)) in rw m refl
-none-behind d zero (p ∷ ps) h =
-    let m = none-behind d zero ps (λ i from before. h (suc i) (omega arith) (omega arith)) in
-    let none = h zero (omega arith) (omega arith) in
-    rw (m, none) refl
+empty_passed d zero zero (p ∷ ps) k h = refl
+empty_passed d (suc n) zero (p ∷ ps) k h = absurd (omega arith)
+empty_passed d (suc n) (suc m) (p ∷ ps) k h =
+    ap (λ v. p ∷ v) (empty_passed d n m ps (omega arith) (λ i from before. h (suc i) (omega arith) (omega arith)))
+empty_passed d zero (suc m) (p ∷ ps) k h =
+    let e = h zero (omega arith) (omega arith) in
+    rw e (ap (λ v. p ∷ v) (empty_passed d zero m ps (omega arith) (λ i from before. h (suc i) (omega arith) (omega arith))))
 
 -- ---- bounds that are made narrower
 
@@ -266,9 +328,9 @@ plain-before d n ps p some within is one h = λ i from. elim (eq-or-lt_of_le fro
   | inr behind ↦ h i (omega arith)
 ]
 
-pub none-before : (n end : ℕ) (ps : List Part) (p : Part) → 0 < n → n ≤ length ps → p ≡ get_or ps (n - 1) p → HasNoPair p → HaveNoPair n end ps
-    → HaveNoPair (n - 1) end ps
-none-before n end ps p some within is one h = λ i from before. elim (eq-or-lt_of_le from) [
-  | inl at ↦ subst HasNoPair (is ∙ get_or_default ps (n - 1) p no_part (omega arith) ∙ ap (λ k. get_or ps k no_part) at) one
+pub all-before : (P : Part → Type 0) (n end : ℕ) (ps : List Part) (p : Part) → 0 < n → n ≤ length ps → p ≡ get_or ps (n - 1) p → P p
+    → ((i : ℕ) → n ≤ i → i < end → P (get_or ps i no_part)) → (i : ℕ) → n - 1 ≤ i → i < end → P (get_or ps i no_part)
+all-before P n end ps p some within is one h = λ i from before. elim (eq-or-lt_of_le from) [
+  | inl at ↦ subst P (is ∙ get_or_default ps (n - 1) p no_part (omega arith) ∙ ap (λ k. get_or ps k no_part) at) one
   | inr behind ↦ h i (omega arith) before
 ]

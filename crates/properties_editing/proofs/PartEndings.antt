@@ -10,9 +10,9 @@ use Rattle.properties_format.specs.Computed.Lines.{ends_in_cr}
 use Rattle.properties_format.proofs.Lines.Plain.{ends_in_cr-append, plain-append}
 use Rattle.properties_items.specs.Line.{ending_of}
 use Rattle.properties_items.specs.declared.line.LineEnding.TheVariants.{LF, CRLF}
-use Rattle.properties_editing.specs.Private.BodyParts.{part_bytes, parts_bytes}
+use Rattle.properties_editing.specs.Private.BodyParts.{no_part, part_bytes, parts_bytes}
 use Rattle.properties_editing.specs.Private.BodyValues.{IsLastEnding}
-use Rattle.properties_editing.specs.Private.PartEndings.{ArePartsWithin, IsEndingIn, IsPartWithin, cr_end, last_some, part_cr_end}
+use Rattle.properties_editing.specs.Private.PartEndings.{ArePartsWithin, HaveNoBytes, IsEndingIn, IsPartWithin, cr_end, last_some, part_cr_end}
 use Rattle.properties_editing.specs.declared.parts.Part.{Part}
 use Rattle.properties_editing.specs.declared.parts.endings.FoundEnding.{FoundEnding}
 use Rattle.properties_editing.proofs.LastPairs.{cr-last, last-by, last-none}
@@ -35,6 +35,23 @@ step-back f ps m p x some within is =
     ∙ ap (last_some f) (take-suc ps n p inside)
     ∙ last-push f (take n ps) (get_or ps n p)
     ∙ ap (λ o. option_or o (last_some f (take n ps))) is
+
+-- Those without it are passed over.
+pub last-passed : {X : Type 0} (f : Part → Option X) (n m : ℕ) (ps : List Part) → n ≤ m → ((i : ℕ) → n ≤ i → i < m → f (get_or ps i no_part) ≡ None)
+    → last_some f (take n ps) ≡ last_some f (take m ps)
+last-passed f n m [] k h = nil n ∙ sym (nil m)
+  where
+    nil : (n : ℕ) → last_some f (take n []) ≡ None
+    nil zero = refl
+    nil (suc n) = refl
+last-passed f zero zero (p ∷ ps) k h = refl
+last-passed f (suc n) zero (p ∷ ps) k h = absurd (omega arith)
+last-passed f (suc n) (suc m) (p ∷ ps) k h =
+    ap (λ o. option_or o (f p)) (last-passed f n m ps (omega arith) (λ i from before. h (suc i) (omega arith) (omega arith)))
+last-passed f zero (suc m) (p ∷ ps) k h =
+    let none = h zero (omega arith) (omega arith) in
+    let behind = last-passed f zero m ps (omega arith) (λ i from before. h (suc i) (omega arith) (omega arith)) in
+    sym (ap₂ option_or (sym behind) none)
 
 -- ---- what bytes end in
 
@@ -62,6 +79,12 @@ ends-found d ps b is = sym (ends-some (parts_bytes d ps) (Some b) (parts-cr d ps
 
 pub ends-none : (d : List ℕ) (ps : List Part) → last_some (part_cr_end d) ps ≡ None → false ≡ ends_in_cr (parts_bytes d ps)
 ends-none d ps is = sym (ends-some (parts_bytes d ps) None (parts-cr d ps ∙ is))
+
+pub ends-passed : (d : List ℕ) (n m : ℕ) (ps : List Part) → n ≤ m → HaveNoBytes d n m ps
+    → ends_in_cr (parts_bytes d (take n ps)) ≡ ends_in_cr (parts_bytes d (take m ps))
+ends-passed d n m ps k h =
+    ends-some (parts_bytes d (take n ps)) _ (parts-cr d (take n ps) ∙ last-passed (part_cr_end d) n m ps k h)
+    ∙ sym (ends-some (parts_bytes d (take m ps)) _ (parts-cr d (take m ps)))
 
 -- Bytes behind others, if there are any.
 pub ends-behind : (x y : List ℕ) (b : Bool) → Some b ≡ cr_end y → Some b ≡ cr_end (x ++ y)

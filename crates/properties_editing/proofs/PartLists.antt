@@ -28,17 +28,6 @@ first_cut d [] i p k n = absurd (omega arith)
 first_cut d (s ∷ ss) zero p k n = rw n refl
 first_cut d (s ∷ ss) (suc i) p k n = ap (λ v. s ∷ v) (first_cut d ss i p (omega arith) n)
 
--- An empty part is passed over.
-empty-next : (d : List ℕ) (ps : List Part) (i : ℕ) (p : Part) → i < length ps → is_empty_part (get_or ps i p) ≡ true
-    → take i ps ++ without_lf_first d (drop i ps) ≡ take (suc i) ps ++ without_lf_first d (drop (suc i) ps)
-empty-next d [] i p k n = absurd (omega arith)
-empty-next d (s ∷ ss) zero p k n = rw n refl
-empty-next d (s ∷ ss) (suc i) p k n = ap (λ v. s ∷ v) (empty-next d ss i p (omega arith) n)
-
-pub empty_passed : (d : List ℕ) (ps : List Part) (i : ℕ) (p : Part) → i < length ps → is_empty_part (get_or ps i p) ≡ true
-    → take i ps ++ without_lf_first d (drop i ps) ≡ take (i + 1) ps ++ without_lf_first d (drop (i + 1) ps)
-empty_passed d ps i p k n = rw (plus-one i) (empty-next d ps i p k n)
-
 -- A part is replaced.
 set-next : (ps : List Part) (i : ℕ) (q : Part) (xs : List Part) → i < length ps → slice_set (take (suc i) ps ++ xs) i q ≡ take i ps ++ q ∷ xs
 set-next [] i q xs k = absurd (omega arith)

@@ -96,6 +96,19 @@ pub struct Bounds {
     pub pairs: usize,
     /// Where these parts end. Those behind were added.
     pub end: usize,
+    /// The parts from here up to the last one in front of `end` are empty.
+    pub empty: usize,
+    /// Parts that are empty since pairs went.
+    pub gone: EmptyRun,
+}
+
+/// Empty parts, one after another.
+#[derive(Clone, Copy)]
+pub struct EmptyRun {
+    /// The place of the first one.
+    pub start: usize,
+    /// The place behind the last one. There are none unless it is behind `start`.
+    pub end: usize,
 }
 
 // Returns the bytes of a part's text.

@@ -231,7 +231,7 @@ fn add_value(
         value,
     )?;
     let bytes = line.as_slice().to_vec(alloc)?;
-    let ending = edited.parts.last_ending(body);
+    let ending = edited.parts.last_ending(body, edited.empty_start());
     edited
         .parts
         .append(alloc, body, key, value, ending, bytes, ending)

@@ -1,5 +1,5 @@
 -- What a new pair behind parts looks like: the last pair, and the last line ending.
-use Rattle.std.specs.Prelude.{◌≡◌, ℕ, Bool, true, false, List, [], ◌∷◌, ◌++◌, Option, Some, None}
+use Rattle.std.specs.Prelude.{◌≡◌, ◌≤◌, ◌<◌, ℕ, get_or, Bool, true, false, List, [], ◌∷◌, ◌++◌, Option, Some, None}
 use Rattle.std.specs.Option.{option_map, option_or}
 use Rattle.properties_format.specs.Text as format
 use Rattle.properties_format.specs.Text.{is_empty, line_ending_text}
@@ -11,7 +11,7 @@ use Rattle.properties_editing.specs.declared.parts.PartKind.{PartKind}
 use Rattle.properties_editing.specs.declared.parts.PartKind.TheVariants as kind
 use Rattle.properties_editing.specs.declared.parts.Part.{Part}
 use Rattle.properties_editing.specs.declared.parts.endings.FoundEnding.{FoundEnding}
-use Rattle.properties_editing.specs.Private.BodyParts.{IsLastWithin, IsTextWithin, bytes_in, part_bytes, text_bytes}
+use Rattle.properties_editing.specs.Private.BodyParts.{IsLastWithin, IsTextWithin, bytes_in, no_part, part_bytes, text_bytes}
 
 -- what the last part has of which this is something
 abbrev pub last_some : {X : Type 0} → (Part → Option X) → List Part → Option X
@@ -49,6 +49,10 @@ cr_end (b ∷ bs) = Some (ends_in_cr (b ∷ bs))
 
 abbrev pub part_cr_end : List ℕ → Part → Option Bool
 part_cr_end d p = cr_end (part_bytes d p)
+
+-- No part from one place up to another has bytes.
+abbrev pub HaveNoBytes : List ℕ → ℕ → ℕ → List Part → Type 0
+HaveNoBytes d n end ps = (i : ℕ) → n ≤ i → i < end → part_cr_end d (get_or ps i no_part) ≡ None
 
 -- The last line ending of these bytes, and whether it is an LF with nothing before it.
 pub record IsEndingIn (bytes : List ℕ) (found : FoundEnding) : Type 0 where

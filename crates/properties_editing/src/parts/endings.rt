@@ -1,11 +1,11 @@
 // What a new pair behind the parts looks like: the last pair, and the last line ending.
 
-ghost use Rattle.std.specs.Prelude.{◌≡◌, false, ◌≤◌, ◌++◌, ◌∷◌, [], length, take, None, Some};
+ghost use Rattle.std.specs.Prelude.{◌≡◌, false, ◌≤◌, ◌-◌, ◌++◌, ◌∷◌, [], length, take, None, Some};
 ghost use Rattle.std.specs.Option.{option_map};
 ghost use Rattle.properties_format.specs.Text.{is_empty, line_ending_text, line_feed};
 ghost use Rattle.properties_editing.specs.Private.BodyParts.{AreTextsWithin, IsTextWithin, bytes_in, part_bytes, parts_bytes};
 ghost use Rattle.properties_editing.specs.Private.PartBounds.{AreBehindPairs};
-ghost use Rattle.properties_editing.specs.Private.PartEndings.{ArePartsWithin, FindsEnding, IsEndingIn, IsPartWithin, cr_end, last_some, part_cr_end, part_pair};
+ghost use Rattle.properties_editing.specs.Private.PartEndings.{ArePartsWithin, FindsEnding, HaveNoBytes, IsEndingIn, IsPartWithin, cr_end, last_some, part_cr_end, part_pair};
 ghost use Rattle.properties_editing.specs.Private.BodyValues.{IsLastEnding};
 ghost use Rattle.properties_format.specs.Computed.Lines.{ends_in_cr};
 ghost use Rattle.properties_format.specs.Computed.Body.{safe_ending};
@@ -54,17 +54,19 @@ impl Parts {
         }
     }
 
-    /// Returns the last line ending of the parts, or an LF if they have none.
+    /// Returns the last line ending of the parts, or an LF if they have none. The parts from `empty` on have no bytes,
+    /// but for the last one.
     #[tactic(auto, using(crate::proofs::PartLists::within_at))]
-    pub fn last_ending(&self, body: &[u8]) -> LineEnding
-        requires { AreTextsWithin body.now self.now.parts.items }
+    pub fn last_ending(&self, body: &[u8], empty: usize) -> LineEnding
+        requires within { AreTextsWithin body.now self.now.parts.items }
+        requires empty { HaveNoBytes body.now empty (length self.now.parts.items - 1) self.now.parts.items }
         ensures { IsLastEnding (parts_bytes body.now self.now.parts.items) result }
     {
         let mut place = self.parts.len();
         while place > 0 {
             place -= 1;
             if let Some(found) = ending_in(body, &self.parts[place]) {
-                if found.is_first && self.ends_in_cr(body, place) {
+                if found.is_first && self.ends_in_cr(body, place.min(empty)) {
                     return LineEnding::CRLF;
                 }
                 return found.ending;

@@ -1,6 +1,6 @@
 // A source in parts: its byte order mark, and its body.
 
-ghost use Rattle.std.specs.Prelude.{◌≡◌, ◌≤◌, ◌++◌, ◌==◌, ◌&&◌, ◌||◌, true, false, drop, length, min, nat_le, not, take, IfOk, OnOk};
+ghost use Rattle.std.specs.Prelude.{◌≡◌, ◌≤◌, ◌-◌, ◌++◌, ◌==◌, ◌&&◌, ◌||◌, true, false, drop, length, min, nat_le, not, take, IfOk, OnOk};
 ghost use Rattle.std.specs.BTreeMap.{IsOrdered};
 ghost use Rattle.std.specs.String.{string_cmp};
 ghost use Rattle.std.specs.Str.{chars};
@@ -8,11 +8,11 @@ ghost use Rattle.properties_format.specs.Encoding.{begins_like_bom};
 ghost use Rattle.properties_text.specs.Encoding.{encoding_of};
 ghost use Rattle.properties_lines.specs.LineSearch.{unit_size};
 ghost use Rattle.properties_editing.specs.Private.BodyParts.{AreTextsWithin, AreUnplaced, IsTextWithin, part_bytes, parts_bytes, text_bytes};
-ghost use Rattle.properties_editing.specs.Private.PartBounds.{AreBehindPairs, AreBounds, ArePairBounds, ArePlainFrom, HasNoPair, HaveNoPair, IsPlain};
+ghost use Rattle.properties_editing.specs.Private.PartBounds.{AreBehindPairs, AreBounds, AreBoundsIn, AreEmpty, ArePlainFrom, HasNoPair, HaveNoPair, IsPlain};
 ghost use Rattle.properties_editing.specs.Private.RemovedParts.{AreBelow, key_places};
 ghost use Rattle.properties_editing.specs.Private.SourceParts.{GuardsParts, ReadsSource, RemovesKey, empty_front, first_text, source_bytes};
 
-use super::{Bounds, NamedKeys, Part, PartKind, PartText, Parts, bytes_of, is_empty};
+use super::{Bounds, EmptyRun, NamedKeys, Part, PartKind, PartText, Parts, bytes_of, is_empty};
 use crate::source::{BodyStart, Comments};
 use properties_items::error::PropertiesError;
 use properties_items::line::ending_text;
@@ -60,6 +60,8 @@ impl SourceParts {
                 feeds: size,
                 pairs: size,
                 end: size,
+                empty: size,
+                gone: EmptyRun { start: 0, end: 0 },
             },
         })
     }
@@ -81,7 +83,8 @@ impl SourceParts {
         ensures { RemovesKey body.now (chars key.now) self.old result self.new }
     {
         self.bounds.feeds = feeds_end(body, &self.parts.parts, self.bounds.feeds);
-        let told = self.parts.remove(body, key, self.bounds.feeds);
+        let feeds = self.bounds.feeds;
+        let told = self.parts.remove(body, key, feeds, &mut self.bounds.gone);
         self.bounds = narrowed(&self.parts.parts, self.bounds);
         self.guard_front(body);
         told
@@ -89,11 +92,23 @@ impl SourceParts {
 
     /// Returns a place behind the last pair. No part from there on has one.
     pub fn pairs_end(&self) -> usize
-        requires { ArePairBounds self.now.bounds self.now.parts.parts.items }
+        requires { AreBoundsIn self.now.bounds self.now.parts.parts.items }
         ensures { AreBehindPairs result self.now.parts.parts.items }
     {
         if self.bounds.end == self.parts.parts.len() {
             self.bounds.pairs
+        } else {
+            self.parts.parts.len()
+        }
+    }
+
+    /// Returns a place from which on the parts are empty, but for the last one.
+    pub fn empty_start(&self) -> usize
+        requires { AreBoundsIn self.now.bounds self.now.parts.parts.items }
+        ensures { AreEmpty result (length self.now.parts.parts.items - 1) self.now.parts.parts.items }
+    {
+        if self.bounds.end == self.parts.parts.len() {
+            self.bounds.empty
         } else {
             self.parts.parts.len()
         }
@@ -185,9 +200,11 @@ fn begins_with_line_feed(body: &[u8], part: &Part) -> bool
 
 // Returns the bounds of parts that others became, some of which went.
 fn narrowed(parts: &Vec<Part>, old: Bounds) -> Bounds
-    requires { HaveNoPair old.pairs old.end parts.now.items }
+    requires pairs { HaveNoPair old.pairs old.end parts.now.items }
+    requires empty { AreEmpty old.empty (old.end - 1) parts.now.items }
+    requires gone { AreEmpty old.gone.start old.gone.end parts.now.items }
     ensures feeds { result.feeds ≡ old.feeds }
-    ensures pairs { ArePairBounds result parts.now.items }
+    ensures bounds { AreBoundsIn result parts.now.items }
 {
     let end = old.end.min(parts.len());
     let mut pairs = old.pairs.min(end);
@@ -198,7 +215,25 @@ fn narrowed(parts: &Vec<Part>, old: Bounds) -> Bounds
         feeds: old.feeds,
         pairs,
         end,
+        empty: empty_before(parts, old.empty, end.saturating_sub(1)),
+        gone: EmptyRun {
+            start: old.gone.start,
+            end: old.gone.end.min(parts.len().saturating_sub(1)),
+        },
     }
+}
+
+// Returns where the empty parts in front of this place start. Those from `start` on are empty.
+fn empty_before(parts: &Vec<Part>, start: usize, end: usize) -> usize
+    requires within { end ≤ length parts.now.items }
+    requires empty { AreEmpty start end parts.now.items }
+    ensures { AreEmpty result end parts.now.items }
+{
+    let mut place = start.min(end);
+    while place > 0 && is_empty(&parts[place - 1]) {
+        place -= 1;
+    }
+    place
 }
 
 // Returns whether a part has no pair.

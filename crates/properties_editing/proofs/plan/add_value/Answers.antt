@@ -10,7 +10,7 @@ use Rattle.properties_editing.proofs.LastPairs.{separator-good}
 use Rattle.std.specs.Str.{chars}
 use Rattle.std.proofs.lemmas.List.{take_rest}
 use Rattle.properties_editing.proofs.Editing.{editable-unit}
-use Rattle.properties_editing.proofs.LastParts.{source-last}
+use Rattle.properties_editing.proofs.LastParts.{source-empty, source-last}
 use Rattle.properties_editing.proofs.SourceParts.{source-removable}
 use Rattle.properties_editing.proofs.plan.add_value.Goals as goal
 
@@ -27,9 +27,16 @@ pub separator_of-requires-clause-last : goal.separator_of-requires-clause-last
 separator_of-requires-clause-last c =
     rw (c.last_pair-last.ensures, take_rest c.args.source.now c.args.edited.now.opened.start) (source-last c.requires.parts.parts.stand).1
 
-pub last_ending-ending-requires : goal.last_ending-ending-requires
-last_ending-ending-requires c =
+pub last_ending-ending-requires-clause-within : goal.last_ending-ending-requires-clause-within
+last_ending-ending-requires-clause-within c =
     rw (take_rest c.args.source.now c.args.edited.now.opened.start) (source-removable (chars c.args.key.now) c.requires.parts.parts.stand).1
+
+pub empty_start-requires : goal.empty_start-requires
+empty_start-requires c = c.requires.parts.parts.stand.bounds.1
+
+pub last_ending-ending-requires-clause-empty : goal.last_ending-ending-requires-clause-empty
+last_ending-ending-requires-clause-empty c =
+    rw (take_rest c.args.source.now c.args.edited.now.opened.start) (source-empty _ _ c.requires.parts.parts.stand c.empty_start.ensures)
 
 pub append-requires-clause-within : goal.append-requires-clause-within
 append-requires-clause-within c =

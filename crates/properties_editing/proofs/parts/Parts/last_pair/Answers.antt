@@ -11,7 +11,7 @@ last_pair_of-requires c =
     subst (IsPartWithin c.args.body.now) (sym c.index.ensures) (part_within c.args.body.now ps (c.loop-place.place - 1) c.index.result.now c.requires.within inside)
 
 pub loop-place-init : goal.loop-place-init
-loop-place-init c = (c.requires.end.0, none-behind c.args.body.now c.args.end c.args.self.now.parts.items c.requires.end.1)
+loop-place-init c = (c.requires.end.0, none-behind c.args.body.now c.args.end c.args.self.now.parts.items c.requires.end.0 c.requires.end.1)
 
 pub returns-in-Some : goal.returns-in-Some
 returns-in-Some c =
