@@ -4,10 +4,10 @@
 #     (cd crates/properties_c && rt lib)
 #     bindings/build.sh FOLDER [ARCHIVE MEMORY]
 #
-# FOLDER then has libtodrenval.a with todrenval.h, the shared object libtodrenval.so.1 with libtodrenval.so, which names it for
+# FOLDER then has libtodrenval.a with todrenval.h, the shared object libtodrenval.so.2 with libtodrenval.so, which names it for
 # the linker, and the Python package todrenval. They are made of the archive that `rt lib` has proved, and of the toolchain's
-# few lines of C that call malloc. The package has the version of propedit. It needs cc and ar, and rt if these two archives
-# aren't named.
+# few lines of C that call malloc. The header and the package name the version of propedit. It needs cc and ar, and rt if
+# these two archives aren't named.
 set -eu
 [ $# = 1 ] || [ $# = 3 ] || { echo 'usage: build.sh FOLDER [ARCHIVE MEMORY]' >&2; exit 2; }
 top=$(cd "$(dirname "${BASH_SOURCE[0]}")/.." && pwd)
@@ -36,7 +36,7 @@ ar rcsD "$folder/libtodrenval.a" "$work"/proved/*.o "$work"/memory/*.o
 
 # A shared object, of which only the functions of the header can be called. The number in its name rises with
 # TODRENVAL_VERSION of the header, so that a program finds no object that it wasn't linked with.
-shared=libtodrenval.so.1
+shared=libtodrenval.so.2
 printf '{ global: todrenval_*; local: *; };\n' >"$work/exports"
 cc -shared -o "$folder/$shared" -Wl,-soname,"$shared" -Wl,--version-script="$work/exports" \
     -Wl,--gc-sections -Wl,-z,relro,-z,now,-z,noexecstack -Wl,-z,defs \
@@ -48,5 +48,6 @@ mkdir -p "$folder/todrenval"
 cp "$top"/bindings/python/todrenval/*.py "$top/bindings/python/todrenval/py.typed" "$folder/todrenval/"
 version=$(sed -n 's/^const VERSION: &str = "\(.*\)";$/\1/p' "$top/crates/propedit_arguments/src/command_line.rt")
 [ -n "$version" ] || { echo 'build.sh: crates/propedit_arguments names no version' >&2; exit 1; }
+sed -i "s/^#define TODRENVAL_RELEASE .*/#define TODRENVAL_RELEASE \"$version\"/" "$folder/todrenval.h"
 sed -i "s/^__version__ = .*/__version__ = \"$version\"/" "$folder/todrenval/__init__.py"
 ln -sf "../$shared" "$folder/todrenval/$shared"

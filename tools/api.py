@@ -1,6 +1,6 @@
 #!/usr/bin/env python3
-"""Writes docs/API.md, the public names of each crate with their signatures and the first sentence of what is said of each, from
-the sources.
+"""Writes docs/API.md from the sources: the public names of each crate that programs call, with their signatures and the first
+sentence of the doc comment of each, and those of the inner crates.
 
     tools/api.py            writes the page
     tools/api.py --check    compares it, and ends with 1 where it is not what the sources say
@@ -17,8 +17,8 @@ sys.dont_write_bytecode = True
 from wrap import WIDTH, wrapped
 
 TOP = pathlib.Path(__file__).resolve().parent.parent
-FOR_CALLERS = ["java_properties", "counted_io", "properties_tools", "propedit_arguments"]
-INNER = ["properties_items", "properties_editing", "properties_text", "properties_lines", "byte_blocks", "single_lines"]
+FOR_CALLERS = ["java_properties", "counted_io", "properties_tools"]
+INNER = ["propedit_arguments", "properties_items", "properties_editing", "properties_text", "properties_lines", "byte_blocks", "single_lines"]
 ABOUT = {
     "java_properties": "The library. The functions of the module `laws` do nothing when they run; their contracts are laws.",
     "counted_io": "Readers and writers that count their I/O errors. `Counted` makes one of any reader or writer.",
@@ -31,6 +31,10 @@ ABOUT = {
     "byte_blocks": "Classes of bytes, and searches for them, sixteen bytes at once.",
     "single_lines": "Characters and lines one at a time; only tests call it.",
 }
+INSIDE = (
+    "For maintainers: the names of each module, and in brackets the functions of a type. What each does stands beside it in the "
+    "source, with its contract. What the library re-exports is shown above."
+)
 ITEM = re.compile(r"^(    )?pub (const fn|fn|struct|enum|trait|const|mod|use)\b")
 IMPL = re.compile(r"impl(?:<.*?>)? (?:(?P<of>[\w:]+(?:<.*>)?) for )?(?P<type>&.*?\w+|\w+)")
 DEFINED = re.compile(r"^(?:pub(?:\(\w+\))? )?(?:struct|enum|trait) (\w+)", re.M)
@@ -109,10 +113,27 @@ def code_and_docs(path):
     return lines, docs
 
 
-def said(sentence, indent=""):
-    """A sentence as the lines of a doc comment."""
-    front = indent + "/// "
-    return textwrap.wrap(sentence, WIDTH, initial_indent=front, subsequent_indent=front, break_long_words=False, break_on_hyphens=False)
+def filled(text, front):
+    """A text as lines that begin so."""
+    return textwrap.wrap(text, WIDTH, initial_indent=front, subsequent_indent=front, break_long_words=False, break_on_hyphens=False)
+
+
+def said(sentence, line, indent=""):
+    """The line of a function, with a sentence behind it or, if it is too long for that, before it."""
+    beside = f"{indent}{line} // {sentence}"
+    if len(beside) <= WIDTH:
+        return [beside if sentence else indent + line]
+    return filled(sentence, indent + "/// ") + [indent + line]
+
+
+def implementing(lines, kinds):
+    """A type, with what it implements behind it or, if that is too long, below it."""
+    text = " // " + ", ".join(kinds)
+    if not kinds:
+        return lines
+    if len(lines[-1] + text) <= WIDTH:
+        return lines[:-1] + [lines[-1] + text]
+    return lines + filled(text.strip()[3:], "// ")
 
 
 def signature(lines, at):
@@ -152,25 +173,20 @@ def fields(lines, docs, at):
     block = body(lines, at, "")
     if len(block) == 1:
         return [re.sub(r"^pub ", "", head)]
-    kind = head.split()[1]
-    shown = [re.sub(r"^pub ", "", head)]
-    hidden = False
-    for number in block[1:-1]:
-        line = lines[number]
-        if kind == "enum":
-            if line.strip() and not line.strip().startswith("#"):
-                shown.append(line)
-        elif kind == "struct":
-            if line.strip().startswith("pub "):
-                shown.append(line)
-            else:
-                hidden = True
-        elif line.startswith("    fn "):
-            shown += said(docs.get(number, ""), "    ") + ["    " + signature(lines, number) + ";"]
-    if hidden:
-        shown.append("    // private fields")
-    shown.append("}")
-    return shown
+    kind, front = head.split()[1], re.sub(r"^pub ", "", head)
+    if kind == "trait":
+        inner = [text for at in block[1:-1] if lines[at].startswith("    fn ") for text in said(docs.get(at, ""), signature(lines, at) + ";", "    ")]
+        return [front] + inner + ["}"]
+    stripped = [lines[at].strip() for at in block[1:-1]]
+    if kind == "enum":
+        # A variant with fields of several lines is put together.
+        shown = re.sub(r"\s+", " ", " ".join(line for line in stripped if not line.startswith("#"))).rstrip(",")
+    else:
+        public = [line.removeprefix("pub ").rstrip(",") for line in stripped if line.startswith("pub ")]
+        shown = ", ".join(public + [".."] * (len(public) < len([line for line in stripped if line])))
+    if len(front) + len(shown) + 3 <= WIDTH:
+        return [f"{front} {shown} }}"]
+    return [front] + filled(shown + ("" if shown.endswith("..") else ","), "    ") + ["}"]
 
 
 def entries(crate):
@@ -214,55 +230,73 @@ def entries(crate):
             if public[1]:
                 if head:
                     functions = blocks.setdefault(owner, {}).setdefault(head, [])
-                    functions += said(docs.get(at, ""), "    ") + ["    " + signature(lines, at) + ";"]
+                    functions += said(docs.get(at, ""), signature(lines, at) + ";", "    ")
             elif (name, path) in names or path in pages:
-                text = [signature(lines, at)] if public[2].endswith("fn") else fields(lines, docs, at)
-                module = names.get((name, path), pages.get(path))
-                items[name, module, path] = ([f"// in module {module}"] if module else []) + said(docs.get(at, "")) + text
+                module, doc = names.get((name, path), pages.get(path)), docs.get(at, "")
+                if public[2].endswith("fn"):
+                    items[name, module, path] = said(doc, signature(lines, at)), []
+                else:
+                    items[name, module, path] = filled(doc, "/// "), fields(lines, docs, at)
     return items, blocks, implements, of_others
 
 
-def section(crate, level, shown):
-    """The section of a crate, without what another one's has shown."""
+def section(crate, shown):
+    """The section of a crate, by modules, without what another one's has shown."""
     items, blocks, implements, of_others = entries(crate)
-    out = ["", f"{level} `{crate}`", "", ABOUT[crate], "", "```rust"]
-    for name, module, path in sorted(items, key=lambda item: (item[0].lower(), item[1])):
+    out, in_module = ["", f"## `{crate}`", "", ABOUT[crate], "", "```rust"], ""
+    for name, module, path in sorted(items, key=lambda item: (item[1], item[0].lower())):
         if (name, path) in shown:
             continue
         shown.add((name, path))
-        out += items[name, module, path]
+        if module != in_module:
+            out += [""] * (out[-1] != "```rust") + [f"// in module {module}"]
+            in_module = module
+        text, declared = items[name, module, path]
         owner = (source_of(path).parent.name, name)
-        for head, functions in blocks.get(owner, {}).items():
-            out += [head + " {"] + functions + ["}"]
-        out += of_others.get(owner, [])
-        kinds = [kind for kind in dict.fromkeys(implements.get(owner, [])) if kind]
-        if kinds:
-            out.append("// " + name + ": " + ", ".join(kinds))
-        out.append("")
-    if out[-1] == "```rust":
-        # All of it is shown elsewhere.
-        return out[:-2]
-    out[-1] = "```"
-    return out
+        if declared:
+            kinds = [kind for kind in dict.fromkeys(implements.get(owner, [])) if kind]
+            text = text + implementing(declared, kinds)
+        inner = [line for head, functions in blocks.get(owner, {}).items() for line in [head + " {"] + functions + ["}"]]
+        inner += of_others.get(owner, [])
+        # A type with functions stands apart.
+        if (inner or "}" in declared) and out[-1] != "```rust" and not out[-1].startswith("// in module"):
+            out.append("")
+        out += text + inner
+    return out + ["```"]
+
+
+def index(crate, shown):
+    """The section of an inner crate: the names of each module, with those of a type's functions, without what is shown."""
+    items, blocks, _, _ = entries(crate)
+    modules = {}
+    for name, module, path in sorted(items, key=lambda item: (item[1], item[0].lower())):
+        if (name, path) not in shown:
+            shown.add((name, path))
+            inner = [line for functions in blocks.get((source_of(path).parent.name, name), {}).values() for line in functions]
+            inner += items[name, module, path][1][1:]
+            functions = re.findall(r"^    (?:const )?fn (\w+)", "\n".join(inner), re.M)
+            modules.setdefault(module, []).append(f"`{name}`" + (f" ({', '.join(functions)})" if functions else ""))
+    listed = [f"- {f'`{module}`' if module else 'at the root'}: {', '.join(names)}" for module, names in modules.items()]
+    return ["", f"### `{crate}`", "", ABOUT[crate]] + ([""] if listed else []) + listed
 
 
 def page():
     out = [
         "# Public names",
         "",
-        "First come the crates that programs call, and the library before the others; then those that these stand on. What",
-        "`properties_c` exports to programs in C is in docs/C.md.",
+        "For callers who look for a name. First come the crates that programs call, and the library before the others; then, by",
+        "names alone, those that these use. What `properties_c` exports to programs in C is in [C](C.md).",
         "",
-        "`tools/api.py` makes this page from the sources, and `tools/api.py --check` compares it with them. Before a name stands the",
-        "first sentence of what its source says of it, and its module, if that isn't the crate's root. A comment after a type names",
-        "what it implements. Contracts are left out: they are beside the functions, and docs/PROMISES.md explains them.",
+        "`tools/api.py` makes this page from the sources, and `tools/api.py --check` compares it with them. With a name comes the",
+        "first sentence of its doc comment, and behind a type or below it what it implements; `..` stands for private fields.",
+        "Contracts are left out: they are beside the functions, and [PROMISES](PROMISES.md) explains them.",
     ]
     shown = set()
     for crate in FOR_CALLERS:
-        out += section(crate, "##", shown)
-    out += ["", "## Inner crates", "", "Most callers need none of these. What the library re-exports is shown above."]
+        out += section(crate, shown)
+    out += ["", "## Inner crates", "", INSIDE]
     for crate in INNER:
-        out += section(crate, "###", shown)
+        out += index(crate, shown)
     return wrapped("\n".join(out) + "\n")
 
 

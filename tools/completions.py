@@ -41,7 +41,10 @@ EDIT_OPTIONS = re.search(r"const EDIT_OPTIONS.*?\];", CODE, re.S)[0]
 COMMANDS = list(rows("CommandRow"))
 OPTIONS = list(rows("OptionRow"))
 EDITS = " ".join(row["name"] for row in COMMANDS if row["is_edit"])
-ENCODINGS = " ".join(re.findall(r"(?:utf|windows)-\w+", next(row["help"] for row in OPTIONS if row["value"] == "NAME")))
+NAMES = next(row["help"] for row in OPTIONS if row["value"] == "NAME").replace("utf-16le/be", "utf-16le utf-16be")
+ENCODINGS = " ".join(re.findall(r"(?:utf|windows|iso)-[\w-]+", NAMES))
+# Those of propfilter.
+FILTERS = ENCODINGS.replace("iso-8859-1 ", "")
 TARGETS = " ".join(re.findall(r'\("([\w-]+)", Repertoire::', CODE))
 FILTERED = "ascii"
 
@@ -169,7 +172,7 @@ _propedit() {
 _propfilter() {
     local choices=
     case $COMP_CWORD in
-    1) choices='@ENCODINGS@' ;;
+    1) choices='@FILTERS@' ;;
     2) choices=@FILTERED@ ;;
     esac
     mapfile -t COMPREPLY < <(compgen -W "$choices" -- "${COMP_WORDS[COMP_CWORD]}")
@@ -242,7 +245,7 @@ _propedit_line() {
 
 case $service in
 propedit) _propedit_line ;;
-propfilter) _arguments '1:encoding:(@ENCODINGS@)' '2:ascii:(@FILTERED@)' ;;
+propfilter) _arguments '1:encoding:(@FILTERS@)' '2:ascii:(@FILTERED@)' ;;
 esac
 """
 
@@ -329,7 +332,7 @@ complete -c propedit -n '__propedit_wants ENCODING' -a '@TARGETS@'
 complete -c propedit -n '__propedit_wants KEY KEY.. PREFIX' -a '(__propedit_keys)'
 complete -c propedit -n '__propedit_wants FILE FILE..' -F
 complete -c propfilter -f
-complete -c propfilter -n 'test (count (commandline -opc)) -eq 1' -a '@ENCODINGS@'
+complete -c propfilter -n 'test (count (commandline -opc)) -eq 1' -a '@FILTERS@'
 complete -c propfilter -n 'test (count (commandline -opc)) -eq 2' -a @FILTERED@
 """
 
@@ -344,8 +347,11 @@ def zsh_arguments():
         short, long, takes = row["short"], row["long"], bool(row["value"])
         others = "- *" if long in ("help", "version") else " ".join(filter(None, [short and f"-{short}", f"--{long}"]))
         others += {"file": " -i --in-place", "in-place": " -f --file"}.get(long, "")
-        said = re.sub(r"([\[\]:])", r"\\\1", row["help"]).replace("'", "'\\''")
-        for name in ([f"-{short}" + "+" * takes] if short else []) + [f"--{long}" + "=" * takes]:
+        # A letter may be that of several options.
+        of_letter = [other["help"] for other in OPTIONS if short and other["short"] == short]
+        letter = {f"-{short}" + "+" * takes: "; ".join(of_letter)} if of_letter[:1] == [row["help"]] else {}
+        for name, said in {**letter, f"--{long}" + "=" * takes: row["help"]}.items():
+            said = re.sub(r"([\[\]:])", r"\\\1", said).replace("'", "'\\''")
             yield f"        '({others}){name}[{said}]{actions[row['value']]}'"
 
 
@@ -370,7 +376,7 @@ def filled(template):
         "DESCRIBED": lines(f"        '{row['name']}:{shown(row)}'" for row in COMMANDS),
         "ARGUMENTS": lines(zsh_arguments()),
         "LINES": lines(fish_lines()),
-        "OPTIONS": " ".join(names()),
+        "OPTIONS": " ".join(dict.fromkeys(names())),
         "COMMANDS": " ".join(row["name"] for row in COMMANDS),
         "FILE_NAMES": " | ".join(names("FILE")),
         "FILE_WORDS": " ".join(names("FILE")),
@@ -381,6 +387,7 @@ def filled(template):
         "VALUE_LETTERS": "".join(row["short"] for row in OPTIONS if row["value"]),
         "EDITS": EDITS,
         "ENCODINGS": ENCODINGS,
+        "FILTERS": FILTERS,
         "TARGETS": TARGETS,
         "FILTERED": FILTERED,
     }

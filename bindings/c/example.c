@@ -48,7 +48,8 @@ static bool read_file(char const *name, struct bytes *file) {
 
 /* Prints the items up to the end or to a malformed escape. */
 static bool list_items(char const *name, struct bytes const *file) {
-    struct todrenval_result list = todrenval_items_new(file->start, file->length, TODRENVAL_UTF_8);
+    struct todrenval_result list =
+        todrenval_items_new(file->start, file->length, TODRENVAL_UTF_8, TODRENVAL_READ_COMMENTS);
     struct todrenval_cursor cursor = todrenval_walk(list.bytes, list.length);
     struct todrenval_item item;
     char reason[TODRENVAL_REASON_ROOM];

@@ -134,7 +134,6 @@ struct request {
     struct text value;
     struct text list;
     uint32_t target;
-    bool readable;
     struct text prefix;
     struct text separator;
 };
@@ -149,10 +148,25 @@ static struct request request_of(enum call call, struct text source, uint32_t en
     request.value = T("v");
     request.list = T("");
     request.target = TODRENVAL_TO_ASCII;
-    request.readable = false;
     request.prefix = T("");
     request.separator = T("");
     return request;
+}
+
+/* Items of UTF-8, with comments that are read. */
+static struct request items_of(struct text source) {
+    struct request request = request_of(ITEMS, source, TODRENVAL_UTF_8);
+    request.flags = TODRENVAL_READ_COMMENTS;
+    return request;
+}
+
+/* One edit, as a list of it. */
+static int make_edit(struct request const *r, unsigned long long kind, uint8_t *out, size_t room, size_t *length,
+                     size_t *line) {
+    struct packed list = {{0}, 0};
+    put_item(&list, kind, 0, r->key, kind == TODRENVAL_EDIT_REMOVE_KEY ? T("") : r->value);
+    return todrenval_edit(r->source.bytes, r->source.length, r->encoding, r->flags, list.bytes, list.length, out, room,
+                          length, line);
 }
 
 static int make_call(struct request const *r, uint8_t *out, size_t room, size_t *length, size_t *line) {
@@ -161,23 +175,21 @@ static int make_call(struct request const *r, uint8_t *out, size_t room, size_t 
         return todrenval_get(r->source.bytes, r->source.length, r->encoding, r->flags, r->key.bytes, r->key.length,
                               out, room, length, line);
     case ITEMS:
-        return todrenval_items(r->source.bytes, r->source.length, r->encoding, out, room, length, line);
+        return todrenval_items(r->source.bytes, r->source.length, r->encoding, r->flags, out, room, length,
+                               line);
     case FINDINGS:
         return todrenval_findings(r->source.bytes, r->source.length, r->encoding, out, room, length, line);
     case SET_VALUE:
-        return todrenval_set_value(r->source.bytes, r->source.length, r->encoding, r->flags, r->key.bytes,
-                                    r->key.length, r->value.bytes, r->value.length, out, room, length, line);
+        return make_edit(r, TODRENVAL_EDIT_SET_VALUE, out, room, length, line);
     case SET_KEY:
-        return todrenval_set_key(r->source.bytes, r->source.length, r->encoding, r->flags, r->key.bytes,
-                                  r->key.length, r->value.bytes, r->value.length, out, room, length, line);
+        return make_edit(r, TODRENVAL_EDIT_SET_KEY, out, room, length, line);
     case REMOVE_KEY:
-        return todrenval_remove_key(r->source.bytes, r->source.length, r->encoding, r->flags, r->key.bytes,
-                                     r->key.length, out, room, length, line);
+        return make_edit(r, TODRENVAL_EDIT_REMOVE_KEY, out, room, length, line);
     case EDIT:
         return todrenval_edit(r->source.bytes, r->source.length, r->encoding, r->flags, r->list.bytes,
                                r->list.length, out, room, length, line);
     case CONVERT:
-        return todrenval_convert(r->source.bytes, r->source.length, r->encoding, r->target, r->readable, out, room,
+        return todrenval_convert(r->source.bytes, r->source.length, r->encoding, r->target, r->flags, out, room,
                                   length, line);
     default:
         return todrenval_write(r->list.bytes, r->list.length, r->encoding, r->flags, r->prefix.bytes,
@@ -205,7 +217,7 @@ static struct todrenval_result make_new(struct request const *r) {
         return todrenval_get_new(r->source.bytes, r->source.length, r->encoding, r->flags, r->key.bytes,
                                  r->key.length);
     case ITEMS:
-        return todrenval_items_new(r->source.bytes, r->source.length, r->encoding);
+        return todrenval_items_new(r->source.bytes, r->source.length, r->encoding, r->flags);
     case FINDINGS:
         return todrenval_findings_new(r->source.bytes, r->source.length, r->encoding);
     case SET_VALUE:
@@ -221,7 +233,7 @@ static struct todrenval_result make_new(struct request const *r) {
         return todrenval_edit_new(r->source.bytes, r->source.length, r->encoding, r->flags, r->list.bytes,
                                   r->list.length);
     case CONVERT:
-        return todrenval_convert_new(r->source.bytes, r->source.length, r->encoding, r->target, r->readable);
+        return todrenval_convert_new(r->source.bytes, r->source.length, r->encoding, r->target, r->flags);
     default:
         prefix = string_of(r->prefix);
         separator = string_of(r->separator);
@@ -384,6 +396,7 @@ static void try_items(void) {
     struct packed list = {{0}, 0};
     struct todrenval_cursor cursor;
     struct todrenval_item item;
+    struct request request = request_of(ITEMS, T(SOURCE), TODRENVAL_UTF_8);
     size_t end;
     check("items of nothing", request_of(ITEMS, T(""), TODRENVAL_UTF_8), TODRENVAL_OK, 0, T(""));
     check("items of blanks", request_of(ITEMS, T("\n \r\n"), TODRENVAL_UTF_8), TODRENVAL_OK, 0, T(""));
@@ -391,7 +404,8 @@ static void try_items(void) {
     put_item(&list, TODRENVAL_PAIR, 2, T("a"), T("1"));
     put_item(&list, TODRENVAL_PAIR, 4, T("k"), T("caf\xc3\xa9"));
     put_item(&list, TODRENVAL_PAIR, 5, T("a"), T("2"));
-    check("items", request_of(ITEMS, T(SOURCE), TODRENVAL_UTF_8), TODRENVAL_OK, 0, text_of_list(&list));
+    request.flags = TODRENVAL_READ_COMMENTS;
+    check("items", request, TODRENVAL_OK, 0, text_of_list(&list));
 
     /* The cursor gives the records, and nothing of a list that is cut. */
     for (end = 0; end <= list.length; end++) {
@@ -562,7 +576,7 @@ static void try_settings(void) {
     static char const *const prefixes[] = {"x", " ", "\xc3\xa9#", "#\n", "#\r", "\n#", "=#"};
     static char const *const separators[] = {"x", "==", "=:", "= :", "a=", "\n", "= \r", "\xc2\xa0"};
     static uint32_t const endings[] = {0, TODRENVAL_CRLF, TODRENVAL_CR};
-    static uint32_t const both[] = {24, 25, 26, 28, 31, 32, 40, 48};
+    static uint32_t const both[] = {24, 25, 26, 28, 31, 32, 40, 48, 64, 512, 2048, 4104 + 16, 8192, 8193, 0x80001000};
     struct packed list = {{0}, 0};
     struct packed empty = {{0}, 0};
     struct text wanted[3];
@@ -633,15 +647,15 @@ static void converts(char const *name, struct text source, uint32_t encoding, st
                      struct text ascii) {
     struct request request = request_of(CONVERT, source, encoding);
     check(name, request, TODRENVAL_OK, 0, ascii);
-    request.readable = true;
+    request.flags = TODRENVAL_READABLE;
     check(name, request, TODRENVAL_OK, 0, ascii);
     request.target = TODRENVAL_TO_UTF_8;
     check(name, request, TODRENVAL_OK, 0, utf_8_readable);
-    request.readable = false;
+    request.flags = 0;
     check(name, request, TODRENVAL_OK, 0, utf_8);
     request.target = TODRENVAL_TO_WINDOWS_1252;
     check(name, request, TODRENVAL_OK, 0, windows_1252);
-    request.readable = true;
+    request.flags = TODRENVAL_READABLE;
     check(name, request, TODRENVAL_OK, 0, windows_1252_readable);
 }
 
@@ -705,13 +719,270 @@ static void try_convert(void) {
     }
 }
 
+/* Sources that aren't text are refused where a call is strict, before malformed escapes, and read where it isn't. */
+static void try_strict(void) {
+    static enum call const calls[] = {GET, EDIT, CONVERT};
+    static size_t const lines[] = {2, 1, 1, 3, 2, 2, 1, 2};
+    static uint32_t const encodings[] = {
+        TODRENVAL_UTF_8,    TODRENVAL_UTF_8,    TODRENVAL_UTF_16LE, TODRENVAL_UTF_8,
+        TODRENVAL_UTF_16LE, TODRENVAL_UTF_16BE, TODRENVAL_UTF_8,    TODRENVAL_WINDOWS_1252,
+    };
+    static int const others[] = {TODRENVAL_BAD_LIST, TODRENVAL_NOT_UTF_8};
+    struct text sources[8], sound[5];
+    size_t number, place;
+    sources[0] = T("k=1\n\xff=\\u12\n\xff");
+    sources[1] = T("\xff\0\n\0");
+    sources[2] = T("\xef\xbb\xbf\xc3");
+    sources[3] = T("\xff\r\n\r\n\0");
+    sources[4] = T("k\0\n\0\x3d\xd8k\0");
+    sources[5] = T("\0k\0\n\0");
+    sources[6] = T("\xff\xfe\0\xdc");
+    sources[7] = T("\xef\xbb\xbf\n\x80");
+    for (number = 0; number < 3; number++) {
+        for (place = 0; place < 8; place++) {
+            struct request request = request_of(calls[number], sources[place], encodings[place]);
+            request.flags = TODRENVAL_STRICT;
+            refuses("strict", request, TODRENVAL_NOT_TEXT, lines[place]);
+            if (calls[number] != CONVERT) {
+                request.key = T("\xff");
+                request.list = T("x");
+                refuses("before strict", request, others[calls[number] == GET], 0);
+            }
+        }
+    }
+    /* Text, and what is read as if it were. */
+    sound[0] = T("k=caf\xc3\xa9\n#\xe2\x82\xac");
+    sound[1] = T("\xef\xbb\xbfk=caf\xc3\xa9\n\0");
+    sound[2] = T("k=caf\xe9\n\0\x81");
+    sound[3] = T("k\0=\0" "c\0" "a\0" "f\0\xe9\0\n\0\x3d\xd8\x1e\xdc");
+    sound[4] = T("\0k\0=\0" "c\0" "a\0" "f\0\xe9\0\n\0\0");
+    for (place = 0; place < 5; place++) {
+        static uint32_t const own[] = {
+            TODRENVAL_UTF_8, TODRENVAL_UTF_8, TODRENVAL_WINDOWS_1252, TODRENVAL_UTF_16LE, TODRENVAL_UTF_16BE,
+        };
+        struct request request = request_of(GET, sound[place], own[place]);
+        request.flags = TODRENVAL_STRICT | TODRENVAL_READ_COMMENTS;
+        check("strict text", request, TODRENVAL_OK, 0, T("caf\xc3\xa9"));
+    }
+    {
+        struct request request = request_of(CONVERT, T("k=\xff\0"), TODRENVAL_UTF_8);
+        request.target = TODRENVAL_TO_UTF_8;
+        check("not strict", request, TODRENVAL_OK, 0, T("k=\xef\xbf\xbd\0"));
+        request.encoding = TODRENVAL_WINDOWS_1252;
+        request.flags = TODRENVAL_STRICT | TODRENVAL_READABLE;
+        check("strict windows-1252", request, TODRENVAL_OK, 0, T("k=\xc3\xbf\0"));
+        request = request_of(EDIT, T("k=\xff\0\n"), TODRENVAL_UTF_8);
+        check("not strict", request, TODRENVAL_OK, 0, T("k=\xff\0\n"));
+        request.source = T("\0k");
+        request.encoding = TODRENVAL_UTF_16BE;
+        request.flags = TODRENVAL_STRICT;
+        refuses("strict, and unsupported", request, TODRENVAL_UNSUPPORTED, 0);
+    }
+}
+
+/* Lines that go on: the first is written as any other. */
+static void try_going_on(void) {
+    static char const bom[] = "\xef\xbb\xbf";
+    struct packed list = {{0}, 0};
+    struct packed empty = {{0}, 0};
+    struct request request = request_of(WRITE, T(""), TODRENVAL_UTF_8);
+    request.flags = TODRENVAL_GOES_ON;
+    check("no lines go on", request, TODRENVAL_OK, 0, T(""));
+    put_item(&list, TODRENVAL_PAIR, 0, text_of(bom, 3), T("1"));
+    put_item(&list, TODRENVAL_PAIR, 0, text_of(bom, 3), T("2"));
+    put_item(&empty, TODRENVAL_PAIR, 0, T(""), T("2"));
+    request.list = text_of_list(&list);
+    check("lines go on", request, TODRENVAL_OK, 0, T("\xef\xbb\xbf=1\n\xef\xbb\xbf=2\n"));
+    request.flags = 0;
+    check("lines begin", request, TODRENVAL_OK, 0, T("\\ufeff=1\n\xef\xbb\xbf=2\n"));
+    request.encoding = TODRENVAL_WINDOWS_1252;
+    request.prefix = T("  ! ");
+    request.separator = T(" ");
+    request.flags = TODRENVAL_GOES_ON | TODRENVAL_CRLF | TODRENVAL_ASCII_ONLY | TODRENVAL_READABLE;
+    check("lines go on, with settings", request, TODRENVAL_OK, 0, T("\\ufeff 1\r\n\\ufeff 2\r\n"));
+    request.list = text_of_list(&empty);
+    refuses("an empty key goes on", request, TODRENVAL_EMPTY_KEY, 0);
+    request.separator = T("x");
+    refuses("a bad separator goes on", request, TODRENVAL_BAD_SEPARATOR, 0);
+    request.prefix = T("x");
+    refuses("a bad prefix goes on", request, TODRENVAL_BAD_PREFIX, 0);
+}
+
+static void try_labels(void) {
+    static char const *const labels[] = {
+        "windows-1252", "utf-8", "utf-16le", "utf-16be", "Latin1", " UTF8\n", "UTF-16", "unicodeFFFE",
+        "\tISO-8859-1 ", "", "latin2", "utf-32", "utf 8", "\xff", "utf-8\x80", "\xc2\xa0utf-8",
+    };
+    static uint32_t const numbers[] = {0, 1, 2, 3, 0, 1, 2, 3, 0, 255, 255, 255, 255, 255, 255, 255};
+    size_t place;
+    for (place = 0; place < sizeof labels / sizeof *labels; place++) {
+        struct text label = copied(text_of(labels[place], strlen(labels[place])));
+        count(todrenval_encoding(label.bytes, label.length) == numbers[place], "its number", labels[place], 0);
+        release(label);
+    }
+    count(todrenval_encoding(NULL, 0) == TODRENVAL_NO_ENCODING, "no encoding", "no label", 0);
+    count(todrenval_encoding((uint8_t const *)"utf-8\0", 6) == TODRENVAL_NO_ENCODING, "no encoding", "a zero byte", 0);
+}
+
+/* Whether the error of a call that takes memory is in a comment. */
+static void sees_comment(char const *name, struct request request, bool wanted) {
+    struct todrenval_result made = make_new(&request);
+    count(made.in_comment == wanted, "in a comment or not", name, -2);
+    free(made.bytes);
+}
+
+/* What the flags of todrenval_items ask for, in each encoding. */
+static void try_item_flags(void) {
+    static char const source[] = "# C:\\users\n\n! \\u00e9 \nk\\u0041 = \\t\\\n  v\n";
+    static uint32_t const encodings[] = {TODRENVAL_WINDOWS_1252, TODRENVAL_UTF_8, TODRENVAL_UTF_16LE,
+                                         TODRENVAL_UTF_16BE};
+    static uint32_t const unknown[] = {1, 2, 8, 16, 512, 1024, 2048, 4096, 68, 324, 0x80000000u, 0xffffffffu};
+    size_t number;
+    for (number = 0; number < 4; number++) {
+        struct packed bytes = {{0}, 0};
+        struct packed pairs = {{0}, 0}, raw_pairs = {{0}, 0}, comments = {{0}, 0}, all_raw = {{0}, 0};
+        struct request request;
+        size_t place;
+        for (place = 0; place < sizeof source - 1; place++) {
+            if (encodings[number] == TODRENVAL_UTF_16BE) {
+                put_byte(&bytes, 0);
+            }
+            put_byte(&bytes, (uint8_t)source[place]);
+            if (encodings[number] == TODRENVAL_UTF_16LE) {
+                put_byte(&bytes, 0);
+            }
+        }
+        request = request_of(ITEMS, text_of_list(&bytes), encodings[number]);
+        put_item(&pairs, TODRENVAL_PAIR, 4, T("kA"), T("\tv"));
+        put_item(&raw_pairs, TODRENVAL_PAIR, 4, T("k\\u0041"), T("\\tv"));
+        put_item(&comments, TODRENVAL_COMMENT, 1, T(""), T("C:\\users"));
+        put_item(&comments, TODRENVAL_COMMENT, 3, T(""), T("\\u00e9"));
+        all_raw = comments;
+        put_item(&comments, TODRENVAL_PAIR, 4, T("kA"), T("\tv"));
+        put_item(&all_raw, TODRENVAL_PAIR, 4, T("k\\u0041"), T("\\tv"));
+        check("items without comments", request, TODRENVAL_OK, 0, text_of_list(&pairs));
+        request.flags = TODRENVAL_RAW;
+        check("raw pairs", request, TODRENVAL_OK, 0, text_of_list(&raw_pairs));
+        request.flags = TODRENVAL_RAW_COMMENTS;
+        check("raw comments", request, TODRENVAL_OK, 0, text_of_list(&comments));
+        request.flags = TODRENVAL_RAW_COMMENTS | TODRENVAL_RAW | TODRENVAL_STRICT;
+        check("raw items", request, TODRENVAL_OK, 0, text_of_list(&all_raw));
+        request.flags = TODRENVAL_READ_COMMENTS;
+        refuses("a comment that is read", request, TODRENVAL_NOT_HEX, 1);
+        sees_comment("a comment that is read", request, true);
+        request.flags = TODRENVAL_READ_COMMENTS | TODRENVAL_RAW;
+        refuses("a comment that is read among raw pairs", request, TODRENVAL_NOT_HEX, 1);
+        sees_comment("a comment that is read among raw pairs", request, true);
+        for (place = 0; place < sizeof unknown / sizeof *unknown; place++) {
+            request.flags = unknown[place];
+            refuses("flags that items don't take", request, TODRENVAL_UNKNOWN_FLAGS, 0);
+        }
+        if (encodings[number] >= TODRENVAL_UTF_16LE) {
+            request.flags = TODRENVAL_SPANS;
+            refuses("spans of UTF-16", request, TODRENVAL_UNSUPPORTED, 0);
+        }
+    }
+    {
+        struct request request = request_of(ITEMS, T("a=1\nb=\\\n  \xff\n"), TODRENVAL_UTF_8);
+        request.flags = TODRENVAL_STRICT;
+        refuses("strict items", request, TODRENVAL_NOT_TEXT, 3);
+        request.flags = TODRENVAL_STRICT | TODRENVAL_SPANS;
+        refuses("strict items with spans", request, TODRENVAL_NOT_TEXT, 3);
+        request.source = T("a=\\u1\n\n\0");
+        refuses("strict items with a zero byte", request, TODRENVAL_NOT_TEXT, 3);
+    }
+}
+
+/* A group with its places, which are its spans up to `next`, and what is wrong in it. */
+static void put_spanned(struct packed *list, unsigned long long kind, unsigned long long line,
+                        unsigned long long const *numbers, struct text key, struct text value) {
+    size_t place;
+    put_number(list, kind + 16);
+    put_number(list, line);
+    put_number(list, key.length);
+    put_number(list, value.length);
+    for (place = 0; place < 12; place++) {
+        put_number(list, numbers[place]);
+    }
+    put_text(list, key);
+    put_text(list, value);
+}
+
+/* All groups of a source, with their places. */
+static void try_spans(void) {
+    static unsigned long long const comment[] = {3, 4, 5, 6, 14, 15, 16, 8, 8, 1, 6, 0};
+    static unsigned long long const blank[] = {16, 18, 18, 18, 18, 18, 20, 0, 0, 0, 0, 0};
+    static unsigned long long const pair[] = {20, 20, 21, 24, 32, 32, 33, 7, 28, 4, 3, 4};
+    static unsigned long long const last[] = {33, 33, 39, 40, 42, 42, 42, 0, 0, 0, 0, 0};
+    static char const source[] = "\xef\xbb\xbf #\tC:\\users \n \t\r\nk : \\\n \xff\\u12\n\\u0041=\\t";
+    struct packed list = {{0}, 0}, raw = {{0}, 0};
+    struct request request = request_of(ITEMS, T(source), TODRENVAL_WINDOWS_1252);
+    struct todrenval_cursor cursor;
+    struct todrenval_item item;
+    struct todrenval_spans spans;
+    size_t place = 3;
+    memset(&spans, 0, sizeof spans);
+    put_spanned(&list, TODRENVAL_COMMENT, 1, comment, T(""), T("C:\\users"));
+    put_spanned(&list, TODRENVAL_BLANK, 2, blank, T(""), T(""));
+    put_spanned(&list, TODRENVAL_PAIR, 3, pair, T("k"), T("\xef\xbf\xbd\\u12"));
+    raw = list;
+    put_spanned(&list, TODRENVAL_PAIR, 5, last, T("A"), T("\t"));
+    put_spanned(&raw, TODRENVAL_PAIR, 5, last, T("\\u0041"), T("\\t"));
+    request.flags = TODRENVAL_SPANS;
+    check("spans", request, TODRENVAL_OK, 0, text_of_list(&list));
+    request.flags = TODRENVAL_SPANS | TODRENVAL_RAW_COMMENTS;
+    check("spans, raw comments", request, TODRENVAL_OK, 0, text_of_list(&list));
+    request.flags = TODRENVAL_SPANS | TODRENVAL_READ_COMMENTS;
+    check("spans, comments read", request, TODRENVAL_OK, 0, text_of_list(&list));
+    request.flags = TODRENVAL_SPANS | TODRENVAL_RAW;
+    check("spans, raw", request, TODRENVAL_OK, 0, text_of_list(&raw));
+    request.source = T("");
+    check("spans of nothing", request, TODRENVAL_OK, 0, T(""));
+
+    /* The cursor gives what was put, group after group. */
+    cursor = todrenval_walk(list.bytes, list.length);
+    while (todrenval_next_spanned(&cursor, &item, &spans)) {
+        count(spans.start == place && spans.start <= spans.key_start && spans.key_start <= spans.key_end &&
+                  spans.key_end <= spans.value_start && spans.value_start <= spans.value_end &&
+                  spans.value_end <= spans.end && spans.end <= spans.next,
+              "in order", "spans", (long)place);
+        if (item.line == 3) {
+            count(item.kind == TODRENVAL_PAIR && spans.flaw == TODRENVAL_NOT_ENOUGH_DIGITS && spans.flaw_start == 28 &&
+                      spans.flaw_line == 4 && spans.flaw_column == 3 && spans.ill_formed == 4,
+                  "what is wrong", "spans", 3);
+        }
+        place = spans.next;
+    }
+    count(place == sizeof source - 1 && cursor.left == 0, "the whole source", "spans", 0);
+    cursor = todrenval_walk(list.bytes, list.length);
+    count(todrenval_next_item(&cursor, &item) && item.kind == TODRENVAL_COMMENT && item.value_length == 8,
+          "the comment", "a cursor of spans", 0);
+    cursor = todrenval_walk(list.bytes, TODRENVAL_RECORD_SIZE + TODRENVAL_SPANS_SIZE - 1);
+    count(!todrenval_next_item(&cursor, &item) && cursor.left > 0, "a record cut short", "a cursor of spans", 0);
+}
+
+/* The last pair with a key in a list. */
+static void try_find(void) {
+    struct packed list = {{0}, 0};
+    struct todrenval_item item;
+    put_item(&list, TODRENVAL_COMMENT, 1, T(""), T("k"));
+    put_item(&list, TODRENVAL_PAIR, 2, T("k"), T("1"));
+    put_item(&list, TODRENVAL_PAIR, 3, T(""), T("2"));
+    put_item(&list, TODRENVAL_PAIR, 4, T("k"), T("3"));
+    put_item(&list, TODRENVAL_PAIR, 5, T("kk"), T("4"));
+    count(todrenval_find(list.bytes, list.length, "k", 1, &item) && item.line == 4, "the last pair", "find", 1);
+    count(todrenval_find(list.bytes, list.length, NULL, 0, &item) && item.line == 3, "the empty key", "find", 0);
+    count(!todrenval_find(list.bytes, list.length, "kkk", 3, &item), "no pair", "find", 3);
+    count(!todrenval_find(NULL, 0, "k", 1, &item), "no pair", "find in nothing", 1);
+}
+
 /* What todrenval_items gives is what todrenval_write takes. */
 static void try_round_trip(void) {
     static char const source[] = "# one\na=1\nb=\\u00e9\n";
     uint8_t list[200], out[200];
     size_t length, written, line;
-    count(todrenval_items((uint8_t const *)source, sizeof source - 1, TODRENVAL_UTF_8, list, sizeof list, &length,
-                           &line) == TODRENVAL_OK,
+    count(todrenval_items((uint8_t const *)source, sizeof source - 1, TODRENVAL_UTF_8, TODRENVAL_READ_COMMENTS, list,
+                           sizeof list, &length, &line) == TODRENVAL_OK,
           "read", "a round trip", 0);
     count(todrenval_write(list, length, TODRENVAL_UTF_8, TODRENVAL_ASCII_ONLY, NULL, 0, NULL, 0, out, sizeof out,
                           &written, &line) == TODRENVAL_OK,
@@ -789,10 +1060,12 @@ static void try_encodings(void) {
 
 /* Flags that there are not, and those that a call has no use for, before a key and a list that are no good. */
 static void try_flags(void) {
-    static enum call const calls[] = {GET, SET_VALUE, SET_KEY, REMOVE_KEY, EDIT, WRITE};
-    static uint32_t const taken[] = {4, 5, 5, 4, 5, 27};
+    static enum call const calls[] = {GET, SET_VALUE, SET_KEY, REMOVE_KEY, EDIT, WRITE, CONVERT};
+    static uint32_t const taken[] = {36, 37, 37, 37, 37, 4123, 34};
     static uint32_t const flags[] = {
-        0, 1, 2, 3, 4, 5, 6, 7, 8, 12, 16, 255, 256, 0x7fffffff, 0x80000000, 0x80000001, 0xffffffff,
+        0,    1,    2,    3,    4,    5,    6,    7,          8,          12,         16,        32,
+        33,   34,   36,   37,   38,   64,   128,  255,        256,        512,        1024,      2048,
+        4096, 4097, 4128, 4160, 5120, 8192, 8196, 0x7fffffff, 0x80000000, 0x80000001, 0x80001000, 0xffffffff,
     };
     size_t place, number;
     for (number = 0; number < sizeof calls / sizeof *calls; number++) {
@@ -800,6 +1073,9 @@ static void try_flags(void) {
             struct request request = request_of(calls[number], T("k=1"), TODRENVAL_UTF_8);
             bool is_list = calls[number] == EDIT || calls[number] == WRITE;
             int status = is_list ? TODRENVAL_BAD_LIST : TODRENVAL_NOT_UTF_8;
+            if (calls[number] == CONVERT && (flags[place] & ~taken[number]) == 0) {
+                continue;
+            }
             request.flags = flags[place];
             request.key = T("\xff");
             request.list = T("x");
@@ -811,13 +1087,6 @@ static void try_flags(void) {
                     0);
         }
     }
-}
-
-/* Whether the error of a call that takes memory is in a comment. */
-static void sees_comment(char const *name, struct request request, bool wanted) {
-    struct todrenval_result made = make_new(&request);
-    count(made.in_comment == wanted, "in a comment or not", name, -2);
-    free(made.bytes);
 }
 
 /* Malformed escapes in comments: passed over, and errors where comments are read. */
@@ -880,10 +1149,10 @@ static void try_comments(void) {
             sees_comment("an escape before a comment", request, false);
         }
     }
-    refuses("items of a comment", request_of(ITEMS, T("# C:\\users"), TODRENVAL_UTF_8), TODRENVAL_NOT_HEX, 1);
-    sees_comment("items of a comment", request_of(ITEMS, T("a\n# C:\\users"), TODRENVAL_UTF_8), true);
-    sees_comment("items of a pair", request_of(ITEMS, T("\\u1\n# C:\\users"), TODRENVAL_UTF_8), false);
-    sees_comment("no error", request_of(ITEMS, T("a\n# C"), TODRENVAL_UTF_8), false);
+    refuses("items of a comment", items_of(T("# C:\\users")), TODRENVAL_NOT_HEX, 1);
+    sees_comment("items of a comment", items_of(T("a\n# C:\\users")), true);
+    sees_comment("items of a pair", items_of(T("\\u1\n# C:\\users")), false);
+    sees_comment("no error", items_of(T("a\n# C")), false);
     refuses("get of none", request_of(GET, T("# C:\\users"), TODRENVAL_UTF_8), TODRENVAL_NO_KEY, 0);
 }
 
@@ -1001,8 +1270,7 @@ static void try_escapes(void) {
         put_item(&list, TODRENVAL_COMMENT, 1, T(""), T("c"));
         put_item(&list, TODRENVAL_PAIR, 2, T("k"), T("1"));
         put_item(&edits, TODRENVAL_EDIT_SET_KEY, 0, T("a"), T("1"));
-        check("items before an escape", request_of(ITEMS, sources[number], TODRENVAL_UTF_8), statuses[number], 4,
-              text_of_list(&list));
+        check("items before an escape", items_of(sources[number]), statuses[number], 4, text_of_list(&list));
         for (place = 0; place < 5; place++) {
             struct request request = request_of(calls[place], sources[number], TODRENVAL_WINDOWS_1252);
             request.list = text_of_list(&edits);
@@ -1077,9 +1345,10 @@ static void try_memory(void) {
     struct packed lines = {{0}, 0};
     struct packed items = {{0}, 0};
     struct packed findings = {{0}, 0};
-    struct packed before = {{0}, 0};
+    struct packed pairs = {{0}, 0};
+    struct packed first, before;
     struct text results[CALLS][2];
-    static uint32_t const all_flags[] = {4, 0, 0, 5, 5, 4, 5, 3, 0};
+    static uint32_t const all_flags[] = {36, 36, 0, 37, 37, 37, 37, 4099, 34};
     int call, flagged;
     put_item(&edits, TODRENVAL_EDIT_SET_KEY, 0, T("a"), T("\xc3\xa9"));
     put_item(&edits, TODRENVAL_EDIT_SET_VALUE, 0, T("k"), T("12"));
@@ -1093,7 +1362,11 @@ static void try_memory(void) {
     put_item(&items, TODRENVAL_PAIR, 3, T("k"), T("2"));
     put_finding(&findings, TODRENVAL_FOUND_REPEATED_KEY, 3, 2, T("k"));
     results[GET][0] = results[GET][1] = T("2");
-    results[ITEMS][0] = results[ITEMS][1] = text_of_list(&items);
+    put_item(&pairs, TODRENVAL_PAIR, 2, T("k"), T("1"));
+    first = pairs;
+    put_item(&pairs, TODRENVAL_PAIR, 3, T("k"), T("2"));
+    results[ITEMS][0] = text_of_list(&pairs);
+    results[ITEMS][1] = text_of_list(&items);
     results[FINDINGS][0] = results[FINDINGS][1] = text_of_list(&findings);
     results[SET_VALUE][0] = results[SET_KEY][0] = T("# c\nk : \\u0031\nk=\xc3\xa9\n");
     results[SET_VALUE][1] = results[SET_KEY][1] = T("# c\nk : \\u0031\nk=\\u00e9\n");
@@ -1116,7 +1389,7 @@ static void try_memory(void) {
             if (call != FINDINGS && call != WRITE && call != CONVERT) {
                 request.source = T("# c\nk = 1\nb=\\u12\n");
                 refuse_each(names[call], request, TODRENVAL_NOT_ENOUGH_DIGITS, 3,
-                            call == ITEMS ? text_of_list(&before) : T(""));
+                            call == ITEMS ? text_of_list(flagged == 1 ? &before : &first) : T(""));
             }
 
             /* Lists that are refused after their first records. */
@@ -1172,17 +1445,18 @@ static void try_words(void) {
         "Malformed \\uxxxx encoding: not hex.",
         "Malformed \\uxxxx encoding: invalid character.",
         "Too many lines.",
-        "Encoding can't be edited.",
+        "The call doesn't take this encoding.",
         "Bad comment prefix.",
         "Bad key/value separator.",
         "Empty key with a blank key/value separator.",
         "Unknown flags.",
+        "The source isn't text in its encoding.",
     };
-    static int const unknown[] = {-2147483647 - 1, -1, TODRENVAL_UNKNOWN_FLAGS + 1, 2147483647};
+    static int const unknown[] = {-2147483647 - 1, -1, TODRENVAL_NOT_TEXT + 1, 2147483647};
     int const known = (int)(sizeof texts / sizeof *texts);
     char reason[TODRENVAL_REASON_ROOM];
     int each;
-    count(known == TODRENVAL_UNKNOWN_FLAGS + 1, "each status", "status_text", known);
+    count(known == TODRENVAL_NOT_TEXT + 1, "each status", "status_text", known);
     for (each = 0; each < known + 4; each++) {
         int status = each < known ? each : unknown[each - known];
         char const *text = each < known ? texts[each] : "Unknown status.";
@@ -1198,11 +1472,17 @@ static void try_words(void) {
 int main(void) {
     try_get();
     try_items();
+    try_item_flags();
+    try_spans();
+    try_find();
     try_findings();
     try_edits();
     try_write();
     try_settings();
     try_convert();
+    try_strict();
+    try_going_on();
+    try_labels();
     try_round_trip();
     try_append();
     try_encodings();

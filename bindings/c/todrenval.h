@@ -19,20 +19,19 @@
  *   the room that is needed, and `out` is as it was. With any other status but TODRENVAL_OK, *length is 0 and `out` is
  *   as it was; but at a malformed escape todrenval_items gives the items before it. Past *length, `out` always is as it
  *   was.
- * - If several errors could be reported, it is the first of these: the encoding, the target or the flags, a key, a
- *   value, a prefix or a separator that isn't UTF-8, the packed list, from its front on, and then the rest.
+ * - If several errors could be reported, it is the first of these: the encoding, the target, the flags, a key, a prefix
+ *   or a separator that isn't UTF-8, the packed list, from its front on, bytes that aren't text, and then the rest.
  *
- * How much room: try four times the length of the source for items, twice its length for a conversion, the length of
- * the list and some more for what is written, and once the length of the source and some more for everything else. If
- * that is too little, the call is to be made again with the room that *length says; it then does all its work again. A
- * call with room for 0 bytes asks for the length.
+ * How much room: try four times the length of the source for items, eight times with spans, twice its length for a
+ * conversion, the length of the list and some more for what is written, and once the length of the source and some more
+ * for everything else. If that is too little, the call is to be made again with the room that *length says; it then
+ * does all its work again. A call with room for 0 bytes asks for the length.
  *
  * The caller's obligations:
  *
  * - A pointer to no bytes may be null. Every other pointer is valid.
  * - `out` has `room` bytes, and they overlap no input, nor *length nor *line; those two are two variables.
  * - Nothing else changes the inputs or uses `out`, *length or *line during the call.
- * - A bool is true or false.
  *
  * The inputs may be any bytes: an invalid source, key or list does no harm and returns an error status.
  *
@@ -57,7 +56,10 @@ extern "C" {
 #endif
 
 /* The interface that this header describes. todrenval_version returns that of the library. */
-#define TODRENVAL_VERSION 3
+#define TODRENVAL_VERSION 4
+
+/* The release that this header came with. It is that of the programs and of the Python package. build.sh sets it. */
+#define TODRENVAL_RELEASE "0"
 
 /* What a call returns. */
 enum todrenval_status {
@@ -72,19 +74,20 @@ enum todrenval_status {
     TODRENVAL_NOT_HEX = 8,           /* one of the four characters after a \u isn't a hexadecimal digit */
     TODRENVAL_INVALID_CHARACTER = 9, /* an escape is a surrogate without its partner */
     TODRENVAL_TOO_MANY_LINES = 10,   /* never comes: no source in memory has so many lines */
-    TODRENVAL_UNSUPPORTED = 11,      /* a source in UTF-16 can't be edited */
+    TODRENVAL_UNSUPPORTED = 11,      /* a source in UTF-16 can't be edited, and its items have no spans */
     TODRENVAL_BAD_PREFIX = 12,       /* todrenval_write: a comment can't begin so */
     TODRENVAL_BAD_SEPARATOR = 13,    /* todrenval_write: a key and a value can't be separated so */
     TODRENVAL_EMPTY_KEY = 14,        /* todrenval_write: an empty key, and blanks alone as the separator */
-    TODRENVAL_UNKNOWN_FLAGS = 15     /* flags that the call doesn't take, or not together */
+    TODRENVAL_UNKNOWN_FLAGS = 15,    /* flags that the call doesn't take, or not together */
+    TODRENVAL_NOT_TEXT = 16          /* with TODRENVAL_STRICT: the bytes of a line aren't text of the encoding */
 };
 
 /* How the bytes of a source are read, and an edit or a list is written. A byte order mark at the front of a source
- * overrides it. Reading fails at no byte: what isn't UTF-8 or UTF-16 is read as U+FFFD. */
+ * overrides it. What isn't UTF-8 or UTF-16 is read as U+FFFD, or refused with TODRENVAL_STRICT. */
 enum todrenval_encoding {
     TODRENVAL_WINDOWS_1252 = 0, /* ISO 8859-1, but for 27 of the bytes from 80 to 9F */
     TODRENVAL_UTF_8 = 1,
-    TODRENVAL_UTF_16LE = 2, /* sources can't be edited; todrenval_write writes UTF-8 */
+    TODRENVAL_UTF_16LE = 2, /* sources can't be edited, nor have spans; todrenval_write writes UTF-8 */
     TODRENVAL_UTF_16BE = 3  /* likewise */
 };
 
@@ -95,33 +98,50 @@ enum todrenval_target {
     TODRENVAL_TO_ASCII = 18 /* reads the same in ISO 8859-1, windows-1252 and UTF-8 */
 };
 
-/* Flags: 0, one of these, or several, as in TODRENVAL_ASCII_ONLY | TODRENVAL_READABLE. A call refuses a flag that it has
- * no use for, and any other bit. */
+/* Flags: 0, one of these, or several, as in TODRENVAL_ASCII_ONLY | TODRENVAL_READABLE. A call refuses a flag that it
+ * has no use for, and any other bit. */
 enum todrenval_flag {
-    /* Each non-ASCII character that is put in is an escape: todrenval_set_value, _set_key, _edit, _write. */
+    /* Each non-ASCII character that is put in is an escape: todrenval_edit, _write. */
     TODRENVAL_ASCII_ONLY = 1,
-    /* Values are written as people write them: todrenval_write. */
+    /* todrenval_write: values are written as people write them. todrenval_convert: an escape of a non-ASCII character
+     * that the target has becomes that character. */
     TODRENVAL_READABLE = 2,
-    /* A malformed escape in a comment is an error too: todrenval_get, _set_value, _set_key, _remove_key, _edit. Without
-     * this flag they pass over comments, as Java does, so a comment may be `# C:\users`. */
+    /* Comments are read: their escapes are resolved, and a malformed one is an error. todrenval_get, _items, _edit.
+     * Without this flag comments are passed over, as in Java, so one may be `# C:\users`. */
     TODRENVAL_READ_COMMENTS = 4,
     /* Lines end in CR LF, or in CR, and not in LF: todrenval_write. It takes one of the two at most. */
     TODRENVAL_CRLF = 8,
-    TODRENVAL_CR = 16
+    TODRENVAL_CR = 16,
+    /* A source whose bytes aren't text of the encoding is refused as TODRENVAL_NOT_TEXT: todrenval_get, _items, _edit,
+     * _convert. A byte 0 isn't text in UTF-8 without a byte order mark: that is how UTF-16 looks when its mark is
+     * missing. *line is the first line with such a byte; or, if there is none, the first one that isn't text. In
+     * windows-1252 every byte is text. */
+    TODRENVAL_STRICT = 32,
+    /* Comments are given as they stand, and nothing in them is an error: todrenval_items, which takes one of this and
+     * TODRENVAL_READ_COMMENTS at most. */
+    TODRENVAL_RAW_COMMENTS = 64,
+    /* Keys and values are given as they stand, with their escapes: todrenval_items. Lines are joined. */
+    TODRENVAL_RAW = 128,
+    /* Every group of lines is given, blank ones too, and with its places: todrenval_items. */
+    TODRENVAL_SPANS = 256,
+    /* Lines were written before those of the list, so none begins a file: todrenval_write. The numbers 512 to 2048 are
+     * kept for sources that come in parts. */
+    TODRENVAL_GOES_ON = 4096
 };
 
 /* What an item of a source is, and a line to write. */
 enum todrenval_item_kind {
     TODRENVAL_COMMENT = 0, /* no key; the value is the text after the # or !, less the blanks at its ends */
-    TODRENVAL_PAIR = 1
+    TODRENVAL_PAIR = 1,
+    TODRENVAL_BLANK = 5 /* with TODRENVAL_SPANS alone: no key and no value. 6 is kept for the end of a part */
 };
 
 /* What an edit does. None of these numbers is that of a kind of item, so a list of items isn't taken for a list of
  * edits. */
 enum todrenval_edit_kind {
-    TODRENVAL_EDIT_SET_KEY = 2,    /* as todrenval_set_key */
-    TODRENVAL_EDIT_REMOVE_KEY = 3, /* as todrenval_remove_key; no value */
-    TODRENVAL_EDIT_SET_VALUE = 4   /* as todrenval_set_value */
+    TODRENVAL_EDIT_SET_KEY = 2,    /* the whole pair becomes `key=value` */
+    TODRENVAL_EDIT_REMOVE_KEY = 3, /* all pairs with the key go; no value */
+    TODRENVAL_EDIT_SET_VALUE = 4   /* the value is set, and the layout of its line kept */
 };
 
 /* What is wrong in a line. */
@@ -139,15 +159,21 @@ enum todrenval_finding_kind {
  *
  *     an item, an edit, a line to write: kind, line, length of the key, length of the value; key; value
  *     a finding:                         kind, line, first, length of the key;               key
+ *     an item with spans:                kind + 16, line, the two lengths; twelve numbers;   key; value
  *
- * A malformed escape has no key, and in the place of `first` it has 1 if it is in a comment, and 0 if it isn't.
+ * A malformed escape has no key, and in the place of `first` it has 1 if it is in a comment, and 0 if it isn't. The
+ * twelve numbers are those of struct todrenval_spans, in its order.
  *
- * Edits and lines to write may have any number as their `line`. So the list that todrenval_items gives can be passed
- * to todrenval_write as it is. todrenval_edit refuses a list of items, and todrenval_write a list of edits, unless
- * it is empty. The functions below walk these lists and make them. */
+ * Edits and lines to write may have any number as their `line`. So the list that todrenval_items gives without spans
+ * can be passed to todrenval_write as it is. todrenval_edit refuses a list of items, and todrenval_write a list of
+ * edits, and both refuse one with spans, unless it is empty. The functions below walk these lists and make them. */
 
-/* The bytes of a record before its texts. */
+/* The bytes of a record before its texts, or before its spans. */
 #define TODRENVAL_RECORD_SIZE 32
+
+/* The bytes of its spans, and what is added to the kind of a record that has them. */
+#define TODRENVAL_SPANS_SIZE 96
+#define TODRENVAL_WITH_SPANS 16
 
 /* An item. Its texts are in the list, and end in no zero byte. */
 struct todrenval_item {
@@ -157,6 +183,22 @@ struct todrenval_item {
     size_t key_length;
     uint8_t const *value;
     size_t value_length;
+};
+
+/* Where a group of lines and its parts are in the source, in bytes from its front, and what is wrong in it. The places
+ * up to `next` don't descend. What is between two of them is: an indent; the key, or the sign of a comment; the
+ * separator; the value, or the text of a comment; blanks after a comment; the line ending. So these are the group, and
+ * the groups after a byte order mark are the source. In a blank group, all that comes before the line ending is indent.
+ *
+ * A backslash, a line ending and blanks that join two lines belong to the part that follows them, so the value of
+ * "a=\\\n b" is at 2. The value of a pair ends where the last line of its group ends, behind a last backslash too. */
+struct todrenval_spans {
+    uint64_t start, key_start, key_end, value_start, value_end, end, next;
+    uint64_t flaw;        /* the status of the first malformed escape of its texts, or 0 */
+    uint64_t flaw_start;  /* where the backslash of that escape is */
+    uint64_t flaw_line;   /* the line that it is in, which may come after the one that the group begins in */
+    uint64_t flaw_column; /* it is this byte of that line, counted from 1 */
+    uint64_t ill_formed;  /* the first line of the group whose bytes aren't text of the encoding, or 0 */
 };
 
 /* A finding. The key of a malformed escape is empty, and its `first` is 0. */
@@ -186,20 +228,29 @@ struct todrenval_list {
  * key, it is the value of the last one. A malformed escape of any pair is an error, even after that pair, and with
  * TODRENVAL_READ_COMMENTS one in a comment is too.
  *
+ * Each call reads the whole source. To look up several keys, make one list of items, and call todrenval_find.
+ *
  * Returns TODRENVAL_OK, _NO_ROOM, _NO_KEY, _NO_MEMORY, _UNKNOWN_ENCODING, _UNKNOWN_FLAGS, _NOT_UTF_8 (of the key),
- * _NOT_ENOUGH_DIGITS, _NOT_HEX or _INVALID_CHARACTER. */
+ * _NOT_TEXT, _NOT_ENOUGH_DIGITS, _NOT_HEX or _INVALID_CHARACTER. */
 int todrenval_get(uint8_t const *source, size_t source_length, uint32_t encoding, uint32_t flags, uint8_t const *key,
                   size_t key_length, uint8_t *out, size_t room, size_t *length, size_t *line);
 
-/* Writes the packed list of all comments and pairs, in order, each with the number of the line that it begins in. Since
- * it gives the texts of comments, a malformed escape in one is an error.
+/* Writes the packed list of all pairs, in order, each with the number of the line that it begins in; and of comments
+ * among them, with TODRENVAL_READ_COMMENTS or TODRENVAL_RAW_COMMENTS.
  *
- * At a malformed escape `out` gets the items before it, *length is how many bytes they take, and *line is the line with
- * the escape. (If the room is too small for these items, it returns _NO_ROOM instead.)
+ * At a malformed escape `out` gets the items before it, *length is how many bytes they take, and *line is the number of
+ * the line that the pair or comment with the escape begins in. (If the room is too small for these items, it returns
+ * _NO_ROOM instead.) Keys and values that are given as they stand have no such error, nor have comments that are given
+ * so or passed over.
  *
- * Returns TODRENVAL_OK, _NO_ROOM, _NO_MEMORY, _UNKNOWN_ENCODING, _NOT_ENOUGH_DIGITS, _NOT_HEX or _INVALID_CHARACTER. */
-int todrenval_items(uint8_t const *source, size_t source_length, uint32_t encoding, uint8_t *out, size_t room,
-                    size_t *length, size_t *line);
+ * With TODRENVAL_SPANS all groups of lines come, each with its spans: blank ones, comments and pairs. No malformed
+ * escape is an error then: the spans of its group say it, and the texts of that group are given as they stand. The
+ * texts of comments are given as they stand, unless TODRENVAL_READ_COMMENTS resolves them.
+ *
+ * Returns TODRENVAL_OK, _NO_ROOM, _NO_MEMORY, _UNKNOWN_ENCODING, _UNKNOWN_FLAGS, _NOT_TEXT, _NOT_ENOUGH_DIGITS,
+ * _NOT_HEX, _INVALID_CHARACTER or _UNSUPPORTED (of UTF-16 with spans). */
+int todrenval_items(uint8_t const *source, size_t source_length, uint32_t encoding, uint32_t flags, uint8_t *out,
+                    size_t room, size_t *length, size_t *line);
 
 /* Writes the packed list of what is wrong: first the malformed escapes, of each logical line the first one, in the
  * order of the lines, and then the pairs whose key an earlier pair has, in that order too. Pairs with a malformed
@@ -213,63 +264,49 @@ int todrenval_items(uint8_t const *source, size_t source_length, uint32_t encodi
 int todrenval_findings(uint8_t const *source, size_t source_length, uint32_t encoding, uint8_t *out, size_t room,
                        size_t *length, size_t *line);
 
-/* Writes the source with the value of a key set. The last pair with the key gets the value, and keeps its indent, the
- * spelling of its key, its separator and its line ending. If no pair has the key, one is added at the end, with the
- * separator of the last pair and the last line ending of the source, but with no indent. Every other line stays as it
- * is, but for a line ending that a new pair needs before it.
+/* Writes the source after a packed list of edits, in order: each edit is made to what the one before it gave.
+ * todrenval_push makes such a list, and todrenval_set_value_new, _set_key_new and _remove_key_new make one edit.
+ *
+ * TODRENVAL_EDIT_SET_VALUE: the last pair with the key gets the value, and keeps its indent, the spelling of its key,
+ * its separator and its line ending. If no pair has the key, one is added at the end, with the separator of the last
+ * pair and the last line ending of the source, but with no indent.
+ *
+ * TODRENVAL_EDIT_SET_KEY: the same, but `key=value` replaces the whole pair, or is added.
+ *
+ * TODRENVAL_EDIT_REMOVE_KEY: the pairs with the key go, of which there may be none. If what is left would begin like a
+ * byte order mark, a line feed comes first.
+ *
+ * Every other line stays as it is, but for a line ending that a new pair needs before it.
  *
  * With TODRENVAL_ASCII_ONLY, what is new is written in ASCII only, with an escape for each other character. Without
- * it, a non-ASCII character is an escape only if the encoding lacks it, or if it is the first one of a key at the
+ * it, a non-ASCII character is an escape only if it isn't in the encoding, or if it is the first one of a key at the
  * front of the source that would begin like a byte order mark.
  *
  * A malformed escape of any pair is an error, and with TODRENVAL_READ_COMMENTS one in a comment is too.
  *
- * Returns TODRENVAL_OK, _NO_ROOM, _NO_MEMORY, _UNKNOWN_ENCODING, _UNKNOWN_FLAGS, _NOT_UTF_8 (of key or value),
- * _NOT_ENOUGH_DIGITS, _NOT_HEX, _INVALID_CHARACTER (of these the first in the source that counts) or _UNSUPPORTED. */
-int todrenval_set_value(uint8_t const *source, size_t source_length, uint32_t encoding, uint32_t flags,
-                        uint8_t const *key, size_t key_length, uint8_t const *value, size_t value_length, uint8_t *out,
-                        size_t room, size_t *length, size_t *line);
-
-/* Sets a key as todrenval_set_value does, but replaces the whole last pair with the key by `key=value`, or adds that
- * pair at the end.
+ * A list takes little more time than one edit: the edits are made together.
  *
- * Returns what todrenval_set_value returns. */
-int todrenval_set_key(uint8_t const *source, size_t source_length, uint32_t encoding, uint32_t flags,
-                      uint8_t const *key, size_t key_length, uint8_t const *value, size_t value_length, uint8_t *out,
-                      size_t room, size_t *length, size_t *line);
-
-/* Writes the source without the pairs that have the key, which may be none. Every other line stays as it is; but if
- * what is left would begin like a byte order mark, a line feed comes first. Of the flags it takes
- * TODRENVAL_READ_COMMENTS alone, since it puts in no text.
- *
- * Returns what todrenval_set_value returns. */
-int todrenval_remove_key(uint8_t const *source, size_t source_length, uint32_t encoding, uint32_t flags,
-                         uint8_t const *key, size_t key_length, uint8_t *out, size_t room, size_t *length,
-                         size_t *line);
-
-/* Writes the source after a packed list of edits, in order: each edit is made to what the one before it gave.
- * todrenval_push makes such a list. It takes time in the number of the edits times the size of the source: 5,000 edits
- * of 5,000 pairs take a tenth of a second, and 20,000 of 20,000 take two. For many more, read all items and write them
- * anew, if no layout is to be kept.
- *
- * Returns what todrenval_set_value returns (_NOT_UTF_8 of a key or a value of the list), or TODRENVAL_BAD_LIST: a
- * record is cut short, has a kind that no edit has, such as that of an item, or removes a key and has a value. */
+ * Returns TODRENVAL_OK, _NO_ROOM, _NO_MEMORY, _UNKNOWN_ENCODING, _UNKNOWN_FLAGS, _NOT_UTF_8 (of a key or a value of
+ * the list), _BAD_LIST, _NOT_TEXT, _NOT_ENOUGH_DIGITS, _NOT_HEX, _INVALID_CHARACTER (of these the first in the source
+ * that counts) or _UNSUPPORTED. A list is bad if a record is cut short, has a kind that no edit has, such as that of an
+ * item, or removes a key and has a value. */
 int todrenval_edit(uint8_t const *source, size_t source_length, uint32_t encoding, uint32_t flags, uint8_t const *edits,
                    size_t edits_length, uint8_t *out, size_t room, size_t *length, size_t *line);
 
 /* Writes the source in another encoding. All else stays as it is: comments, blank lines, layout, line endings, and what
  * each key, value and comment means.
  *
- * A non-ASCII character that the target lacks becomes an escape. Each other character and each escape stays as it is
- * written; but if `readable` is true, a non-ASCII character that the target has becomes itself. Escapes of ASCII
+ * A non-ASCII character that isn't in the target becomes an escape. Each other character and each escape stays as it is
+ * written; but with TODRENVAL_READABLE, a non-ASCII character that the target has becomes itself. Escapes of ASCII
  * characters stay in each case.
  *
- * A byte order mark is dropped. What isn't text of the encoding becomes U+FFFD, as it reads. A malformed escape is no
- * error: it stays malformed, in the same line. If the result would begin like a byte order mark, its first character is
- * an escape. The result is never longer than six times the source.
+ * A byte order mark is dropped. What isn't text of the encoding becomes U+FFFD, as it reads, or is refused with
+ * TODRENVAL_STRICT. A malformed escape is no error: it stays malformed, in the same line. If the result would begin
+ * like a byte order mark, its first character is an escape. The result is never longer than six times the source.
  *
- * Returns TODRENVAL_OK, _NO_ROOM, _NO_MEMORY or _UNKNOWN_ENCODING (of `encoding` or `target`). */
-int todrenval_convert(uint8_t const *source, size_t source_length, uint32_t encoding, uint32_t target, bool readable,
+ * Returns TODRENVAL_OK, _NO_ROOM, _NO_MEMORY, _UNKNOWN_ENCODING (of `encoding` or `target`), _UNKNOWN_FLAGS or
+ * _NOT_TEXT. */
+int todrenval_convert(uint8_t const *source, size_t source_length, uint32_t encoding, uint32_t target, uint32_t flags,
                       uint8_t *out, size_t room, size_t *length, size_t *line);
 
 /* Writes a packed list of comments and pairs as a file, a line each. It reads back as the same pairs, and as the same
@@ -281,10 +318,13 @@ int todrenval_convert(uint8_t const *source, size_t source_length, uint32_t enco
  * the prefix has a backslash, what is read back of comments may differ.
  *
  * With TODRENVAL_ASCII_ONLY, each non-ASCII character is an escape; without it, it is one where it is in
- * todrenval_set_value. Without TODRENVAL_READABLE, each space, `=`, `:`, `#` and `!` of a value gets a backslash. With
- * it, values are written as todrenval_set_value writes them: a space at the end is \u0020, even if it is the whole
+ * todrenval_edit. Without TODRENVAL_READABLE, each space, `=`, `:`, `#` and `!` of a value gets a backslash. With it,
+ * values are written as TODRENVAL_EDIT_SET_VALUE writes them: a space at the end is \u0020, even if it is the whole
  * value, one at the front gets a backslash, and all others of these are as they are. Keys are written alike in both. A
- * prefix is written as it is, but for characters that the encoding lacks.
+ * prefix is written as it is, but for characters that aren't in the encoding.
+ *
+ * If the first line would begin like a byte order mark, it gets an escape, but not with TODRENVAL_GOES_ON. So a list
+ * can be written in parts, each with that flag but the first.
  *
  * Returns TODRENVAL_OK, _NO_ROOM, _NO_MEMORY, _UNKNOWN_ENCODING, _UNKNOWN_FLAGS, _NOT_UTF_8, _BAD_LIST, _BAD_PREFIX,
  * _BAD_SEPARATOR or _EMPTY_KEY. A list is bad if a record is cut short, has a kind that no item has, such as that of an
@@ -300,10 +340,15 @@ int todrenval_write(uint8_t const *list, size_t list_length, uint32_t encoding, 
  * Returns TODRENVAL_OK or _NO_ROOM. */
 int todrenval_status_text(int status, uint8_t *out, size_t room, size_t *length, size_t *line);
 
+/* Returns the number of the encoding that a label means in the WHATWG Encoding Standard, such as "utf8" or "Latin1", or
+ * TODRENVAL_NO_ENCODING if it means none of enum todrenval_encoding. */
+#define TODRENVAL_NO_ENCODING 255
+uint32_t todrenval_encoding(uint8_t const *label, size_t label_length);
+
 /* Returns the version of the interface that the library has: TODRENVAL_VERSION, if the header fits. */
 uint32_t todrenval_version(void);
 
-/* Returns whether this processor has the features of x86-64-v2, which the library was built for. On one that lacks them
+/* Returns whether this processor has the features of x86-64-v2, which the library was built for. On one without them
  * the calls above may end the program by an illegal instruction. This one runs everywhere. */
 static inline bool todrenval_runs_here(void) {
 #ifdef __x86_64__
@@ -329,21 +374,16 @@ static inline char const *todrenval_reason(int status, char *reason) {
     return reason;
 }
 
-/* The number in eight bytes, and the bytes of a number. Only the functions below need them. */
+/* The number in eight bytes, and the bytes of a number. The low byte comes first, as the processor has it that the
+ * library is for. Only the functions below need them. */
 static inline uint64_t todrenval_number_at(uint8_t const *bytes) {
-    uint64_t number = 0;
-    int place;
-    for (place = 7; place >= 0; place--) {
-        number = number << 8 | bytes[place];
-    }
+    uint64_t number;
+    memcpy(&number, bytes, sizeof number);
     return number;
 }
 
 static inline void todrenval_put_number(uint8_t *bytes, uint64_t number) {
-    int place;
-    for (place = 0; place < 8; place++) {
-        bytes[place] = TODRENVAL_CAST(uint8_t, number >> (8 * place) & 0xff);
-    }
+    memcpy(bytes, &number, sizeof number);
 }
 
 /* Returns a cursor at the front of a list. */
@@ -354,28 +394,79 @@ static inline struct todrenval_cursor todrenval_walk(void const *list, size_t le
     return cursor;
 }
 
+/* Sets spans to the numbers of a record that has them. Only the next function needs this. */
+static inline void todrenval_spans_at(uint8_t const *numbers, struct todrenval_spans *spans) {
+    spans->start = todrenval_number_at(numbers);
+    spans->key_start = todrenval_number_at(numbers + 8);
+    spans->key_end = todrenval_number_at(numbers + 16);
+    spans->value_start = todrenval_number_at(numbers + 24);
+    spans->value_end = todrenval_number_at(numbers + 32);
+    spans->end = todrenval_number_at(numbers + 40);
+    spans->next = todrenval_number_at(numbers + 48);
+    spans->flaw = todrenval_number_at(numbers + 56);
+    spans->flaw_start = todrenval_number_at(numbers + 64);
+    spans->flaw_line = todrenval_number_at(numbers + 72);
+    spans->flaw_column = todrenval_number_at(numbers + 80);
+    spans->ill_formed = todrenval_number_at(numbers + 88);
+}
+
 /* Goes to the next item of a list, or edit, and returns true; or returns false, at the end of the list. It also
- * returns false if what is left isn't a whole record: `left` isn't 0 then. That can't be in a list that a call gave. */
-static inline bool todrenval_next_item(struct todrenval_cursor *cursor, struct todrenval_item *item) {
-    size_t key_length, value_length, texts;
+ * returns false if what is left isn't a whole record: `left` isn't 0 then. That can't be in a list that a call gave.
+ * The kind of the item is one of enum todrenval_item_kind. `spans` is set if the record has spans, and may be null. */
+static inline bool todrenval_next_spanned(struct todrenval_cursor *cursor, struct todrenval_item *item,
+                                          struct todrenval_spans *spans) {
+    size_t key_length, value_length, texts, front = TODRENVAL_RECORD_SIZE;
+    uint64_t kind;
     if (cursor->left < TODRENVAL_RECORD_SIZE) {
         return false;
     }
-    texts = cursor->left - TODRENVAL_RECORD_SIZE;
+    kind = todrenval_number_at(cursor->next);
+    if (kind >= TODRENVAL_WITH_SPANS) {
+        kind -= TODRENVAL_WITH_SPANS;
+        front += TODRENVAL_SPANS_SIZE;
+        if (cursor->left < front) {
+            return false;
+        }
+        if (spans != NULL) {
+            todrenval_spans_at(cursor->next + TODRENVAL_RECORD_SIZE, spans);
+        }
+    }
+    texts = cursor->left - front;
     key_length = todrenval_number_at(cursor->next + 16);
     value_length = todrenval_number_at(cursor->next + 24);
     if (key_length > texts || value_length > texts - key_length) {
         return false;
     }
-    item->kind = todrenval_number_at(cursor->next);
+    item->kind = kind;
     item->line = todrenval_number_at(cursor->next + 8);
-    item->key = cursor->next + TODRENVAL_RECORD_SIZE;
+    item->key = cursor->next + front;
     item->key_length = key_length;
     item->value = item->key + key_length;
     item->value_length = value_length;
     cursor->next = item->value + value_length;
     cursor->left = texts - key_length - value_length;
     return true;
+}
+
+static inline bool todrenval_next_item(struct todrenval_cursor *cursor, struct todrenval_item *item) {
+    return todrenval_next_spanned(cursor, item, NULL);
+}
+
+/* Sets *item to the last pair with this key in a list of items, as todrenval_get finds it in a source, and returns
+ * true; or returns false: no pair has it. It walks through the whole list, so put thousands of keys into a map. */
+static inline bool todrenval_find(void const *list, size_t length, void const *key, size_t key_length,
+                                  struct todrenval_item *item) {
+    struct todrenval_cursor cursor = todrenval_walk(list, length);
+    struct todrenval_item next;
+    bool found = false;
+    while (todrenval_next_item(&cursor, &next)) {
+        if (next.kind == TODRENVAL_PAIR && next.key_length == key_length &&
+            (key_length == 0 || memcmp(next.key, key, key_length) == 0)) {
+            *item = next;
+            found = true;
+        }
+    }
+    return found;
 }
 
 /* Goes to the next finding of a list, as todrenval_next_item goes to the next item. */
@@ -534,14 +625,21 @@ static inline void todrenval_see_comment(struct todrenval_result *result, void c
     free(findings.bytes);
 }
 
-static inline struct todrenval_result todrenval_items_new(void const *source, size_t source_length, uint32_t encoding) {
+static inline struct todrenval_result todrenval_items_new(void const *source, size_t source_length, uint32_t encoding,
+                                                          uint32_t flags) {
     size_t room;
-    struct todrenval_result result = todrenval_try_room(4 * source_length);
+    struct todrenval_result result = todrenval_try_room((flags & TODRENVAL_SPANS ? 8 : 4) * source_length);
     while (todrenval_make_room(&result, &room)) {
-        result.status = todrenval_items(todrenval_in(source), source_length, encoding, todrenval_out(&result), room,
-                                        &result.length, &result.line);
+        result.status = todrenval_items(todrenval_in(source), source_length, encoding, flags, todrenval_out(&result),
+                                        room, &result.length, &result.line);
     }
-    todrenval_see_comment(&result, source, source_length, encoding);
+    if (flags & TODRENVAL_RAW) {
+        /* Escapes are read in comments alone. */
+        result.in_comment =
+            result.status >= TODRENVAL_NOT_ENOUGH_DIGITS && result.status <= TODRENVAL_INVALID_CHARACTER;
+    } else if (flags & TODRENVAL_READ_COMMENTS) {
+        todrenval_see_comment(&result, source, source_length, encoding);
+    }
     return result;
 }
 
@@ -552,54 +650,6 @@ static inline struct todrenval_result todrenval_get_new(void const *source, size
     while (todrenval_make_room(&result, &room)) {
         result.status = todrenval_get(todrenval_in(source), source_length, encoding, flags, todrenval_in(key),
                                       key_length, todrenval_out(&result), room, &result.length, &result.line);
-    }
-    if (flags & TODRENVAL_READ_COMMENTS) {
-        todrenval_see_comment(&result, source, source_length, encoding);
-    }
-    return result;
-}
-
-static inline struct todrenval_result todrenval_set_value_new(void const *source, size_t source_length,
-                                                              uint32_t encoding, uint32_t flags, void const *key,
-                                                              size_t key_length, void const *value,
-                                                              size_t value_length) {
-    size_t room;
-    struct todrenval_result result = todrenval_try_room(source_length + key_length + value_length + 100);
-    while (todrenval_make_room(&result, &room)) {
-        result.status = todrenval_set_value(todrenval_in(source), source_length, encoding, flags, todrenval_in(key),
-                                            key_length, todrenval_in(value), value_length, todrenval_out(&result), room,
-                                            &result.length, &result.line);
-    }
-    if (flags & TODRENVAL_READ_COMMENTS) {
-        todrenval_see_comment(&result, source, source_length, encoding);
-    }
-    return result;
-}
-
-static inline struct todrenval_result todrenval_set_key_new(void const *source, size_t source_length, uint32_t encoding,
-                                                            uint32_t flags, void const *key, size_t key_length,
-                                                            void const *value, size_t value_length) {
-    size_t room;
-    struct todrenval_result result = todrenval_try_room(source_length + key_length + value_length + 100);
-    while (todrenval_make_room(&result, &room)) {
-        result.status = todrenval_set_key(todrenval_in(source), source_length, encoding, flags, todrenval_in(key),
-                                          key_length, todrenval_in(value), value_length, todrenval_out(&result), room,
-                                          &result.length, &result.line);
-    }
-    if (flags & TODRENVAL_READ_COMMENTS) {
-        todrenval_see_comment(&result, source, source_length, encoding);
-    }
-    return result;
-}
-
-static inline struct todrenval_result todrenval_remove_key_new(void const *source, size_t source_length,
-                                                               uint32_t encoding, uint32_t flags, void const *key,
-                                                               size_t key_length) {
-    size_t room;
-    struct todrenval_result result = todrenval_try_room(source_length + 1);
-    while (todrenval_make_room(&result, &room)) {
-        result.status = todrenval_remove_key(todrenval_in(source), source_length, encoding, flags, todrenval_in(key),
-                                             key_length, todrenval_out(&result), room, &result.length, &result.line);
     }
     if (flags & TODRENVAL_READ_COMMENTS) {
         todrenval_see_comment(&result, source, source_length, encoding);
@@ -621,12 +671,52 @@ static inline struct todrenval_result todrenval_edit_new(void const *source, siz
     return result;
 }
 
+/* Makes one edit. Only the next three functions need this. */
+static inline struct todrenval_result todrenval_edit_one(void const *source, size_t source_length, uint32_t encoding,
+                                                         uint32_t flags, uint64_t kind, void const *key,
+                                                         size_t key_length, void const *value, size_t value_length) {
+    struct todrenval_list list = {NULL, 0, 0};
+    struct todrenval_result result = todrenval_try_room(0);
+    if (todrenval_push(&list, kind, key, key_length, value, value_length)) {
+        result = todrenval_edit_new(source, source_length, encoding, flags, list.bytes, list.length);
+    } else {
+        result.status = TODRENVAL_NO_MEMORY;
+    }
+    free(list.bytes);
+    return result;
+}
+
+/* Makes the edit TODRENVAL_EDIT_SET_VALUE. */
+static inline struct todrenval_result todrenval_set_value_new(void const *source, size_t source_length,
+                                                              uint32_t encoding, uint32_t flags, void const *key,
+                                                              size_t key_length, void const *value,
+                                                              size_t value_length) {
+    return todrenval_edit_one(source, source_length, encoding, flags, TODRENVAL_EDIT_SET_VALUE, key, key_length, value,
+                              value_length);
+}
+
+/* Makes the edit TODRENVAL_EDIT_SET_KEY. */
+static inline struct todrenval_result todrenval_set_key_new(void const *source, size_t source_length, uint32_t encoding,
+                                                            uint32_t flags, void const *key, size_t key_length,
+                                                            void const *value, size_t value_length) {
+    return todrenval_edit_one(source, source_length, encoding, flags, TODRENVAL_EDIT_SET_KEY, key, key_length, value,
+                              value_length);
+}
+
+/* Makes the edit TODRENVAL_EDIT_REMOVE_KEY. */
+static inline struct todrenval_result todrenval_remove_key_new(void const *source, size_t source_length,
+                                                               uint32_t encoding, uint32_t flags, void const *key,
+                                                               size_t key_length) {
+    return todrenval_edit_one(source, source_length, encoding, flags, TODRENVAL_EDIT_REMOVE_KEY, key, key_length, NULL,
+                              0);
+}
+
 static inline struct todrenval_result todrenval_convert_new(void const *source, size_t source_length, uint32_t encoding,
-                                                            uint32_t target, bool readable) {
+                                                            uint32_t target, uint32_t flags) {
     size_t room;
     struct todrenval_result result = todrenval_try_room(2 * source_length);
     while (todrenval_make_room(&result, &room)) {
-        result.status = todrenval_convert(todrenval_in(source), source_length, encoding, target, readable,
+        result.status = todrenval_convert(todrenval_in(source), source_length, encoding, target, flags,
                                           todrenval_out(&result), room, &result.length, &result.line);
     }
     return result;

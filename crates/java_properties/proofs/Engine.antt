@@ -45,15 +45,16 @@ ending_bytes w = encoded_text (line_of w.encoding) (line_ending_text w.settings.
 -- ---- what a line can contain without escapes
 
 -- a repertoire that has all of an encoding
-repertoire-by : (to : Repertoire) (e : LineEncoding) → (in_format to).encoding ≡ line_of e → (in_format to).ascii_only ≡ false → to ≡ repertoire_in false e
+repertoire-by : (to : Repertoire) (e : LineEncoding) → (in_format to).encoding ≡ line_of e → (in_format to).characters ≡ meant.all_characters → to ≡ repertoire_in false e
 repertoire-by repertoire.Windows1252 line.Windows1252 same h = refl
 repertoire-by repertoire.Windows1252 line.Utf8 same h = absurd (cc)
 repertoire-by repertoire.Utf8 line.Windows1252 same h = absurd (cc)
 repertoire-by repertoire.Utf8 line.Utf8 same h = refl
+repertoire-by repertoire.Latin1 e same h = absurd (cc)
 repertoire-by repertoire.Ascii e same h = absurd (cc)
 
 pub repertoire-of : (to : Repertoire) (e : LineEncoding) → in_format to ≡ meant.all_of (line_of e) → to ≡ repertoire_in false e
-repertoire-of to e same = repertoire-by to e (ap (λ (r : meant.Repertoire). r.encoding) same) (ap (λ (r : meant.Repertoire). r.ascii_only) same)
+repertoire-of to e same = repertoire-by to e (ap (λ (r : meant.Repertoire). r.encoding) same) (ap (λ (r : meant.Repertoire). r.characters) same)
 
 -- ASCII only is the same bytes in each encoding
 alike : (e : Encoding) (x y : List ℕ) → AreAscii x → AreAscii y → x ≡ y → encoded_text utf_8 x ≡ encoded_text e y

@@ -116,6 +116,25 @@ const CHECK: &[Row] = &[
           standard input:3: repeats the key of line 1\n",
     ),
     ("-e windows-1252 check", b"# \xc3\xa9\n# \xc3\n", 0, b""),
+    // Bytes that Java reads as other characters, once for each line.
+    (
+        "-e iso-8859-1 check",
+        b"# \x80 \xa0\r\na=\xe9\x81\\\n  \x9f\x80\x9f\na=\x8d\x8f\x90\x9d\n",
+        1,
+        b"standard input:1: byte 80 is '\\u20ac' in windows-1252 and U+0080 to Java\n\
+          standard input:3: byte 80 is '\\u20ac' in windows-1252 and U+0080 to Java\n\
+          standard input:3: byte 9F is '\\u0178' in windows-1252 and U+009F to Java\n\
+          standard input:4: repeats the key of line 2\n",
+    ),
+    ("-e L1 check", b"a=\xe9\x81", 0, b""),
+    ("-e CP1252 check", b"a=\x80", 0, b""),
+    ("-e latin1 check", b"\xef\xbb\xbfa=\xe2\x82\xac", 0, b""),
+    (
+        "-e latin1 -a check",
+        b"a=\x80",
+        1,
+        b"standard input:1: has a non-ASCII character\n",
+    ),
     (
         "-e latin1 -a check",
         b"a=1\nb=\xc3\xa9\nc=\xc3\xa9\n",

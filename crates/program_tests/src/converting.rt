@@ -59,6 +59,19 @@ const TO_OTHERS: &[Row] = &[
         0,
         b"a = \xe9 \x80 \\u3042 \\u3042",
     ),
+    // Only what Java reads alike stays, and so do escapes.
+    (
+        "convert iso-8859-1",
+        b"# \xc2\xa0\xc3\xbf \xc2\x80\xc2\x9f\na = \xc3\xa9 \xe2\x82\xac \\u00e9",
+        0,
+        b"# \xa0\xff \\u0080\\u009f\na = \xe9 \\u20ac \\u00e9",
+    ),
+    (
+        "-e iso-8859-1 convert ISO-8859-1",
+        b"a=\x80\xe9\x81",
+        0,
+        b"a=\\u20ac\xe9\\u0081",
+    ),
     (
         "-f x -e utf-16le convert utf-8",
         b"a\0=\0\xac\x20",
@@ -122,6 +135,12 @@ const READABLE: &[Row] = &[
         b"k=\\u3042\xe9\x80",
     ),
     ("-r convert ascii", b"k=\\u00E9", 0, b"k=\\u00E9"),
+    (
+        "-r convert iso-8859-1",
+        b"k=\\u00E9\\u0080\\u20ac\\u00a0",
+        0,
+        b"k=\xe9\\u0080\\u20ac\xa0",
+    ),
 ];
 
 #[test]

@@ -69,6 +69,19 @@ const EDITS: &[Row] = &[
         b"# \xe9\nb : \xe9\n\\u00e9 : \\u20ac\n",
     ),
     ("-a remove b set a \u{e9}", b"a=1\nb=2\n", 0, b"a=\\u00e9\n"),
+    // In ISO 8859-1, what Java would read otherwise is put in as escapes, and what is there stays.
+    (
+        "-e iso-8859-1 set \u{e9} '\u{a0}\u{ff} \u{20ac}\u{80}\u{9f} \u{1f41e}'",
+        b"# \x80\xe9\nb : \x9f\n",
+        0,
+        b"# \x80\xe9\nb : \x9f\n\xe9 : \xa0\xff \\u20ac\\u0080\\u009f \\ud83d\\udc1e\n",
+    ),
+    (
+        "-e Latin1 set a \u{e0}",
+        b"\xef\xbb\xbfa=\xc3\xa9\n",
+        0,
+        b"\xef\xbb\xbfa=\\u00e0\n",
+    ),
 ];
 
 #[test]

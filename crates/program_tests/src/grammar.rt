@@ -44,6 +44,9 @@ const PLACES: &[Placed] = &[
     ("--in-place x", "remove a", b"", 3, b""),
     ("-ix", "convert ascii", b"", 3, b""),
     ("--create -i x", "set a 1", b"", 3, b""),
+    ("-v -i x", "set a 1", b"", 3, b""),
+    ("--verbose -i x", "remove a", b"", 3, b""),
+    ("-xvi x", "remove a set b 1", b"", 3, b""),
     ("-i x --create", "remove a", b"", 3, b""),
     ("-d 80", "get port", b"", 0, b"80\n"),
     ("--default -z", "get a b", b"a=1", 0, b"1\n-z\n"),
@@ -70,7 +73,7 @@ const PLACES: &[Placed] = &[
         0,
         b"a=\xc3\xa9",
     ),
-    ("-V", "get a", b"", 0, b"propedit 1.15.0\n"),
+    ("-V", "get a", b"", 0, b"propedit 1.16.0\n"),
 ];
 
 #[test]
@@ -86,6 +89,8 @@ const BOTH_PLACES: &[Row] = &[
     ("-i x set -e latin1 -x -- -a 1", b"", 3, b""),
     ("-a set -x a \u{e9}", b"a=1", 0, b"a=\\u00e9"),
     ("-i x convert -r utf-8", b"", 3, b""),
+    ("-v set -i x a 1", b"", 3, b""),
+    ("-i x remove -v a", b"", 3, b""),
 ];
 
 // With `-x`, before the command or after it. No pair has the key.
@@ -160,7 +165,7 @@ const PAGE: &[u8] = b"Prints the value of each key\n\n\
     Usage: propedit get [OPTION ..] KEY ..\n\n\
     Options:\n\
     \x20 -f, --file FILE       Reads FILE instead of standard input\n\
-    \x20 -e, --encoding NAME   utf-8 (the default), windows-1252, utf-16le or utf-16be\n\
+    \x20 -e, --encoding NAME   utf-8 (default), iso-8859-1, windows-1252, utf-16le/be\n\
     \x20 -d, --default VALUE   What get prints if no pair has a KEY, with status 0\n\
     \x20 -z, --null            Ends each text of get and list with a zero byte\n\
     \x20 -h, --help            Prints this\n\

@@ -257,6 +257,62 @@ const EDITS: &[(&str, &[u8], &[u8])] = &[
     ("-i 'no such file' --create remove a", b"a=1", b"a=1"),
 ];
 
+// The words, what the file has before the edit, and what it has then, and what is said of it.
+const SAID: &[(&str, &[u8], &[u8], &str)] = &[
+    (
+        "-i edited.properties -v set a 3",
+        b"# x\na : 1\nb = 2",
+        b"# x\na : 3\nb = 2",
+        "1 pair changed, 0 added, 0 removed",
+    ),
+    (
+        "-v -i edited.properties set a 3 set b 3 set c 1 remove d remove e",
+        b"a=1\nb=2\nd=3\nf=4\n",
+        b"a=3\nb=3\nf=4\nc=1\n",
+        "2 pairs changed, 1 added, 1 removed",
+    ),
+    // No byte changes.
+    (
+        "set --verbose -i edited.properties a 3 remove b",
+        b"# x\na=\\u0033",
+        b"# x\na=\\u0033",
+        "unchanged",
+    ),
+    ("remove -v -i edited.properties a", b"", b"", "unchanged"),
+    // What counts are the pairs of the file before and after all edits, and of each key the last one.
+    (
+        "remove -xvi edited.properties a set a 1",
+        b"a=1\nb=2\n",
+        b"b=2\na=1\n",
+        "0 pairs changed, 0 added, 0 removed",
+    ),
+    (
+        "set -vi edited.properties c 1 remove c remove a",
+        b"a=1\nb=2\na=3\n",
+        b"b=2\n",
+        "0 pairs changed, 0 added, 1 removed",
+    ),
+    (
+        "set -vi edited.properties a 1",
+        b"a=1\n\\u0061=2\n",
+        b"a=1\n\\u0061=1\n",
+        "1 pair changed, 0 added, 0 removed",
+    ),
+    // Comments are passed over, and a byte order mark and the encoding are those of the file.
+    (
+        "set -vi edited.properties c \u{e9}",
+        b"\xef\xbb\xbf# C:\\users\nb=2\n",
+        b"\xef\xbb\xbf# C:\\users\nb=2\nc=\xc3\xa9\n",
+        "0 pairs changed, 1 added, 0 removed",
+    ),
+    (
+        "set -e latin1 -vi edited.properties \u{e9} 1",
+        b"\xe9=2\n\xe8=2\n",
+        b"\xe9=1\n\xe8=2\n",
+        "1 pair changed, 0 added, 0 removed",
+    ),
+];
+
 // The words, what the file has before and after them, the status, and the error.
 const REFUSED: &[(&str, &[u8], u8, &str)] = &[
     (
@@ -280,7 +336,13 @@ const REFUSED: &[(&str, &[u8], u8, &str)] = &[
         "propedit: edited.properties: no pair has the key 'b'\n",
     ),
     (
-        "-x -i edited.properties remove a remove b",
+        "-v -i edited.properties set a 3",
+        b"a=\\u12",
+        2,
+        "propedit: edited.properties:1: Malformed \\uxxxx encoding: not enough digits.\n",
+    ),
+    (
+        "-xv -i edited.properties remove a remove b",
         b"# x\na=1",
         1,
         "propedit: edited.properties: no pair has the key 'b'\n",
@@ -297,6 +359,12 @@ fn files_are_edited_whole_or_not_at_all(rt: HostRuntime) -> Result<(), Fail> {
         make(&rt, EDITED, (bytes, 0o644))?;
         let edited = edit(&rt, words, EDITED)?;
         check_edit(&rt, number, words, &edited, (0, "", after));
+    }
+    for (number, (words, bytes, after, said)) in (1usize..).zip(SAID) {
+        make(&rt, EDITED, (bytes, 0o644))?;
+        let edited = edit(&rt, words, EDITED)?;
+        let line = format!(in rt.alloc(); "{EDITED}: {said}\n")?;
+        check_edit(&rt, number, words, &edited, (0, line.as_str(), after));
     }
     for (number, (words, bytes, status, said)) in (1usize..).zip(REFUSED) {
         make(&rt, EDITED, (bytes, 0o644))?;

@@ -105,7 +105,7 @@ const OTHER_WORDS: &[Refusal] = &[
     ),
     (
         "convert",
-        "'convert' requires an ENCODING: utf-8, windows-1252 or ascii",
+        "'convert' requires an ENCODING: utf-8, iso-8859-1, windows-1252 or ascii",
     ),
     (
         "convert utf-8 x",
@@ -270,6 +270,21 @@ const OPTIONS: &[Refusal] = &[
     ("--create -f a set k v", REQUIRES_IN_PLACE),
     ("--create remove k", REQUIRES_IN_PLACE),
     ("remove --create k", REQUIRES_IN_PLACE),
+    // So is one of which it is said what changed.
+    ("-v set a 1", "the option '-v' requires '-i FILE'"),
+    ("remove -v a", "the option '-v' requires '-i FILE'"),
+    (
+        "set --verbose -f x a 1",
+        "the option '--verbose' requires '-i FILE'",
+    ),
+    // A letter is that of one option, by the command.
+    ("-vv set a 1", "the option '-v' is given twice"),
+    (
+        "-v --verbose -i x set a 1",
+        "the option '--verbose' is given twice",
+    ),
+    ("-i x -v set -v a 1", "the option '-v' is given twice"),
+    ("--values list -v", "the option '-v' is given twice"),
     ("set -i - k v", REQUIRES_A_FILE),
     // What is written in ASCII is what a `set` puts in.
     ("-a remove a", "the option '-a' requires a 'set'"),
@@ -362,8 +377,8 @@ const OTHER_OPTIONS: &[Filled] = &[
         "set'; a key that begins with a dash comes after '--'",
     ),
     (
-        "remove -v a",
-        "-v",
+        "remove -r a",
+        "-r",
         "remove'; a key that begins with a dash comes after '--'",
     ),
     (
@@ -375,6 +390,16 @@ const OTHER_OPTIONS: &[Filled] = &[
         "list -x",
         "-x",
         "list'; a prefix that begins with a dash comes after '--'",
+    ),
+    (
+        "list --verbose",
+        "--verbose",
+        "list'; a prefix that begins with a dash comes after '--'",
+    ),
+    (
+        "set --values -i x a 1",
+        "--values",
+        "set'; a key that begins with a dash comes after '--'",
     ),
     (
         "list --value",
@@ -405,6 +430,7 @@ const OTHER_OPTIONS: &[Filled] = &[
 // Words with options of a command and others.
 const MIXED_LETTERS: &[Filled] = &[
     ("get -zq k", "-zq", "get"),
+    ("set -vz a 1", "-vz", "set"),
     ("get -zx k", "-zx", "get"),
     ("get -z=1 port", "-z=1", "get"),
     ("set -xyz 1", "-xyz", "set"),
@@ -437,7 +463,7 @@ fn options_after_an_argument_are_named(rt: HostRuntime) -> Result<(), Fail> {
     check_filled(&rt, pattern, LATE_OPTIONS)
 }
 
-const ENCODINGS: &str = "use utf-8, windows-1252, utf-16le or utf-16be";
+const ENCODINGS: &str = "use utf-8, iso-8859-1, windows-1252, utf-16le or utf-16be";
 
 // Labels that no encoding has.
 const LABELS: &[Filled] = &[
@@ -472,20 +498,18 @@ fn labels_of_ascii_are_refused(rt: HostRuntime) -> Result<(), Fail> {
     check_filled(&rt, pattern, ASCII_LABELS)
 }
 
-const FOR_LATIN_1: &str = "for programs that read ISO 8859-1, use ascii";
+const IN_LATIN_1: &str = "did you mean 'iso-8859-1'?";
+
+const TARGET_NAMES: &str = "use utf-8, iso-8859-1, windows-1252 or ascii";
 
 // Encodings that nothing is converted to.
 const TARGETS: &[Filled] = &[
-    (
-        "convert utf-16le",
-        "utf-16le",
-        "use utf-8, windows-1252 or ascii",
-    ),
-    ("convert -- -r", "-r", "use utf-8, windows-1252 or ascii"),
+    ("convert utf-16le", "utf-16le", TARGET_NAMES),
+    ("convert -- -r", "-r", TARGET_NAMES),
     ("convert UTF8", "UTF8", "did you mean 'utf-8'?"),
     ("convert us-ascii", "us-ascii", "did you mean 'ascii'?"),
-    ("convert latin1", "latin1", FOR_LATIN_1),
-    ("convert ISO-8859-1", "ISO-8859-1", FOR_LATIN_1),
+    ("convert latin1", "latin1", IN_LATIN_1),
+    ("convert ISO_8859-1", "ISO_8859-1", IN_LATIN_1),
 ];
 
 #[test]
@@ -508,6 +532,10 @@ const USELESS_OPTIONS: &[Filled] = &[
     ("-a convert utf-8", "-a", "convert"),
     ("-v get a", "-v", "get"),
     ("--values set a 1", "--values", "set"),
+    ("--verbose list", "--verbose", "list"),
+    ("--verbose get a", "--verbose", "get"),
+    ("-v check", "-v", "check"),
+    ("-i x -v convert utf-8", "-v", "convert"),
     ("-q get a", "-q", "get"),
     ("-q list", "-q", "list"),
     ("--quiet set a 1", "--quiet", "set"),

@@ -3,7 +3,7 @@
 use java_properties::Repertoire;
 use std::fmt;
 
-const VERSION: &str = "1.15.0";
+const VERSION: &str = "1.16.0";
 
 /// A command.
 #[derive(Clone, Copy, Debug, PartialEq, Eq)]
@@ -48,6 +48,7 @@ pub enum OptionName {
     Ascii,
     Existing,
     Quiet,
+    Verbose,
     Readable,
     Help,
     Version,
@@ -140,7 +141,7 @@ pub const COMMANDS: &[CommandRow] = &[
         command: CommandName::Convert,
         name: "convert",
         words: "ENCODING",
-        help: "Changes the encoding to utf-8, windows-1252 or ascii",
+        help: "Converts to utf-8, iso-8859-1, windows-1252 or ascii",
         options: &[
             OptionName::File,
             OptionName::InPlace,
@@ -171,6 +172,7 @@ const EDIT_OPTIONS: &[OptionName] = &[
     OptionName::Encoding,
     OptionName::Ascii,
     OptionName::Existing,
+    OptionName::Verbose,
 ];
 
 const OPTIONS: &[OptionRow] = &[
@@ -200,7 +202,7 @@ const OPTIONS: &[OptionRow] = &[
         short: Some('e'),
         long: "encoding",
         value: "NAME",
-        help: "utf-8 (the default), windows-1252, utf-16le or utf-16be",
+        help: "utf-8 (default), iso-8859-1, windows-1252, utf-16le/be",
     },
     OptionRow {
         option: OptionName::Default,
@@ -243,6 +245,13 @@ const OPTIONS: &[OptionRow] = &[
         long: "quiet",
         value: "",
         help: "Has check print nothing: the status tells",
+    },
+    OptionRow {
+        option: OptionName::Verbose,
+        short: Some('v'),
+        long: "verbose",
+        value: "",
+        help: "With -i, says on standard error what changed",
     },
     OptionRow {
         option: OptionName::Readable,
@@ -290,16 +299,24 @@ pub fn command_meant(word: &str) -> Option<&'static CommandRow> {
     })
 }
 
-/// Returns the row of the option with this letter.
-pub fn option_of(letter: char) -> Option<&'static OptionRow> {
-    OPTIONS.iter().find(|row| row.short == Some(letter))
+/// Returns the row of the option with this letter. If it is that of several, it is the one that the command takes, or
+/// the first.
+pub fn option_of(letter: char, command: Option<&'static CommandRow>) -> Option<&'static OptionRow> {
+    let first = OPTIONS.iter().find(|row| row.short == Some(letter));
+    let Some(command) = command else {
+        return first;
+    };
+    OPTIONS
+        .iter()
+        .find(|row| row.short == Some(letter) && command.takes(row.option))
+        .or(first)
 }
 
-/// Returns the row of the option that a word begins with.
-pub fn option_in(word: &str) -> Option<&'static OptionRow> {
+/// Returns the row of the option that a word begins with, before a command or after it.
+pub fn option_in(word: &str, command: Option<&'static CommandRow>) -> Option<&'static OptionRow> {
     match word.strip_prefix("--") {
         Some(long) => OPTIONS.iter().find(|row| row.long == name_in(long)),
-        None => option_of(word.strip_prefix('-')?.chars().next()?),
+        None => option_of(word.strip_prefix('-')?.chars().next()?, command),
     }
 }
 
@@ -333,8 +350,31 @@ pub fn allowed(
     }
 }
 
+// The labels by which the standard means ISO 8859-1, though it reads them as windows-1252.
+const LATIN_1_LABELS: &[&str] = &[
+    "cp819",
+    "csisolatin1",
+    "ibm819",
+    "iso-8859-1",
+    "iso-ir-100",
+    "iso8859-1",
+    "iso88591",
+    "iso_8859-1",
+    "iso_8859-1:1987",
+    "l1",
+    "latin1",
+];
+
+/// Returns whether this label of windows-1252, in any case, is one of ISO 8859-1.
+pub fn is_latin_1(label: &str) -> bool {
+    LATIN_1_LABELS
+        .iter()
+        .any(|row| row.eq_ignore_ascii_case(label.trim_ascii()))
+}
+
 const TARGETS: &[(&str, Repertoire)] = &[
     ("utf-8", Repertoire::Utf8),
+    ("iso-8859-1", Repertoire::Latin1),
     ("windows-1252", Repertoire::Windows1252),
     ("ascii", Repertoire::Ascii),
 ];
@@ -392,6 +432,26 @@ pub struct TypedOption {
     pub row: &'static OptionRow,
     /// The letter, or `None` if the long name was typed.
     pub letter: Option<char>,
+}
+
+impl TypedOption {
+    /// Returns the option that it is before this command: a letter may be that of several.
+    pub(crate) fn of(self, command: &'static CommandRow) -> TypedOption {
+        let meant = match self.letter {
+            Some(letter) => option_of(letter, Some(command)),
+            None => None,
+        };
+        TypedOption {
+            row: meant.unwrap_or(self.row),
+            letter: self.letter,
+        }
+    }
+
+    /// Returns whether both are one option. A letter may be that of several.
+    pub(crate) fn is_same(self, other: TypedOption) -> bool {
+        let is_typed = self.letter.is_some() || other.letter.is_some();
+        self.row.option == other.row.option || is_typed && self.row.short == other.row.short
+    }
 }
 
 // Prints the option as messages name it: as it was typed, with what its value is called.

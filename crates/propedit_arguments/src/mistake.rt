@@ -77,8 +77,8 @@ pub enum Mistake<'a> {
     Both(TypedOption, TypedOption, &'static CommandRow),
     /// A file is given by this option, and others after this command.
     TwoFiles(TypedOption, &'static CommandRow),
-    /// A file is to be made, and none is edited in place.
-    NothingToCreate(&'static CommandRow),
+    /// No file is edited in place, and this option has a use for nothing else.
+    NothingInPlace(TypedOption, &'static CommandRow),
     /// Standard input is to be changed in place, by this option.
     NoFileInPlace(TypedOption, &'static CommandRow),
     /// No encoding has this label, which is given for this command.
@@ -127,7 +127,7 @@ impl Mistake<'_> {
             | Mistake::NothingToSet(_, row)
             | Mistake::Both(_, _, row)
             | Mistake::TwoFiles(_, row)
-            | Mistake::NothingToCreate(row)
+            | Mistake::NothingInPlace(_, row)
             | Mistake::NoFileInPlace(_, row)
             | Mistake::NoEncoding(_, row)
             | Mistake::AsciiEncoding(_, row)
@@ -201,7 +201,7 @@ impl fmt::Display for EscapedBytes<'_> {
 
 const OPTIONS_FIRST: &str = "options come before the first KEY";
 
-const TARGETS: &str = "utf-8, windows-1252 or ascii";
+const TARGETS: &str = "utf-8, iso-8859-1, windows-1252 or ascii";
 
 impl fmt::Display for Mistake<'_> {
     fn fmt<W: fmt::Write>(&self, f: &mut fmt::Formatter<W>) -> fmt::Result {
@@ -235,8 +235,8 @@ impl fmt::Display for Mistake<'_> {
                     row.name
                 )
             }
-            Mistake::NothingToCreate(_) => {
-                f.write_str("the option '--create' requires '-i FILE'")
+            Mistake::NothingInPlace(option, _) => {
+                write!(f, "the option '{option}' requires '-i FILE'")
             }
             Mistake::NoFileInPlace(option, _) => write!(
                 f,
@@ -319,7 +319,7 @@ fn show_unknown_option<W: fmt::Write>(
     word: &str,
     command: Option<&'static CommandRow>,
 ) -> fmt::Result {
-    let option = option_in(word);
+    let option = option_in(word, command);
     match (word.starts_with("--"), command, allowed(option, command)) {
         (true, _, _) => write!(f, "unknown option '{}'", Escaped(name_in(word)))?,
         (false, Some(_), None) => write!(f, "unknown option '{}'", Escaped(word))?,
@@ -477,7 +477,7 @@ fn show_unknown_encoding<W: fmt::Write>(f: &mut fmt::Formatter<W>, label: &str) 
     write!(f, "unknown encoding '{}'", Escaped(label))?;
     match label_meant(label) {
         Some(meant) => show_meant(f, "", meant),
-        None => f.write_str("; use utf-8, windows-1252, utf-16le or utf-16be"),
+        None => f.write_str("; use utf-8, iso-8859-1, windows-1252, utf-16le or utf-16be"),
     }
 }
 
@@ -499,7 +499,7 @@ fn target_meant(word: &str) -> Option<&'static str> {
     match label_meant(word) {
         Some("utf-8") => Some("did you mean 'utf-8'?"),
         Some("windows-1252" | "cp1252") => Some("did you mean 'windows-1252'?"),
-        Some("latin1" | "iso-8859-1") => Some("for programs that read ISO 8859-1, use ascii"),
+        Some("latin1" | "iso-8859-1") => Some("did you mean 'iso-8859-1'?"),
         _ => None,
     }
 }

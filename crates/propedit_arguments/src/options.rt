@@ -1,7 +1,7 @@
 // The options before a command, and those after it.
 
 use crate::command_line::{
-    CommandRow, OptionName, TypedOption, allowed, command_named, option_in, option_of,
+    CommandRow, OptionName, TypedOption, allowed, command_named, is_latin_1, option_in, option_of,
 };
 use crate::mistake::{Mistake, NoRequest, means_ascii};
 use java_properties::{Encoding, Spelling};
@@ -53,6 +53,9 @@ impl<'a> Options<'a> {
         words: &'a [String],
     ) -> Result<&'a [String], NoRequest<'a>> {
         self.command = Some(command);
+        for given in &mut self.given {
+            given.option = given.option.of(command);
+        }
         self.add_all(words)
     }
 
@@ -87,7 +90,7 @@ impl<'a> Options<'a> {
     }
 
     fn add_long(&mut self, word: &'a str) -> Result<Option<TypedOption>, NoRequest<'a>> {
-        let Some(row) = allowed(option_in(word), self.command) else {
+        let Some(row) = allowed(option_in(word, self.command), self.command) else {
             return Err(NoRequest::Wrong(Mistake::UnknownOption(word, self.command)));
         };
         let option = TypedOption { row, letter: None };
@@ -104,7 +107,7 @@ impl<'a> Options<'a> {
 
     fn add_letters(&mut self, word: &'a str) -> Result<Option<TypedOption>, NoRequest<'a>> {
         for (at, letter) in word.char_indices().skip(1) {
-            let Some(row) = allowed(option_of(letter), self.command) else {
+            let Some(row) = allowed(option_of(letter, self.command), self.command) else {
                 return Err(NoRequest::Wrong(Mistake::UnknownOption(word, self.command)));
             };
             let option = TypedOption {
@@ -134,7 +137,7 @@ impl<'a> Options<'a> {
             }
             _ => {}
         }
-        if self.has(option.row.option) {
+        if self.given.iter().any(|given| given.option.is_same(option)) {
             return Err(NoRequest::Wrong(Mistake::Twice(option, self.command)));
         }
         self.given.push(Given { option, value })?;
@@ -173,13 +176,26 @@ impl<'a> Options<'a> {
             }
         }
         self.refuse_both(OptionName::File, OptionName::InPlace, command)?;
-        if self.has(OptionName::Create) && !self.has(OptionName::InPlace) {
-            return Err(Mistake::NothingToCreate(command));
-        }
+        self.refuse_alone(OptionName::Create, command)?;
+        self.refuse_alone(OptionName::Verbose, command)?;
         self.refuse_both(OptionName::Existing, OptionName::Create, command)?;
         match self.find(OptionName::InPlace) {
             Some(given) if given.value == STANDARD_INPUT => {
                 Err(Mistake::NoFileInPlace(given.option, command))
+            }
+            _ => Ok(()),
+        }
+    }
+
+    // Fails if an option is given that has a use only with a file that is edited in place, and none is.
+    fn refuse_alone(
+        &self,
+        option: OptionName,
+        command: &'static CommandRow,
+    ) -> Result<(), Mistake<'a>> {
+        match self.find(option) {
+            Some(given) if !self.has(OptionName::InPlace) => {
+                Err(Mistake::NothingInPlace(given.option, command))
             }
             _ => Ok(()),
         }
@@ -223,6 +239,14 @@ impl<'a> Options<'a> {
                 None => Err(Mistake::NoEncoding(label, command)),
             },
             None => Ok(Encoding::UTF_8),
+        }
+    }
+
+    /// Returns whether the encoding is given by a label of ISO 8859-1, as which Java reads a stream of bytes.
+    pub fn is_latin_1(&self) -> bool {
+        match self.value(OptionName::Encoding) {
+            Some(label) => is_latin_1(label),
+            None => false,
         }
     }
 

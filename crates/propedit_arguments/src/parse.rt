@@ -224,7 +224,7 @@ fn only_word<'a>(
 
 // Returns whether a word would be an option of a command that has some.
 fn is_option_of(word: &str, row: &'static CommandRow) -> bool {
-    match option_in(word) {
+    match option_in(word, Some(row)) {
         Some(option) => !row.options.is_empty() && row.takes(option.option),
         None => false,
     }
@@ -241,6 +241,8 @@ fn check<'a>(
     let check = Check {
         allowed: if options.has(OptionName::Ascii) {
             Allowed::Ascii
+        } else if options.is_latin_1() {
+            Allowed::Latin1
         } else {
             Allowed::All
         },
@@ -269,6 +271,7 @@ fn edit<'a>(
     let edits = Edits {
         list,
         ascii_only: options.has(OptionName::Ascii),
+        latin_1: options.is_latin_1(),
         existing: options.has(OptionName::Existing),
     };
     change(alloc, row, options, Change::Edits(edits))
@@ -327,5 +330,6 @@ fn change<'a>(
         encoding: options.encoding(row)?,
         change,
         missing: options.missing(),
+        verbose: options.has(OptionName::Verbose),
     }))
 }

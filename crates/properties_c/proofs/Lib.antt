@@ -1,9 +1,12 @@
 pub mod Packing
-pub mod PackedLines
+pub mod Texts
 pub mod Splitting
 pub mod TakenApart
 pub mod Slices
 pub mod Refusals
-pub mod ItemsRead
+pub mod Unsound
+pub mod GivenLines
+pub mod GivenItems
+pub mod PackedGroups
 pub mod OneReading
 pub mod WriterSettings

@@ -1,5 +1,5 @@
 -- A writer that is set in steps, and lines that are refused.
-use Rattle.std.proofs.Common.{◌≡◌, not, ℕ, Bool, true, false, List, [], ◌∷◌, map, refl, sym, inl, inr, Result, Err}
+use Rattle.std.proofs.Common.{◌≡◌, not, ℕ, Bool, true, false, List, [], ◌∷◌, map, refl, sym, inl, inr, Result, Err, drop}
 use mathlib.Core.Bool.{beq}
 use Rattle.properties_format.specs.Encoding.{Encoding}
 use Rattle.properties_format.specs.Items.{Content, comment, pair}
@@ -12,9 +12,9 @@ use Rattle.properties_items.specs.declared.error.PropertiesError.{PropertiesErro
 use Rattle.std.specs.Prelude.{Ok}
 use Rattle.std.specs.Global.{Vec}
 use Rattle.properties_c.specs.Crossing.{Crossing, Delivers, Refuses}
-use Rattle.properties_c.specs.Private.Results.{SetsAll, WritesCalls, has_refused_call}
+use Rattle.properties_c.specs.Private.Results.{SetsAll, WritesOn, has_refused_call}
 use Rattle.properties_c.specs.Statuses.{status_of_kind}
-use Rattle.properties_c.specs.Writing.{WritesLines, has_refused}
+use Rattle.properties_c.specs.Writing.{WritesLines, has_refused, lines_before}
 use Rattle.properties_c.specs.declared.status.Status.{Status}
 use Rattle.properties_c.specs.declared.status.Status.TheVariants.{Done, NoMemory, BadPrefix, BadSeparator, EmptyKey}
 
@@ -41,26 +41,29 @@ refused-lines s (pair key value ∷ contents) = rw (refused-lines s contents, re
     refused-answer true = refl
     refused-answer false = refl
 
--- What was written crosses: its bytes or its status.
-abbrev pub WrittenCrosses : Result (Vec ℕ) Status → Crossing → Type 0
-WrittenCrosses (Ok bytes) x = Delivers bytes.items Done 0 x
+-- What was written crosses: its bytes behind the front, or its status.
+abbrev pub WrittenCrosses : Result (Vec ℕ × ℕ) Status → Crossing → Type 0
+WrittenCrosses (Ok (bytes, front)) x = Delivers (drop front bytes.items) Done 0 x
 WrittenCrosses (Err status) x = Refuses status 0 x
 
-crossed : (e : Encoding) (s : Settings) (contents : List Content) (calls : List Call) (written : Result (Vec ℕ) Status) (x : Crossing)
-    → calls ≡ map call_of contents → WritesCalls e s calls written → WrittenCrosses written x → WritesLines e s contents x
-crossed e s contents calls (Ok bytes) x same h given = inl record {
+crossed : (e : Encoding) (s : Settings) (goes_on : Bool) (contents : List Content) (calls : List Call) (written : Result (Vec ℕ × ℕ) Status) (x : Crossing)
+    → calls ≡ map call_of contents → WritesOn e s goes_on calls written → WrittenCrosses written x → WritesLines e s (lines_before goes_on) contents x
+crossed e s goes_on contents calls (Ok (bytes, front)) x same h given = inl record {
   good = h.0;
   accepted = rw (sym (refused-lines s contents), sym same) h.1;
-  given = rw (h.2, same) at given;
+  given = rw (h.3, same) at given;
 }
-crossed e s contents calls (Err BadPrefix) x same h given = inr (inl (h, given))
-crossed e s contents calls (Err BadSeparator) x same h given = inr (inr (inl (h.0, h.1, given)))
-crossed e s contents calls (Err EmptyKey) x same h given =
+crossed e s goes_on contents calls (Err BadPrefix) x same h given = inr (inl (h, given))
+crossed e s goes_on contents calls (Err BadSeparator) x same h given = inr (inr (inl (h.0, h.1, given)))
+crossed e s goes_on contents calls (Err EmptyKey) x same h given =
     inr (inr (inr (inl (h.0, rw (sym (refused-lines s contents), sym same) h.1, given))))
-crossed e s contents calls (Err NoMemory) x same h given = inr (inr (inr (inr given)))
-crossed e s contents calls (Err other) x same h given = absurd h
+crossed e s goes_on contents calls (Err NoMemory) x same h given = inr (inr (inr (inr given)))
+crossed e s goes_on contents calls (Err other) x same h given = absurd h
 
 -- The lines were written with settings that are equal to these.
-pub lines-crossed : (e : Encoding) (asked s : Settings) (contents : List Content) (calls : List Call) (written : Result (Vec ℕ) Status) (x : Crossing)
-    → asked ≡ s → calls ≡ map call_of contents → WritesCalls e asked calls written → WrittenCrosses written x → WritesLines e s contents x
-lines-crossed e asked s contents calls written x settled same h given = rw (sym settled) (crossed e asked contents calls written x same h given)
+pub lines-crossed : (e : Encoding) (asked s : Settings) (goes_on : Bool) (contents : List Content) (calls : List Call)
+    (written : Result (Vec ℕ × ℕ) Status) (x : Crossing)
+    → asked ≡ s → calls ≡ map call_of contents → WritesOn e asked goes_on calls written → WrittenCrosses written x
+    → WritesLines e s (lines_before goes_on) contents x
+lines-crossed e asked s goes_on contents calls written x settled same h given =
+    rw (sym settled) (crossed e asked goes_on contents calls written x same h given)

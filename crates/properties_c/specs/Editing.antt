@@ -1,14 +1,12 @@
--- What the exports that edit give.
-use Rattle.std.specs.Prelude.{◌⊎◌, ℕ, Bool, true, false, List, [], ◌∷◌, Result, IsErrAnd}
+-- What the export that edits gives.
+use Rattle.std.specs.Prelude.{◌⊎◌, ℕ, Bool, true, false, List, Result}
 use Rattle.std.specs.Global.{Vec}
 use Rattle.properties_format.specs.Encoding.{Encoding, Repertoire, repertoire}
-use Rattle.properties_format.specs.Edits.{Edit, remove}
+use Rattle.properties_format.specs.Edits.{Edit}
 use Rattle.java_properties.specs.Editing.{EditsPairs, MakesEdits}
-use Rattle.java_properties.specs.Errors.{IsBareError}
-use Rattle.properties_items.specs.declared.error.ErrorKind.TheVariants as kind
 use Rattle.properties_items.specs.declared.error.PropertiesError.{PropertiesError}
 use Rattle.properties_c.specs.Crossing.{Crossing, Crosses, Delivers, Refuses}
-use Rattle.properties_c.specs.Inputs.{InEncoding, WithFlags, WithText, for_edits, for_keys, ToTarget}
+use Rattle.properties_c.specs.Inputs.{InEncoding, WithFlags, WithSource, for_conversions, for_edits, ToTarget}
 use Rattle.properties_c.specs.Packed.{edits, WithList}
 use Rattle.properties_c.specs.declared.encoding.Flags.{Flags}
 use Rattle.properties_format.specs.Converting.{IsConverted}
@@ -24,26 +22,13 @@ EditsAs false r source edits result = EditsPairs r source edits result
 abbrev pub MakesAll : Flags → Encoding → List ℕ → List Edit → Result (Vec ℕ) PropertiesError → Type 0
 MakesAll f e source edits result = EditsAs f.read_comments (repertoire e f.ascii_only) source edits result
 
--- The result of one edit, for which its texts are copied first: memory may run out then.
-abbrev pub MakesOne : Flags → Encoding → List ℕ → Edit → Result (Vec ℕ) PropertiesError → Type 0
-MakesOne f e source edit result = MakesAll f e source (edit ∷ []) result ⊎ IsErrAnd result (IsBareError kind.Memory)
-
 -- An edit returned a result for which this holds, and the result crosses.
 abbrev pub GivesEdited : (Result (Vec ℕ) PropertiesError → Type 0) → Crossing → Type 0
 GivesEdited IsMade x = (outcome : Result (Vec ℕ) PropertiesError) × IsMade outcome × Crosses outcome x
 
--- a put, or the edit that sets a value
-abbrev pub SetsAcross : (List ℕ → List ℕ → Edit) → List ℕ → ℕ → ℕ → List ℕ → List ℕ → Crossing → Type 0
-SetsAcross edit source encoding flags key value x =
-    InEncoding encoding (λ e. WithFlags for_edits flags (λ f. WithText key (λ k. WithText value (λ v. GivesEdited (MakesOne f e source (edit k v)) x) x) x) x) x
-
-abbrev pub RemovesKeyAcross : List ℕ → ℕ → ℕ → List ℕ → Crossing → Type 0
-RemovesKeyAcross source encoding flags key x =
-    InEncoding encoding (λ e. WithFlags for_keys flags (λ f. WithText key (λ k. GivesEdited (MakesOne f e source (remove k)) x) x) x) x
-
 abbrev pub EditsAcross : List ℕ → ℕ → ℕ → List ℕ → Crossing → Type 0
 EditsAcross source encoding flags list x =
-    InEncoding encoding (λ e. WithFlags for_edits flags (λ f. WithList edits list (λ es. GivesEdited (MakesAll f e source es) x) x) x) x
+    InEncoding encoding (λ e. WithFlags for_edits flags (λ f. WithList edits list (λ es. WithSource f.strict e source (GivesEdited (MakesAll f e source es) x) x) x) x) x
 
 -- ---- What the export that converts gives.
 
@@ -53,6 +38,6 @@ pub record GivesConverted (e : Encoding) (target : code.Repertoire) (readable : 
   pub converted : IsConverted e (in_format target) readable source bytes
   pub given : Delivers bytes Done 0 x
 
-abbrev pub ConvertsAcross : List ℕ → ℕ → ℕ → Bool → Crossing → Type 0
-ConvertsAcross source encoding target readable x =
-    InEncoding encoding (λ e. ToTarget target (λ t. GivesConverted e t readable source x ⊎ Refuses NoMemory 0 x) x) x
+abbrev pub ConvertsAcross : List ℕ → ℕ → ℕ → ℕ → Crossing → Type 0
+ConvertsAcross source encoding target flags x =
+    InEncoding encoding (λ e. ToTarget target (λ t. WithFlags for_conversions flags (λ f. WithSource f.strict e source (GivesConverted e t f.readable source x ⊎ Refuses NoMemory 0 x) x) x) x) x

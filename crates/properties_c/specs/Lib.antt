@@ -2,6 +2,7 @@ pub mod Statuses
 pub mod Crossing
 pub mod Inputs
 pub mod Reading
+pub mod Items
 pub mod Editing
 pub mod Writing
 pub mod Private

@@ -35,6 +35,11 @@ unfoldable pub packed : Record → List ℕ
 packed r =
     number_bytes r.kind ++ (number_bytes r.line ++ (number_bytes (length r.key) ++ (number_bytes (length r.value) ++ (r.key ++ r.value))))
 
+-- the bytes of a record with numbers before its texts
+unfoldable pub spanned : Record → List ℕ → List ℕ
+spanned r numbers =
+    number_bytes r.kind ++ (number_bytes r.line ++ (number_bytes (length r.key) ++ (number_bytes (length r.value) ++ (flat_map number_bytes numbers ++ (r.key ++ r.value)))))
+
 abbrev pub packed_all : List Record → List ℕ
 packed_all records = flat_map packed records
 

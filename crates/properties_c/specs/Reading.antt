@@ -1,18 +1,15 @@
--- What the exports that read give.
+-- What the exports give that look up a key and that find what is wrong.
 use Rattle.std.specs.Global.{Global}
 use Rattle.std.specs.Prelude.{◌≡◌, ◌⊎◌, ℕ, Bool, true, false, List, Option, Some, None, Result, Ok, Err, encode_utf8_all}
 use Rattle.std.specs.declared.string.String.{String}
 use Rattle.properties_format.specs.Encoding.{Encoding}
-use Rattle.properties_format.specs.Items.{Entry}
-use Rattle.properties_format.specs.Lines.{end}
 use Rattle.properties_format.specs.Found.{MalformedEscape, AreMalformedEscapes}
 use Rattle.java_properties.specs.Findings.{KeyEntry, AreKeyLines, TellsPairValue, TellsValue}
-use Rattle.java_properties.specs.ReadLines.{IsReading}
 use Rattle.properties_items.specs.Texts.{characters}
 use Rattle.properties_items.specs.declared.error.PropertiesError.{PropertiesError}
 use Rattle.properties_c.specs.Crossing.{Crossing, Delivers, Fails, Refuses}
-use Rattle.properties_c.specs.Inputs.{InEncoding, WithFlags, WithText, for_keys}
-use Rattle.properties_c.specs.Packed.{packed_items, reading_status, reading_line, packed_findings}
+use Rattle.properties_c.specs.Inputs.{InEncoding, WithFlags, WithSource, WithText, for_keys}
+use Rattle.properties_c.specs.Packed.{packed_findings}
 use Rattle.properties_c.specs.declared.status.Status.TheVariants.{Done, NoKey, NoMemory}
 
 -- ---- a value
@@ -35,19 +32,7 @@ GivesValueOf read e source key x =
 
 abbrev pub GetsAcross : List ℕ → ℕ → ℕ → List ℕ → Crossing → Type 0
 GetsAcross source encoding flags key x =
-    InEncoding encoding (λ e. WithFlags for_keys flags (λ f. WithText key (λ k. GivesValueOf f.read_comments e source k x) x) x) x
-
--- ---- items
-
--- These are the entries of the source. Its items are given, packed, with the status and the line of its end or of its
--- first malformed escape.
-pub record GivesItems (e : Encoding) (source : List ℕ) (x : Crossing) : Type 0 where
-  pub entries : List Entry
-  pub reading : IsReading e source end entries
-  pub given : Delivers (packed_items entries) (reading_status entries) (reading_line entries) x
-
-abbrev pub ItemsAcross : List ℕ → ℕ → Crossing → Type 0
-ItemsAcross source encoding x = InEncoding encoding (λ e. GivesItems e source x ⊎ Refuses NoMemory 0 x) x
+    InEncoding encoding (λ e. WithFlags for_keys flags (λ f. WithText key (λ k. WithSource f.strict e source (GivesValueOf f.read_comments e source k x) x) x) x) x
 
 -- ---- findings
 

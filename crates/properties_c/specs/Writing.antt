@@ -40,21 +40,25 @@ pub record AreGood (s : Settings) : Type 0 where
 abbrev pub has_refused : Settings → List Content → Bool
 has_refused s contents = list_any (λ content. not (is_accepted s (call_of content))) contents
 
--- The lines were written with these settings.
-pub record GivesLines (e : Encoding) (s : Settings) (contents : List Content) (x : Crossing) : Type 0 where
+-- how many lines were written before those of a call, as far as it matters
+abbrev pub lines_before : Bool → ℕ
+lines_before goes_on = if goes_on then 1 else 0
+
+-- The lines were written with these settings, after this number of lines.
+pub record GivesLines (e : Encoding) (s : Settings) (before : ℕ) (contents : List Content) (x : Crossing) : Type 0 where
   pub good : AreGood s
   pub accepted : has_refused s contents ≡ false
-  pub given : Delivers (wrote (output_encoding e) s 0 (map call_of contents)) Done 0 x
+  pub given : Delivers (wrote (output_encoding e) s before (map call_of contents)) Done 0 x
 
 -- The lines were written, or refused: because of the prefix, the separator or an empty key, of which the first one
 -- counts, or because memory ran out.
-abbrev pub WritesLines : Encoding → Settings → List Content → Crossing → Type 0
-WritesLines e s contents x =
-    GivesLines e s contents x
+abbrev pub WritesLines : Encoding → Settings → ℕ → List Content → Crossing → Type 0
+WritesLines e s before contents x =
+    GivesLines e s before contents x
     ⊎ ((IsGoodPrefix s.comment_prefix → ⊥) × Refuses BadPrefix 0 x
     ⊎ (IsGoodPrefix s.comment_prefix × (IsGoodSeparator s.kv_separator → ⊥) × Refuses BadSeparator 0 x
     ⊎ (AreGood s × (has_refused s contents ≡ true) × Refuses EmptyKey 0 x ⊎ Refuses NoMemory 0 x)))
 
 abbrev pub WritesAcross : List ℕ → ℕ → ℕ → List ℕ → List ℕ → Crossing → Type 0
 WritesAcross list encoding flags prefix separator x =
-    InEncoding encoding (λ e. WithFlags for_lines flags (λ f. WithText prefix (λ p. WithText separator (λ s. WithList lines list (λ contents. WritesLines e (settings_for f p s) contents x) x) x) x) x) x
+    InEncoding encoding (λ e. WithFlags for_lines flags (λ f. WithText prefix (λ p. WithText separator (λ s. WithList lines list (λ contents. WritesLines e (settings_for f p s) (lines_before f.goes_on) contents x) x) x) x) x) x

@@ -5,8 +5,9 @@ ghost use Rattle.properties_text.specs.Converted.{is_readable};
 ghost use Rattle.properties_c.specs.Editing.{ConvertsAcross};
 ghost use Rattle.properties_c.specs.Crossing.{crossing};
 
-use crate::encoding::{encoding_numbered, target_numbered};
-use crate::out::{refuse, write_result};
+use crate::encoding::{FOR_CONVERSIONS, encoding_numbered, flags_numbered, target_numbered};
+use crate::out::{refuse, refuse_source, write_result};
+use crate::sound::refused_line;
 use crate::status::Status;
 use java_properties::{Spelling, convert};
 use std::alloc::Global;
@@ -18,13 +19,13 @@ pub extern "C" fn todrenval_convert(
     source: &[u8],
     encoding: u32,
     target: u32,
-    readable: bool,
+    flags: u32,
     out: &mut [u8],
     length: &mut usize,
     line: &mut usize,
 ) -> i32
     ensures { let x = crossing out.old result length.new line.new out.new in
-        ConvertsAcross source.now encoding target readable x }
+        ConvertsAcross source.now encoding target flags x }
 {
     let Some(encoding) = encoding_numbered(encoding) else {
         return refuse(Status::UnknownEncoding, length, line);
@@ -32,7 +33,13 @@ pub extern "C" fn todrenval_convert(
     let Some(target) = target_numbered(target) else {
         return refuse(Status::UnknownEncoding, length, line);
     };
-    let converted = convert(alloc, source, encoding, target, spelling_if(readable));
+    let Some(flags) = flags_numbered(flags, FOR_CONVERSIONS) else {
+        return refuse(Status::UnknownFlags, length, line);
+    };
+    if let Some(number) = refused_line(flags.strict, source, encoding) {
+        return refuse_source(number, length, line);
+    }
+    let converted = convert(alloc, source, encoding, target, spelling_if(flags.readable));
     write_result(converted, out, length, line)
 }
 

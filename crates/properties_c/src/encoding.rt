@@ -4,7 +4,7 @@ ghost use Rattle.std.specs.Prelude.{◌≡◌, MatchOption};
 ghost use Rattle.std.specs.Option.{option_map};
 ghost use Rattle.std.specs.Str.{IsUtf8};
 ghost use Rattle.properties_text.specs.Encoding.{encoding_of};
-ghost use Rattle.properties_c.specs.Inputs.{encoding_at, target_at, flags_at, are_among as all_taken};
+ghost use Rattle.properties_c.specs.Inputs.{encoding_at, encoding_number, target_at, flags_at, are_flags as all_known, are_among as all_taken};
 
 use java_properties::{Encoding, Repertoire};
 
@@ -33,6 +33,18 @@ pub fn target_numbered(number: u32) -> Option<Repertoire>
     }
 }
 
+/// Returns the number of an encoding.
+pub fn number_of(encoding: Encoding) -> u32
+    ensures { result ≡ encoding_number (encoding_of encoding) }
+{
+    match encoding {
+        Encoding::WINDOWS_1252 => 0,
+        Encoding::UTF_8 => 1,
+        Encoding::UTF_16LE => 2,
+        Encoding::UTF_16BE => 3,
+    }
+}
+
 /// What a call is asked for, or what it takes.
 #[derive(Clone, Copy)]
 pub struct Flags {
@@ -46,33 +58,53 @@ pub struct Flags {
     pub crlf: bool,
     /// Lines end in CR.
     pub cr: bool,
+    /// A source that isn't text is refused.
+    pub strict: bool,
+    /// Lines were written before.
+    pub goes_on: bool,
 }
+
+// What a call takes that takes no flags.
+const NONE: Flags = Flags {
+    ascii_only: false,
+    readable: false,
+    read_comments: false,
+    crlf: false,
+    cr: false,
+    strict: false,
+    goes_on: false,
+};
 
 /// What an edit takes.
 pub const FOR_EDITS: Flags = Flags {
     ascii_only: true,
-    readable: false,
     read_comments: true,
-    crlf: false,
-    cr: false,
+    strict: true,
+    ..NONE
 };
 
-/// What a call takes that puts in no text.
+/// What a look-up takes.
 pub const FOR_KEYS: Flags = Flags {
-    ascii_only: false,
-    readable: false,
     read_comments: true,
-    crlf: false,
-    cr: false,
+    strict: true,
+    ..NONE
+};
+
+/// What a conversion takes.
+pub const FOR_CONVERSIONS: Flags = Flags {
+    readable: true,
+    strict: true,
+    ..NONE
 };
 
 /// What the call takes that writes lines.
 pub const FOR_LINES: Flags = Flags {
     ascii_only: true,
     readable: true,
-    read_comments: false,
     crlf: true,
     cr: true,
+    goes_on: true,
+    ..NONE
 };
 
 /// Returns what the flags with this number ask for, if the call takes each of them.
@@ -84,13 +116,22 @@ pub fn flags_numbered(number: u32, taken: Flags) -> Option<Flags>
         readable: number / 2 % 2 == 1,
         read_comments: number / 4 % 2 == 1,
         crlf: number / 8 % 2 == 1,
-        cr: number / 16 == 1,
+        cr: number / 16 % 2 == 1,
+        strict: number / 32 % 2 == 1,
+        goes_on: number / 4096 == 1,
     };
-    if number < 24 && are_among(flags, taken) {
+    if are_flags(number) && are_among(flags, taken) {
         Some(flags)
     } else {
         None
     }
+}
+
+// Returns whether the number has no other flags, and one line ending at most.
+fn are_flags(number: u32) -> bool
+    ensures { result ≡ all_known number }
+{
+    number < 8192 && number / 64 % 64 == 0 && number % 32 < 24
 }
 
 fn are_among(flags: Flags, taken: Flags) -> bool
@@ -101,6 +142,8 @@ fn are_among(flags: Flags, taken: Flags) -> bool
         && (taken.read_comments || !flags.read_comments)
         && (taken.crlf || !flags.crlf)
         && (taken.cr || !flags.cr)
+        && (taken.strict || !flags.strict)
+        && (taken.goes_on || !flags.goes_on)
 }
 
 /// Returns the text with these bytes, if they are UTF-8.

@@ -57,7 +57,7 @@ fn push_repeats(bytes: &mut Vec<u8>, keys: &[KeyLine]) -> Result<(), AllocError>
 }
 
 // Appends the finding that an earlier pair has the key, if one has.
-#[tactic(auto, using(crate::proofs::PackedLines::texts))]
+#[tactic(auto, using(crate::proofs::Texts::texts))]
 fn push_repeat(bytes: &mut Vec<u8>, key: &KeyLine) -> Result<(), AllocError>
     ensures { OnOk result (bytes.new.items ≡ bytes.old.items ++ repeat_bytes (key_line_entry key.now)) }
 {

@@ -1,8 +1,8 @@
 //! The library for programs in C, and through them for other languages.
 //!
 //! Each export returns what the function of `java_properties` for its task gives. A slice is a pointer and a length,
-//! which for `out` is the room there. Texts are UTF-8. Each call but [`todrenval_version`] sets `length` and `line` and
-//! returns a status:
+//! which for `out` is the room there. Texts are UTF-8. Each call but [`todrenval_version`] and
+//! [`todrenval_encoding`] sets `length` and `line` and returns a status:
 //!
 //! - at 0, `length` bytes were written to `out`;
 //! - if `out` has too little room, nothing is written, and `length` is what is needed;
@@ -14,16 +14,20 @@
 //! of the type `Global` takes no place in a call from C.
 #![tactic(auto)]
 
+mod asked;
 pub mod convert;
 pub mod edit;
 mod encoding;
 mod findings;
 mod items;
+pub mod label;
 mod lists;
 mod numbers;
 mod out;
 pub mod read;
 mod records;
+mod sound;
+mod spans;
 mod status;
 pub mod text;
 pub mod version;

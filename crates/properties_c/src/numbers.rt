@@ -1,8 +1,7 @@
 // Numbers in packed bytes: eight bytes each, the lowest first.
 
-ghost use Rattle.std.specs.Prelude.{◌≡◌, ◌+◌, ◌++◌, ◌≤◌, ◌<◌, ◌^◌, length, MatchOption, OnOk};
+ghost use Rattle.std.specs.Prelude.{◌≡◌, ◌++◌, ◌<◌, ◌^◌, length, MatchOption, OnOk};
 ghost use Rattle.properties_c.specs.Packed.{number_bytes};
-ghost use Rattle.properties_c.specs.Private.Lists.{Puts};
 
 use std::alloc::AllocError;
 
@@ -13,29 +12,6 @@ pub fn push_number(bytes: &mut Vec<u8>, number: usize) -> Result<(), AllocError>
 {
     bytes.extend_from_slice(&number.to_le_bytes())?;
     Ok(())
-}
-
-/// Writes bytes from this place on, and returns the place after them.
-pub fn put(out: &mut [u8], at: usize, bytes: &[u8]) -> usize
-    requires { at + length bytes.now ≤ length out.old }
-    ensures place { result ≡ at + length bytes.now }
-    ensures puts { Puts at bytes.now out.old out.new }
-{
-    // Proof only: the slice's length fits a `usize`.
-    let _room = out.len();
-    let end = at + bytes.len();
-    out[at..end].copy_from_slice(bytes);
-    end
-}
-
-/// Writes a number from this place on, and returns the place after it.
-#[tactic(auto, unfolding(crate::specs::Packed::number_bytes))]
-pub fn put_number(out: &mut [u8], at: usize, number: usize) -> usize
-    requires { at + 8 ≤ length out.old }
-    ensures place { result ≡ at + 8 }
-    ensures puts { Puts at (number_bytes number) out.old out.new }
-{
-    put(out, at, &number.to_le_bytes())
 }
 
 /// Returns the number at the front and what comes after it, or `None` if the bytes are too few.

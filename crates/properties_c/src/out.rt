@@ -3,7 +3,7 @@
 ghost use Rattle.std.specs.Prelude.{◌≡◌};
 ghost use Rattle.properties_c.specs.Statuses.{error_line, status_of_kind};
 ghost use Rattle.properties_c.specs.Crossing.{crossing, Answers, Crosses, Delivers};
-ghost use Rattle.properties_c.specs.declared.status.Status.TheVariants.{Done, NoRoom};
+ghost use Rattle.properties_c.specs.declared.status.Status.TheVariants.{Done, NoRoom, NotText};
 ghost use Rattle.properties_items.specs.Errors.{kind_of};
 
 use crate::status::{Status, number_of, status_of};
@@ -31,6 +31,13 @@ pub fn refuse(status: Status, length: &mut usize, line: &mut usize) -> i32
     set_outputs(status, 0, 0, length, line)
 }
 
+/// Returns that this line isn't text.
+pub fn refuse_source(number: usize, length: &mut usize, line: &mut usize) -> i32
+    ensures { Answers NotText 0 number result length.new line.new }
+{
+    set_outputs(Status::NotText, 0, number, length, line)
+}
+
 /// Returns `NoRoom` with the size that is needed.
 pub fn buffer_too_small(needed: usize, length: &mut usize, line: &mut usize) -> i32
     ensures { Answers NoRoom needed 0 result length.new line.new }
@@ -42,12 +49,26 @@ pub fn buffer_too_small(needed: usize, length: &mut usize, line: &mut usize) -> 
 pub fn write_bytes(bytes: &[u8], out: &mut [u8], length: &mut usize, line: &mut usize) -> i32
     ensures { Delivers bytes.now Done 0 (crossing out.old result length.new line.new out.new) }
 {
+    write_up_to(bytes, Status::Done, 0, out, length, line)
+}
+
+/// Copies the bytes to the front of `out`, if they fit, and answers with this status and this line.
+pub fn write_up_to(
+    bytes: &[u8],
+    status: Status,
+    number: usize,
+    out: &mut [u8],
+    length: &mut usize,
+    line: &mut usize,
+) -> i32
+    ensures { Delivers bytes.now status number (crossing out.old result length.new line.new out.new) }
+{
     let count = bytes.len();
     if count > out.len() {
         return buffer_too_small(count, length, line);
     }
     out[..count].copy_from_slice(bytes);
-    set_outputs(Status::Done, count, 0, length, line)
+    set_outputs(status, count, number, length, line)
 }
 
 /// Returns the status of an error, with its line.

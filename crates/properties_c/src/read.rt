@@ -3,14 +3,18 @@
 ghost use Rattle.std.specs.Str.{chars};
 ghost use Rattle.properties_text.specs.Encoding.{encoding_of};
 ghost use Rattle.properties_c.specs.Crossing.{crossing};
-ghost use Rattle.properties_c.specs.Reading.{FindingsAcross, GetsAcross, ItemsAcross, TellsAs};
+ghost use Rattle.properties_c.specs.Items.{ItemsAcross};
+ghost use Rattle.properties_c.specs.Reading.{FindingsAcross, GetsAcross, TellsAs};
 
+use crate::asked::asked_numbered;
 use crate::encoding::{FOR_KEYS, encoding_numbered, flags_numbered, text_of};
 use crate::findings::findings_in;
-use crate::items::deliver_items;
-use crate::out::{fail, line_in, refuse, write_bytes, write_result};
-use crate::status::{Status, status_of};
-use java_properties::{Comments, Encoding, PropertiesError, SourceOptions, read_lines, value_with};
+use crate::items::items_in;
+use crate::out::{fail, refuse, refuse_source, write_bytes, write_result, write_up_to};
+use crate::sound::refused_line;
+use crate::spans::spanned_items;
+use crate::status::Status;
+use java_properties::{Comments, Encoding, PropertiesError, SourceOptions, value_with};
 use std::alloc::Global;
 
 /// Gives the value of a key: that of the last pair with it.
@@ -37,6 +41,9 @@ pub extern "C" fn todrenval_get(
     let Some(key) = text_of(key) else {
         return refuse(Status::NotUtf8, length, line);
     };
+    if let Some(number) = refused_line(flags.strict, source, encoding) {
+        return refuse_source(number, length, line);
+    }
     match sought_value(alloc, source, encoding, flags.read_comments, key) {
         Ok(Some(value)) => write_bytes(value.as_str().as_bytes(), out, length, line),
         Ok(None) => refuse(Status::NoKey, length, line),
@@ -44,32 +51,40 @@ pub extern "C" fn todrenval_get(
     }
 }
 
-/// Gives all comments and pairs, packed, each with its line. At a malformed escape, it gives those before it.
+/// Gives the items of a source, packed, each with its line. At a malformed escape, it gives those before it.
 #[unsafe(no_mangle)]
 pub extern "C" fn todrenval_items(
     alloc: Global,
     source: &[u8],
     encoding: u32,
+    flags: u32,
     out: &mut [u8],
     length: &mut usize,
     line: &mut usize,
 ) -> i32
     ensures { let x = crossing out.old result length.new line.new out.new in
-        ItemsAcross source.now encoding x }
+        ItemsAcross source.now encoding flags x }
 {
     let Some(encoding) = encoding_numbered(encoding) else {
         return refuse(Status::UnknownEncoding, length, line);
     };
-    let mut input = source;
-    match read_lines(alloc, &mut input, encoding) {
-        Ok(lines) => deliver_items(&lines, Status::Done, 0, out, length, line),
-        Err(stopped) => match status_of(stopped.error.kind()) {
-            Status::NoMemory => refuse(Status::NoMemory, length, line),
-            status => {
-                let number = line_in(&stopped.error);
-                deliver_items(&stopped.lines, status, number, out, length, line)
-            }
-        },
+    let Some(asked) = asked_numbered(flags) else {
+        return refuse(Status::UnknownFlags, length, line);
+    };
+    if let Some(number) = refused_line(asked.is_strict, source, encoding) {
+        return refuse_source(number, length, line);
+    }
+    if asked.has_spans {
+        return write_result(
+            spanned_items(alloc, source, encoding, asked),
+            out,
+            length,
+            line,
+        );
+    }
+    match items_in(alloc, source, encoding, asked) {
+        Ok(items) => write_up_to(&items.bytes, items.status, items.line, out, length, line),
+        Err(_) => refuse(Status::NoMemory, length, line),
     }
 }
 
@@ -110,6 +125,7 @@ fn sought_value(
     let options = SourceOptions {
         encoding,
         ascii_only: false,
+        latin_1: false,
         comments,
     };
     value_with(alloc, source, options, key)

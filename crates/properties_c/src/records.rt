@@ -1,10 +1,12 @@
 // Records of packed lists: a kind, a line, the lengths of a key and a value, and then these.
 
-ghost use Rattle.std.specs.Prelude.{◌≡◌, ◌+◌, ◌++◌, ◌≤◌, ◌<◌, length, IfSome, MatchOption};
-ghost use Rattle.properties_c.specs.Packed.{packed, record_in};
-ghost use Rattle.properties_c.specs.Private.Lists.{SplitsRecord, header_bytes, IsSizedHeader, Puts};
+ghost use Rattle.std.specs.Prelude.{◌≡◌, ◌++◌, ◌<◌, length, MatchOption, OnOk};
+ghost use Rattle.std.specs.List.{flat_map};
+ghost use Rattle.properties_c.specs.Packed.{number_bytes, packed, record_in, spanned};
+ghost use Rattle.properties_c.specs.Private.Lists.{SplitsRecord, header_bytes, header_of, IsSizedHeader};
 
-use crate::numbers::{put, put_number, split_number};
+use crate::numbers::{push_number, split_number};
+use std::alloc::AllocError;
 
 /// A record of a packed list.
 #[derive(Clone, Copy)]
@@ -24,42 +26,53 @@ struct Header {
     value_length: usize,
 }
 
-/// Returns how many bytes a record takes, if that is a number.
-#[tactic(auto, using(crate::proofs::Packing::sizes))]
-pub fn record_size(given: Record<'_>) -> Option<usize>
-    ensures { IfSome result (λ size. size ≡ length (packed (record_in given.entry))) }
+/// Appends a record.
+#[tactic(auto, using(std::proofs::Common::append_assoc, crate::proofs::Packing::headers))]
+#[inline(always)]
+pub fn push_record(bytes: &mut Vec<u8>, given: Record<'_>) -> Result<(), AllocError>
+    ensures { OnOk result (bytes.new.items ≡ bytes.old.items ++ packed (record_in given.entry)) }
 {
-    let texts = given.key.len().checked_add(given.value.len())?;
-    texts.checked_add(32)
+    push_header(bytes, given)?;
+    bytes.extend_from_slice(given.key)?;
+    bytes.extend_from_slice(given.value)?;
+    Ok(())
 }
 
-/// Writes a record from this place on, and returns the place after it.
-#[tactic(auto, using(crate::proofs::Packing::sizes))]
-pub fn put_record(out: &mut [u8], at: usize, given: Record<'_>) -> usize
-    requires { at + length (packed (record_in given)) ≤ length out.old }
-    ensures place { result ≡ at + length (packed (record_in given.entry)) }
-    ensures puts { Puts at (packed (record_in given.entry)) out.old out.new }
+/// Appends a record with numbers before its texts.
+#[tactic(auto, using(std::proofs::Common::append_assoc, crate::proofs::Packing::headers))]
+pub fn push_spanned(
+    bytes: &mut Vec<u8>,
+    given: Record<'_>,
+    numbers: &[usize],
+) -> Result<(), AllocError>
+    ensures { OnOk result (bytes.new.items ≡ bytes.old.items ++ spanned (record_in given.entry) numbers.now) }
 {
-    let header = Header {
-        kind: given.kind,
-        line: given.line,
-        key_length: given.key.len(),
-        value_length: given.value.len(),
-    };
-    let key_at = put_header(out, at, header);
-    let value_at = put(out, key_at, given.key);
-    put(out, value_at, given.value)
+    push_header(bytes, given)?;
+    push_numbers(bytes, numbers)?;
+    bytes.extend_from_slice(given.key)?;
+    bytes.extend_from_slice(given.value)?;
+    Ok(())
 }
 
-fn put_header(out: &mut [u8], at: usize, header: Header) -> usize
-    requires { at + 32 ≤ length out.old }
-    ensures place { result ≡ at + 32 }
-    ensures puts { Puts at (header_bytes header) out.old out.new }
+// Appends the numbers at the front of a record.
+#[tactic(auto, using(std::proofs::Common::append_assoc))]
+#[inline(always)]
+fn push_header(bytes: &mut Vec<u8>, given: Record<'_>) -> Result<(), AllocError>
+    ensures { OnOk result (bytes.new.items ≡ bytes.old.items ++ header_bytes (header_of (record_in given.entry))) }
 {
-    let line_at = put_number(out, at, header.kind);
-    let key_length_at = put_number(out, line_at, header.line);
-    let value_length_at = put_number(out, key_length_at, header.key_length);
-    put_number(out, value_length_at, header.value_length)
+    push_number(bytes, given.kind)?;
+    push_number(bytes, given.line)?;
+    push_number(bytes, given.key.len())?;
+    push_number(bytes, given.value.len())
+}
+
+fn push_numbers(bytes: &mut Vec<u8>, numbers: &[usize]) -> Result<(), AllocError>
+    ensures { OnOk result (bytes.new.items ≡ bytes.old.items ++ flat_map number_bytes numbers.now) }
+{
+    for number in numbers {
+        push_number(bytes, *number)?;
+    }
+    Ok(())
 }
 
 /// Returns the record at the front of a packed list and what comes after it, or `None` if it is cut short.

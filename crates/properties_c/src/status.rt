@@ -30,7 +30,7 @@ pub enum Status {
     InvalidCharacter,
     /// A line has no number.
     TooManyLines,
-    /// Sources in this encoding can't be edited.
+    /// Sources in this encoding can't be edited, and have no spans.
     Unsupported,
     /// Comments can't begin so.
     BadPrefix,
@@ -40,6 +40,8 @@ pub enum Status {
     EmptyKey,
     /// The call doesn't take one of the flags, or not all of them at once.
     UnknownFlags,
+    /// The source isn't text in its encoding.
+    NotText,
 }
 
 /// Returns the number of a status.
@@ -63,6 +65,7 @@ pub fn number_of(status: Status) -> i32
         Status::BadSeparator => 13,
         Status::EmptyKey => 14,
         Status::UnknownFlags => 15,
+        Status::NotText => 16,
     }
 }
 

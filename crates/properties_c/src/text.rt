@@ -45,6 +45,7 @@ fn status_numbered(number: i32) -> Option<Status>
         13 => Some(Status::BadSeparator),
         14 => Some(Status::EmptyKey),
         15 => Some(Status::UnknownFlags),
+        16 => Some(Status::NotText),
         _ => None,
     }
 }
@@ -64,10 +65,11 @@ fn text_of(status: Status) -> &'static str
         Status::NotHex => "Malformed \\uxxxx encoding: not hex.",
         Status::InvalidCharacter => "Malformed \\uxxxx encoding: invalid character.",
         Status::TooManyLines => "Too many lines.",
-        Status::Unsupported => "Encoding can't be edited.",
+        Status::Unsupported => "The call doesn't take this encoding.",
         Status::BadPrefix => "Bad comment prefix.",
         Status::BadSeparator => "Bad key/value separator.",
         Status::EmptyKey => "Empty key with a blank key/value separator.",
         Status::UnknownFlags => "Unknown flags.",
+        Status::NotText => "The source isn't text in its encoding.",
     }
 }

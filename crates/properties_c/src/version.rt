@@ -2,10 +2,10 @@
 
 ghost use Rattle.std.specs.Prelude.{◌≡◌};
 
-/// Returns the number of the interface: 3.
+/// Returns the number of the interface: 4.
 #[unsafe(no_mangle)]
 pub extern "C" fn todrenval_version() -> u32
-    ensures { result ≡ 3 }
+    ensures { result ≡ 4 }
 {
-    3
+    4
 }

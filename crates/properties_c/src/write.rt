@@ -9,7 +9,7 @@ ghost use Rattle.properties_c.specs.Crossing.{crossing};
 ghost use Rattle.properties_c.specs.Writing.{given_or as chosen, ending_in, settings_for, WritesAcross};
 ghost use Rattle.java_properties.specs.PropertiesWriter.{new_writer};
 ghost use Rattle.properties_format.specs.Encoding.{output_encoding};
-ghost use Rattle.properties_c.specs.Private.Results.{SetsAll, WritesCalls};
+ghost use Rattle.properties_c.specs.Private.Results.{SetsAll, WritesCalls, WritesOn};
 
 use crate::encoding::{FOR_LINES, Flags, encoding_numbered, flags_numbered, text_of};
 use crate::lists::calls_of;
@@ -52,10 +52,34 @@ pub extern "C" fn todrenval_write(
         Ok(calls) => calls,
         Err(status) => return refuse(status, length, line),
     };
-    match written(alloc, &calls, encoding, flags, prefix, separator) {
-        Ok(bytes) => write_bytes(&bytes, out, length, line),
+    match written_going_on(alloc, calls, encoding, flags, prefix, separator) {
+        Ok((bytes, front)) => write_bytes(&bytes[front..], out, length, line),
         Err(status) => refuse(status, length, line),
     }
+}
+
+// Returns what a writer with these settings writes for these calls, and how long its front is that isn't asked for. If
+// lines were written before, a comment comes first, so that no other line is the first of a file.
+fn written_going_on(
+    alloc: Global,
+    calls: Vec<Call>,
+    encoding: Encoding,
+    flags: Flags,
+    prefix: &str,
+    separator: &str,
+) -> Result<(Vec<u8>, usize), Status>
+    ensures { let settings = settings_for flags (chars prefix.now) (chars separator.now) in
+        WritesOn (encoding_of encoding) settings flags.goes_on (calls_in calls.items) result }
+{
+    let mut calls = calls;
+    let mut front = 0;
+    if flags.goes_on {
+        calls.insert(0, Call::Comment(String::new(alloc)))?;
+        let first = written(alloc, &calls[..1], encoding, flags, prefix, separator)?;
+        front = first.len();
+    }
+    let bytes = written(alloc, &calls, encoding, flags, prefix, separator)?;
+    Ok((bytes, front))
 }
 
 // Returns what a writer with these settings writes for these calls.

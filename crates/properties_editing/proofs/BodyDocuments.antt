@@ -1,12 +1,12 @@
 -- What the calls of a document come to.
-use Rattle.std.proofs.Common.{◌≡◌, ℕ, Bool, true, List, [], drop, All, refl, ap, ap₂, sym, ◌∙◌, subst, inl, ◌+◌, length, ◌∷◌}
+use Rattle.std.proofs.Common.{◌≡◌, ℕ, Bool, true, false, List, [], drop, All, refl, ap, ap₂, sym, ◌∙◌, subst, inl, ◌+◌, length, ◌∷◌}
 use Rattle.std.specs.Prelude.{Option, Some, None, Result, Ok, Err, IfOk, map}
 use Rattle.std.proofs.lemmas.List.{length-map}
 use Rattle.std.specs.Borrow.{Bor}
 use Rattle.std.specs.Global.{Vec}
 use Rattle.std.specs.Option.{is_some}
 use Rattle.std.proofs.Math.Path.{fun_ext}
-use Rattle.properties_format.specs.Encoding.{Encoding, InForce, Repertoire, repertoire}
+use Rattle.properties_format.specs.Encoding.{Encoding, InForce, Repertoire}
 use Rattle.properties_format.specs.Lines.{end}
 use Rattle.properties_format.specs.Text.{scalar}
 use Rattle.properties_format.specs.Items.{Content, AreItems, IsItems, Outcome, ignored, given, broken}
@@ -213,7 +213,7 @@ module _ (d : Inside) (i : IsDocument d) (new : SourceParts) (all : new.parts.ke
       → IsDocument after × (open_document after ≡ record { repertoire = r; comments = d.comments; bytes = result })
   comes-to result parts sound =
       let same : bytes_of after ≡ result = source-bytes parts.stand in
-      let own : repertoire_of after ≡ r = ap (repertoire (encoding_of d.encoding)) parts.stand.in_force.ascii_only in (
+      let own : repertoire_of after ≡ r = ap (λ s. let t : Repertoire = record { encoding = encoding_of d.encoding; characters = s } in t) parts.stand.in_force.characters in (
         record {
           parts = subst (λ v. AreParts v d.source.items (bytes_of after) every new) (sym own)
               (subst (λ v. AreParts r d.source.items v every new) (sym same) parts);
@@ -269,7 +269,7 @@ module _ (d : Inside) (i : IsDocument d) (new : SourceParts) (all : new.parts.ke
 
 -- What is put in is written in ASCII only from now on, or not.
 pub ascii-turned : (d : Inside) → IsDocument d → (only : Bool)
-    → (let after : Inside = record d { edited = record d.edited { opened = record d.edited.opened { ascii_only = only } } } in
+    → (let after : Inside = record d { edited = record d.edited { opened = record d.edited.opened { ascii_only = only; latin_1 = false } } } in
     IsDocument after × TurnsAsciiOnly only (open_document d) (open_document after))
 ascii-turned d i only =
     let s = i.parts.stand in
@@ -278,7 +278,7 @@ ascii-turned d i only =
         parts = record {
           groups = i.parts.groups;
           stand = record {
-            in_force = record { in_force = force.in_force; within = force.within; ascii_only = refl; editable = force.editable };
+            in_force = record { in_force = force.in_force; within = force.within; characters = refl; editable = force.editable };
             within = s.within;
             mark = s.mark;
             body = s.body;
@@ -322,7 +322,7 @@ opens-document d options source opened keys encoding comments copy force reads n
     let stand : StandForSource r d.source.items source every gs d.edited =
     subst (λ v. StandForSource r v source every gs d.edited) (sym copy) (subst (λ v. StandForSource r source source v gs d.edited) all_named read.1) in
     let same : bytes_of d ≡ source = source-bytes stand in
-    let own : repertoire_of d ≡ r = ap₂ (λ e b. repertoire (encoding_of e) b) encoding stand.in_force.ascii_only in
+    let own : repertoire_of d ≡ r = ap₂ (λ e s. let t : Repertoire = record { encoding = encoding_of e; characters = s } in t) encoding stand.in_force.characters in
     let parts : AreParts r d.source.items source every d.edited = record { groups = gs; stand = stand; sound = sound-weaker c gs read.0 } in
     let sound = subst (λ v. let w : InForce = v in AreSoundFor c (held_groups_of w.encoding w.body)) (sym force.in_force) read.0 in
     let made = made-result c (AreEdited r source []) source force read.0 refl in (

@@ -9,7 +9,7 @@ use Rattle.std.proofs.lemmas.Bool.{cases_Bool}
 use Rattle.properties_format.specs.Text.{scalar, equals_sign, is_empty}
 use Rattle.properties_format.specs.Printing.{in_key_or_value, printed_key, printed_characters, encoded_text}
 use Rattle.properties_format.proofs.Printing.Characters.{encoded-ascii, encoded_text-append}
-use Rattle.properties_format.specs.Encoding.{Encoding, InForce, byte_order_mark, begins_with, begins_like_bom, utf_8_bom, utf_16be_bom, utf_16le_bom, windows_1252, utf_8, utf_16le, utf_16be, Repertoire, repertoire, in_encoding, all_of}
+use Rattle.properties_format.specs.Encoding.{Encoding, InForce, byte_order_mark, begins_with, begins_like_bom, utf_8_bom, utf_16be_bom, utf_16le_bom, windows_1252, utf_8, utf_16le, utf_16be, Repertoire, in_encoding, all_of}
 use Rattle.properties_format.specs.Body.{held_in}
 use Rattle.properties_format.specs.Edited.{bom_of, pair_bytes, is_editable, edited, IsKeySet, IsKeyRemoved, IsSetKeyResult, IsRemoveKeyResult}
 use Rattle.properties_format.specs.Computed.Body.{held_groups_of}
@@ -68,11 +68,12 @@ editable-unit utf_16be h = absurd (cc)
 
 -- what may stand unescaped in it, and in what is printed for it, is what was requested
 pub used-own : {source : List ℕ} {r : Repertoire} {opened : BodyStart} → IsInForce source r opened → used_in opened ≡ in_encoding r (encoding_of opened.encoding)
-used-own {opened = opened} h = ap (repertoire (encoding_of opened.encoding)) h.ascii_only
+used-own {opened = opened} h = ap (λ s. let t : Repertoire = record { encoding = encoding_of opened.encoding; characters = s } in t) h.characters
 
 pub printed-own : {source : List ℕ} {r : Repertoire} {opened : BodyStart} → IsInForce source r opened
     → printed_in opened ≡ in_encoding r (encoding_of opened.encoding)
-printed-own {opened = opened} h = ap₂ repertoire (editable-own (encoding_of opened.encoding) h.editable) h.ascii_only
+printed-own {opened = opened} h =
+    ap₂ (λ e s. let t : Repertoire = record { encoding = e; characters = s } in t) (editable-own (encoding_of opened.encoding) h.editable) h.characters
 
 -- Bytes that keep the byte order mark are in force as the source is.
 pub again : {r : Repertoire} {old : List ℕ} {opened : BodyStart} (new body : List ℕ) → IsInForce old r opened → new ≡ bom_of old ++ body
@@ -86,7 +87,7 @@ again {r} {old} {opened} new body h whole is =
       in_force =
           is ∙ ap₂ (λ f b. let w : InForce = record { encoding = f; body = b } in w) (ap (λ v. let w : InForce = v in w.encoding) h.in_force) (sym back);
       within = omega arith;
-      ascii_only = h.ascii_only;
+      characters = h.characters;
       editable = h.editable;
     }
 
@@ -141,7 +142,7 @@ set-edits {r} {source} {key} {value} {bytes} k v meets = record {
     reads = edit-reads r source (put key value) bytes (k, v) meets;
   };
   keeps = key_set-keeps r source key value bytes meets.2;
-  ascii = λ on. edit-in_ascii r.encoding source (put key value) bytes (subst (λ b. IsSetKeyResult (repertoire r.encoding b) source key value (edited bytes)) on meets);
+  ascii = λ on. edit-in_ascii r.encoding source (put key value) bytes (subst (λ b. IsSetKeyResult (record { encoding = r.encoding; characters = b }) source key value (edited bytes)) on meets);
 }
 
 pub returns-set : (r : Repertoire) (source key value : List ℕ) → All scalar key → All scalar value → (result : Result (Vec ℕ) PropertiesError)
@@ -229,7 +230,7 @@ value-edits {r} {source} {key} {value} {bytes} k v meets = record {
   };
   keeps = value_set-keeps r source key value bytes meets.2;
   keeps_front = value_set-keeps_front r source key value bytes meets.0 meets.2;
-  ascii = λ on. edit-in_ascii r.encoding source (set_value key value) bytes (subst (λ b. IsSetValueResult (repertoire r.encoding b) source key value (edited bytes)) on meets);
+  ascii = λ on. edit-in_ascii r.encoding source (set_value key value) bytes (subst (λ b. IsSetValueResult (record { encoding = r.encoding; characters = b }) source key value (edited bytes)) on meets);
 }
 
 pub returns-value : (r : Repertoire) (source key value : List ℕ) → All scalar key → All scalar value → (result : Result (Vec ℕ) PropertiesError)

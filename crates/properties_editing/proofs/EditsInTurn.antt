@@ -3,7 +3,7 @@ use Rattle.std.proofs.Common.{◌≡◌, ℕ, List, [], ◌∷◌, ◌++◌, ref
 use Rattle.std.specs.Prelude.{Result, Ok, Err, IsErrAnd}
 use Rattle.std.proofs.lemmas.Result.{err_from_is_err_and}
 use Rattle.std.specs.Global.{Vec}
-use Rattle.properties_format.specs.Encoding.{Encoding, Repertoire, repertoire}
+use Rattle.properties_format.specs.Encoding.{Encoding, Repertoire}
 use Rattle.properties_format.specs.Edited.{edited}
 use Rattle.properties_format.specs.Edits.{Edit, IsEdited, AreEdited, AreScalarEdits, IsEditAllResult, IsEditPairsResult}
 use Rattle.properties_format.specs.Changed.{AreLinesEditedInTurn}
@@ -38,7 +38,7 @@ result-made {r} {source} {bytes} edits scalar h = record {
     reads = edit_all-reads r source edits bytes scalar h;
   };
   keeps = edit_all-kept r source edits bytes h;
-  ascii = λ on. edit_all-in_ascii r.encoding source edits bytes (subst (λ b. IsEditAllResult (repertoire r.encoding b) source edits (edited bytes)) on h);
+  ascii = λ on. edit_all-in_ascii r.encoding source edits bytes (subst (λ b. IsEditAllResult (record { encoding = r.encoding; characters = b }) source edits (edited bytes)) on h);
 }
 
 pub returns-all : (r : Repertoire) (source : List ℕ) (edits : List Edit) → AreScalarEdits edits
@@ -60,7 +60,7 @@ pairs-made {r} {source} {bytes} edits scalar h = record {
   mapped = edit_pairs-map r source edits bytes scalar h;
   in_comments = edits-in_comments r source edits bytes scalar h;
   keeps = edits-kept r source edits bytes h.0 h.2;
-  ascii = λ on. edit_pairs-in_ascii r.encoding source edits bytes (subst (λ b. IsEditPairsResult (repertoire r.encoding b) source edits (edited bytes)) on h);
+  ascii = λ on. edit_pairs-in_ascii r.encoding source edits bytes (subst (λ b. IsEditPairsResult (record { encoding = r.encoding; characters = b }) source edits (edited bytes)) on h);
 }
 
 pub returns-pairs : (r : Repertoire) (source : List ℕ) (edits : List Edit) → AreScalarEdits edits

@@ -2,7 +2,7 @@
 use Rattle.std.specs.Prelude.{◌≡◌, ℕ, Bool, true, false, List, [], ◌∷◌, map, Option, Some, None, Result, Ok, Err}
 use Rattle.std.specs.Borrow.{Bor}
 use Rattle.std.specs.Str.{chars}
-use Rattle.properties_format.specs.Encoding.{Encoding, Repertoire, all_of}
+use Rattle.properties_format.specs.Encoding.{Encoding, Repertoire, repertoire, all_of}
 use Rattle.properties_format.specs.Maps.{HasKeys, HasValue}
 use Rattle.properties_format.specs.Edited.{EditResult}
 use Rattle.properties_format.specs.Edits.{Edit, put, remove, set_value, HasPairKeys, HasPairValue, IsEditAllResult, IsEditPairsResult}
@@ -12,7 +12,7 @@ use Rattle.properties_editing.specs.declared.source.Comments.TheVariants.{Read, 
 use Rattle.properties_editing.specs.declared.source.SourceOptions.{SourceOptions}
 use Rattle.properties_items.specs.declared.error.PropertiesError.{PropertiesError}
 
--- A document as its callers see it: the requested encoding and whether what is put in is written in ASCII only, what
+-- A document as its callers see it: the requested encoding and which of its characters are put in unescaped, what
 -- becomes of comments, and the document's bytes.
 pub record OpenDocument : Type 0 where
   pub repertoire : Repertoire
@@ -40,9 +40,9 @@ OpensDocumentWith options source (Ok d) =
     × AreMadeFor options.comments (asked_for options) source [] source
 OpensDocumentWith options source (Err error) = IsRefusal (IsResultFor options.comments (asked_for options) source []) error
 
--- What the edits after this put in is written in ASCII only, or not. All else is as it was.
+-- What the edits after this put in is written in ASCII only, or in all characters of the encoding. All else is as it was.
 abbrev pub TurnsAsciiOnly : Bool → OpenDocument → OpenDocument → Type 0
-TurnsAsciiOnly only old new = new ≡ record old { repertoire = record old.repertoire { ascii_only = only } }
+TurnsAsciiOnly only old new = new ≡ record old { repertoire = repertoire old.repertoire.encoding only }
 
 -- What was requested is as it was.
 abbrev pub KeepsRequest : OpenDocument → OpenDocument → Type 0

@@ -1,8 +1,8 @@
 -- The results of edits.
-use Rattle.std.specs.Prelude.{◌≡◌, ◌⊎◌, ℕ, true, List, Option, Result, Ok, Err, map, string_bytes}
+use Rattle.std.specs.Prelude.{◌≡◌, ◌⊎◌, ℕ, List, Option, Result, Ok, Err, map, string_bytes}
 use Rattle.std.specs.Str.{chars}
 use Rattle.std.specs.Global.{Vec}
-use Rattle.properties_format.specs.Encoding.{Encoding, Repertoire, all_of, repertoire}
+use Rattle.properties_format.specs.Encoding.{Encoding, Repertoire, all_of, ascii_characters, characters_for}
 use Rattle.properties_format.specs.Escapes.{Malformed}
 use Rattle.properties_format.specs.Items.{Entry}
 use Rattle.properties_format.specs.Maps.{IsMap}
@@ -43,7 +43,7 @@ pub record IsEdit (IsMeant : EditResult → Type 0) (Reads : List ℕ → Type 0
 pub record IsSet (r : Repertoire) (source key value bytes : List ℕ) : Type 0 where
   pub edit : IsEdit (IsSetKeyResult r source key value) (ReadsAfter (IsSetIn key value) (map_edited (put key value)) r.encoding source) bytes
   pub keeps : KeepsOthers (AreOthersThanLast key) r.encoding source bytes
-  pub ascii : r.ascii_only ≡ true → IsInAscii source bytes
+  pub ascii : r.characters ≡ ascii_characters → IsInAscii source bytes
 
 abbrev pub MakesSet : Repertoire → List ℕ → List ℕ → List ℕ → Result (Vec ℕ) PropertiesError → Type 0
 MakesSet r source key value (Ok bytes) = IsSet r source key value bytes.items
@@ -59,7 +59,7 @@ pub record HasValueSet (r : Repertoire) (source key value bytes : List ℕ) : Ty
   pub edit : IsEdit (IsSetValueResult r source key value) (ReadsAfter (IsSetIn key value) (map_edited (put key value)) r.encoding source) bytes
   pub keeps : KeepsOthers (AreOthersThanLast key) r.encoding source bytes
   pub keeps_front : KeepsFront r.encoding source key bytes
-  pub ascii : r.ascii_only ≡ true → IsInAscii source bytes
+  pub ascii : r.characters ≡ ascii_characters → IsInAscii source bytes
 
 abbrev pub MakesValueSet : Repertoire → List ℕ → List ℕ → List ℕ → Result (Vec ℕ) PropertiesError → Type 0
 MakesValueSet r source key value (Ok bytes) = HasValueSet r source key value bytes.items
@@ -92,7 +92,7 @@ edits_in edits = map edit_in edits
 pub record AreMade (r : Repertoire) (source : List ℕ) (edits : List format.Edit) (bytes : List ℕ) : Type 0 where
   pub edit : IsEdit (IsEditAllResult r source edits) (ReadsAfter (AreEditedIn edits) (map_after edits) r.encoding source) bytes
   pub keeps : AreKept r source edits bytes
-  pub ascii : r.ascii_only ≡ true → IsInAscii source bytes
+  pub ascii : r.characters ≡ ascii_characters → IsInAscii source bytes
 
 abbrev pub MakesEdits : Repertoire → List ℕ → List format.Edit → Result (Vec ℕ) PropertiesError → Type 0
 MakesEdits r source edits (Ok bytes) = AreMade r source edits bytes.items
@@ -114,7 +114,7 @@ pub record ArePairsMade (r : Repertoire) (source : List ℕ) (edits : List forma
       → (value_at : List ℕ → Option (List ℕ)) → IsMap old value_at → IsMap new (map_after edits value_at)
   pub in_comments : EscapesAre r.encoding bytes AreInComments
   pub keeps : AreKept r source edits bytes
-  pub ascii : r.ascii_only ≡ true → IsInAscii source bytes
+  pub ascii : r.characters ≡ ascii_characters → IsInAscii source bytes
 
 abbrev pub EditsPairs : Repertoire → List ℕ → List format.Edit → Result (Vec ℕ) PropertiesError → Type 0
 EditsPairs r source edits (Ok bytes) = ArePairsMade r source edits bytes.items
@@ -122,7 +122,7 @@ EditsPairs r source edits (Err error) = IsRefusal (IsEditPairsResult r source ed
 
 -- what may stand unescaped in what edits with these options put in
 abbrev pub asked_for : SourceOptions → Repertoire
-asked_for options = repertoire (encoding_of options.encoding) options.ascii_only
+asked_for options = record { encoding = encoding_of options.encoding; characters = characters_for options.ascii_only options.latin_1 }
 
 -- The source after edits for which comments are read, or passed over,
 abbrev pub MakesEditsFor : Comments → Repertoire → List ℕ → List format.Edit → Result (Vec ℕ) PropertiesError → Type 0

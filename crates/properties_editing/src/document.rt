@@ -159,6 +159,7 @@ impl Document {
         ensures { TurnsAsciiOnly ascii_only self.old self.new }
     {
         self.edited.opened.ascii_only = ascii_only;
+        self.edited.opened.latin_1 = false;
     }
 
     /// Sets a key to a value, as [`set_key`](crate::set_key) does. If memory runs out, nothing changes.

@@ -15,6 +15,7 @@ ghost use Rattle.properties_lines.specs.LineSearch.{unit_size};
 ghost use Rattle.properties_items.specs.Texts.{characters};
 ghost use Rattle.properties_editing.specs.Private.BodyValues.{IsGroupAlone, unended_pair};
 ghost use Rattle.properties_editing.specs.Private.Sources.{PrintsIn, printed_in};
+ghost use Rattle.properties_format.specs.Encoding.{latin_1_in, output_encoding};
 
 use crate::groups::first_group;
 use crate::layout::separator_span;
@@ -122,12 +123,26 @@ fn push_shortened(short: &mut String, was_blank: bool, character: char) -> Resul
     Ok(())
 }
 
-/// Returns the characters that an edit prints as they are: all that the encoding has, or those of ASCII.
+/// Returns the characters that an edit prints as they are: all that the encoding has, those of them whose bytes
+/// ISO 8859-1 reads alike, or those of ASCII.
 pub fn repertoire_of(opened: BodyStart) -> Repertoire
     ensures { PrintsIn (printed_in opened) result }
 {
     if opened.ascii_only {
         return Repertoire::Ascii;
     }
+    if opened.latin_1 {
+        return latin_1_in(opened.encoding);
+    }
     Repertoire::from(LineEncoding::from(opened.encoding))
+}
+
+// Returns the characters of an encoding whose bytes ISO 8859-1 reads alike. Of UTF-8, these are those of ASCII.
+fn latin_1_in(encoding: Encoding) -> Repertoire
+    ensures { PrintsIn (latin_1_in (output_encoding (encoding_of encoding))) result }
+{
+    match encoding {
+        Encoding::WINDOWS_1252 => Repertoire::Latin1,
+        _ => Repertoire::Ascii,
+    }
 }

@@ -56,6 +56,10 @@ pub struct SourceOptions {
     /// Whether the keys and values that edits put in are written in ASCII only: every other character as a `\u` escape,
     /// or two above U+FFFF. What stands in the source and isn't replaced stays as it is.
     pub ascii_only: bool,
+    /// Whether those keys and values have only characters whose bytes ISO 8859-1 reads alike, and every other character
+    /// is written as an escape: of windows-1252, the characters up to U+007F and from U+00A0 to U+00FF stay; of UTF-8,
+    /// those of ASCII. So `Properties.load(InputStream)` of Java reads them as they are meant.
+    pub latin_1: bool,
     /// Whether comments are read or passed over.
     pub comments: Comments,
 }
@@ -63,11 +67,12 @@ pub struct SourceOptions {
 impl SourceOptions {
     /// Returns the options for this encoding: edits write every character that it has, and comments are read.
     pub fn new(encoding: Encoding) -> SourceOptions
-        ensures { let all : SourceOptions = record { encoding = encoding; ascii_only = false; comments = Read } in result ≡ all }
+        ensures { let all : SourceOptions = record { encoding = encoding; ascii_only = false; latin_1 = false; comments = Read } in result ≡ all }
     {
         SourceOptions {
             encoding,
             ascii_only: false,
+            latin_1: false,
             comments: Comments::Read,
         }
     }
@@ -82,6 +87,8 @@ pub struct BodyStart {
     pub start: usize,
     /// Whether new texts are written in ASCII only.
     pub ascii_only: bool,
+    /// Whether they have only characters whose bytes ISO 8859-1 reads alike.
+    pub latin_1: bool,
 }
 
 impl BodyStart {
@@ -95,6 +102,7 @@ impl BodyStart {
                 encoding,
                 start,
                 ascii_only: options.ascii_only,
+                latin_1: options.latin_1,
             }),
             Encoding::UTF_16LE | Encoding::UTF_16BE => Err(make::bare(ErrorKind::Unsupported)),
         }

@@ -1,6 +1,6 @@
 -- If ASCII-only output is on, every byte that is written is ASCII, and the bytes read back the same in windows-1252 and
 -- in UTF-8.
-use Rattle.std.proofs.Common.{◌≡◌, ℕ, ◌<◌, ◌==◌, Bool, true, false, List, [], ◌∷◌, ◌++◌, refl, sym, ◌∙◌, inl, inr, ap₂, subst, ltb-true, arith}
+use Rattle.std.proofs.Common.{◌≡◌, ℕ, ◌<◌, ◌==◌, ◌&&◌, Bool, true, false, List, [], ◌∷◌, ◌++◌, refl, sym, ◌∙◌, inl, inr, ap, ap₂, subst, ltb-true, arith}
 use Rattle.std.specs.Prelude.{Option, Some, None, is_some, nat_lt, if◌then◌else◌}
 use Rattle.std.specs.List.{AllByRecursion}
 use Rattle.std.proofs.lemmas.List.Elements.{All-from_recursion, recursion_from_All}
@@ -9,7 +9,7 @@ use Rattle.properties_format.specs.Text.{line_ending_text, is_blanks}
 use Rattle.properties_format.specs.Encoding.{Encoding, windows_1252, utf_8, encoded, begins_like_bom, Repertoire, ascii_in}
 use Rattle.properties_format.specs.Items.{Content, comment, pair}
 use Rattle.properties_format.specs.Settings.{Settings, IsGoodSeparator}
-use Rattle.properties_format.specs.Printing.{Place, in_key_or_value, in_comment, in_prefix, may_be_unescaped, literal, printed_character, printed_characters, encoded_text, is_bom_like, printed_key, is_free, printed_inside, printed_first, printed_rest, printed_value, printed_text, printed}
+use Rattle.properties_format.specs.Printing.{Place, in_key_or_value, in_comment, in_prefix, may_be_unescaped, literal, printed_character, printed_characters, encoded_text, is_bom_like, with_first_escaped, printed_key, is_free, printed_inside, printed_first, printed_rest, printed_value, printed_text, printed}
 use Rattle.properties_format.specs.Writing.{Call, prefix_call, separator_call, ascii_only_call, settings_after_call, settings_after, written_line, lines_with, line_bytes, wrote, items_read_back, ArePrefixesClean, AreOfScalars, AreGoodSettings}
 use Rattle.properties_format.specs.AsciiOnly.{KeepsAsciiOnly, AllKeepAsciiOnly, AreAsciiOnly, AreAsciiBytes, AreItemsInBoth}
 use Rattle.properties_format.proofs.Printing.Characters.{AreAscii, AreAscii-append, encoded_text-ascii, line_ending-ascii, good_separator-ascii, may_be_unescaped-ascii, printed-either, unicode_escape-ascii, special-ascii, free-plain, first-special}
@@ -26,15 +26,52 @@ may_be_unescaped-on e c = elim (cases_Bool (nat_lt c 0x80)) [
   | inr k ↦ and_left (nat_lt c 0x80) (is_some (encoded e c)) k ∙ sym k
 ]
 
--- Unescaped or escaped, a character is written the same in every encoding.
-literal-same : (e f : Encoding) (c : ℕ) → literal (ascii_in e) c ≡ literal (ascii_in f) c
-literal-same e f c = rw (may_be_unescaped-on e c, may_be_unescaped-on f c)
+-- Two repertoires in which the same characters may be written unescaped print the same:
+module _ (r s : Repertoire) (may : (c : ℕ) → may_be_unescaped r c ≡ may_be_unescaped s c) where
+  -- a character, unescaped or escaped,
+  literal-alike : (c : ℕ) → literal r c ≡ literal s c
+  literal-alike c = rw (may c)
 
--- A character is printed the same in every encoding.
-pub printed-same : (e f : Encoding) (place : Place) (c : ℕ) → printed_character (ascii_in e) place c ≡ printed_character (ascii_in f) place c
-printed-same e f in_key_or_value c = rw (literal-same e f c)
-printed-same e f in_comment c = rw (literal-same e f c)
-printed-same e f in_prefix c = literal-same e f c
+  -- wherever it is,
+  printed-alike : (place : Place) (c : ℕ) → printed_character r place c ≡ printed_character s place c
+  printed-alike in_key_or_value c = rw (literal-alike c)
+  printed-alike in_comment c = rw (literal-alike c)
+  printed-alike in_prefix c = literal-alike c
+
+  -- a text,
+  pub printed_characters-alike : (place : Place) (x : List ℕ) → printed_characters r place x ≡ printed_characters s place x
+  printed_characters-alike place [] = refl
+  printed_characters-alike place (c ∷ x) = cc (printed-alike place c, printed_characters-alike place x)
+
+  -- a character inside a value,
+  inside-alike : (c : ℕ) → printed_inside r c ≡ printed_inside s c
+  inside-alike c = rw (printed-alike in_key_or_value c)
+
+  -- those after the first,
+  rest-alike : (cs : List ℕ) → printed_rest r cs ≡ printed_rest s cs
+  rest-alike [] = refl
+  rest-alike (c ∷ []) = rw (inside-alike c)
+  rest-alike (c ∷ d ∷ cs) = cc (inside-alike c, rest-alike (d ∷ cs))
+
+  -- the whole value,
+  pub printed_value-alike : (after_blanks : Bool) (value : List ℕ) → printed_value r after_blanks value ≡ printed_value s after_blanks value
+  printed_value-alike after_blanks [] = refl
+  printed_value-alike after_blanks (c ∷ cs) = cc (inside-alike c, rest-alike cs)
+
+  -- and in the same encoding, a key.
+  escaped-alike : (key : List ℕ) → with_first_escaped r key ≡ with_first_escaped s key
+  escaped-alike [] = refl
+  escaped-alike (c ∷ cs) = rw (printed_characters-alike in_key_or_value cs)
+
+  pub printed_key-alike : r.encoding ≡ s.encoding → (first : Bool) (key : List ℕ) → printed_key r first key ≡ printed_key s first key
+  printed_key-alike same first key =
+      let text = printed_characters-alike in_key_or_value key in
+      let like : is_bom_like r key ≡ is_bom_like s key = ap₂ (λ e x. begins_like_bom (encoded_text e x)) same text in
+      ap₂ (λ b x. if first && b then x else printed_characters r in_key_or_value key) like (escaped-alike key)
+      ∙ ap (λ x. if first && is_bom_like s key then with_first_escaped s key else x) text
+
+may-same : (e f : Encoding) (c : ℕ) → may_be_unescaped (ascii_in e) c ≡ may_be_unescaped (ascii_in f) c
+may-same e f c = may_be_unescaped-on e c ∙ sym (may_be_unescaped-on f c)
 
 -- A character is printed in ASCII.
 pub printed-ascii : (e : Encoding) (place : Place) (c : ℕ) → AreAscii (printed_character (ascii_in e) place c)
@@ -44,8 +81,7 @@ printed-ascii e place c = printed-either (ascii_in e) place c AreAscii (λ x h. 
 
 -- A text is printed the same in every encoding.
 pub printed_characters-same : (e f : Encoding) (place : Place) (x : List ℕ) → printed_characters (ascii_in e) place x ≡ printed_characters (ascii_in f) place x
-printed_characters-same e f place [] = refl
-printed_characters-same e f place (c ∷ x) = cc (printed-same e f place c, printed_characters-same e f place x)
+printed_characters-same e f = printed_characters-alike (ascii_in e) (ascii_in f) (may-same e f)
 
 -- A text is printed in ASCII.
 pub printed_characters-ascii : (e : Encoding) (place : Place) (x : List ℕ) → AreAscii (printed_characters (ascii_in e) place x)
@@ -73,21 +109,10 @@ pub printed_value-ascii : (e : Encoding) (after_blanks : Bool) (value : List ℕ
 printed_value-ascii e after_blanks [] = tt
 printed_value-ascii e after_blanks (c ∷ cs) = grind (arith, unicode_escape-ascii, AreAscii-append, first-ascii, rest-ascii)
 
--- A character inside a value,
-inside-same : (e f : Encoding) (c : ℕ) → printed_inside (ascii_in e) c ≡ printed_inside (ascii_in f) c
-inside-same e f c = rw (printed-same e f in_key_or_value c)
-
--- those after the first,
-rest-same : (e f : Encoding) (cs : List ℕ) → printed_rest (ascii_in e) cs ≡ printed_rest (ascii_in f) cs
-rest-same e f [] = refl
-rest-same e f (c ∷ []) = rw (inside-same e f c)
-rest-same e f (c ∷ d ∷ cs) = cc (inside-same e f c, rest-same e f (d ∷ cs))
-
--- and the whole value.
+-- It is the same in every encoding.
 pub printed_value-same : (e f : Encoding) (after_blanks : Bool) (value : List ℕ)
     → printed_value (ascii_in e) after_blanks value ≡ printed_value (ascii_in f) after_blanks value
-printed_value-same e f after_blanks [] = refl
-printed_value-same e f after_blanks (c ∷ cs) = cc (inside-same e f c, rest-same e f cs)
+printed_value-same e f = printed_value-alike (ascii_in e) (ascii_in f) (may-same e f)
 
 -- ---- keys
 

@@ -1,8 +1,8 @@
 -- The four encodings: which of them a text is in, how its bytes are divided into pieces, and which characters can be
 -- encoded.
 -- Source: WHATWG Encoding Standard, sections 4.3 (output encodings), 6 (byte order marks) and 8 to 14 (the decoders).
-use Rattle.std.specs.Prelude.{◌≡◌, ℕ, ◌%◌, ◌==◌, ◌&&◌, ◌||◌, Bool, true, false, if◌then◌else◌, List, [], ◌∷◌, ◌++◌, length, drop, Option, Some, None, encode_utf8}
-use Rattle.properties_format.specs.Windows1252.{windows_1252_byte, IsWindows1252Piece}
+use Rattle.std.specs.Prelude.{◌≡◌, ℕ, ◌%◌, ◌==◌, ◌&&◌, ◌||◌, not, nat_lt, Bool, true, false, if◌then◌else◌, List, [], ◌∷◌, ◌++◌, length, drop, Option, Some, None, encode_utf8}
+use Rattle.properties_format.specs.Windows1252.{windows_1252_byte, is_in_table, IsWindows1252Piece}
 use Rattle.properties_format.specs.Utf8.{IsUtf8Piece}
 use Rattle.properties_format.specs.Utf16.{low_first, high_first, IsUtf16Piece}
 pub use Rattle.properties_format.specs.Text.{Piece, characters}
@@ -100,14 +100,33 @@ IsAligned e d = Unit {0}
 -- ---- What may stand unescaped in what is printed.
 -- Source: java.util.Properties of Java SE 7, store (a character that the output lacks is escaped).
 
--- the characters of an encoding, or the ASCII characters alone, which are the same bytes in every encoding for output
+-- a set of characters: all; those whose bytes are read alike in ISO 8859-1; or those of ASCII, which are the same bytes
+-- in every encoding for output
+pub data Characters : Type 0 where
+  all_characters : Characters
+  latin_1_characters : Characters
+  ascii_characters : Characters
+
+-- Whether the set has a character, given the encoding. Of windows-1252, the bytes 80 to 9F aren't read alike; of UTF-8,
+-- no byte of a non-ASCII character is.
+abbrev pub holds : Characters → Encoding → ℕ → Bool
+holds all_characters e c = true
+holds latin_1_characters windows_1252 c = nat_lt c 0x100 && not (is_in_table c)
+holds latin_1_characters e c = nat_lt c 0x80
+holds ascii_characters e c = nat_lt c 0x80
+
+-- the characters of an encoding that are in a set
 pub record Repertoire : Type 0 where
   pub encoding : Encoding
-  pub ascii_only : Bool
+  pub characters : Characters
+
+-- those of ASCII only, if the first flag says so; otherwise those that are read alike, if the second does; otherwise all
+abbrev pub characters_for : Bool → Bool → Characters
+characters_for only latin_1 = if only then ascii_characters else (if latin_1 then latin_1_characters else all_characters)
 
 -- a repertoire of an encoding, of ASCII only if the flag says so
 abbrev pub repertoire : Encoding → Bool → Repertoire
-repertoire e only = record { encoding = e; ascii_only = only }
+repertoire e only = record { encoding = e; characters = characters_for only false }
 
 -- all characters of an encoding
 abbrev pub all_of : Encoding → Repertoire
@@ -116,6 +135,10 @@ all_of e = repertoire e false
 -- the ASCII characters, in this encoding
 abbrev pub ascii_in : Encoding → Repertoire
 ascii_in e = repertoire e true
+
+-- the characters of an encoding that are read alike in ISO 8859-1
+abbrev pub latin_1_in : Encoding → Repertoire
+latin_1_in e = record { encoding = e; characters = latin_1_characters }
 
 -- a repertoire in another encoding
 abbrev pub in_encoding : Repertoire → Encoding → Repertoire

@@ -1,10 +1,10 @@
 -- How a line is printed: each character by itself, and the line from its parts.
 -- Source: java.util.Properties of Java SE 7, store; a character that the encoding lacks is written as store writes it,
 -- by `\u` and four hexadecimal digits for each of its UTF-16 units (The Unicode Standard, section 3.9, D91).
-use Rattle.std.specs.Prelude.{ℕ, ◌+◌, ◌-◌, ◌/◌, ◌%◌, ◌==◌, ◌&&◌, ◌||◌, not, nat_lt, Bool, if◌then◌else◌, List, [], ◌∷◌, ◌++◌, is_some, unwrap_or}
+use Rattle.std.specs.Prelude.{ℕ, ◌+◌, ◌-◌, ◌/◌, ◌%◌, ◌==◌, ◌&&◌, ◌||◌, nat_lt, Bool, if◌then◌else◌, List, [], ◌∷◌, ◌++◌, is_some, unwrap_or}
 use Rattle.std.specs.Char.{digit_char}
 use Rattle.properties_format.specs.Text.{line_ending_text, tab, line_feed, form_feed, carriage_return, space, backslash, is_empty, is_blanks, is_comment_sign, is_separator}
-use Rattle.properties_format.specs.Encoding.{Encoding, encoded, begins_like_bom, Repertoire}
+use Rattle.properties_format.specs.Encoding.{Encoding, encoded, begins_like_bom, Repertoire, holds}
 use Rattle.properties_format.specs.Settings.{repertoire_of, Settings}
 use Rattle.properties_format.specs.Items.{Content, comment, pair}
 
@@ -29,9 +29,9 @@ low_surrogate c = 0xdc00 + (c - 0x1_0000) % 0x400
 abbrev pub unicode_escape : ℕ → List ℕ
 unicode_escape c = if nat_lt c 0x1_0000 then unit_escape c else unit_escape (high_surrogate c) ++ unit_escape (low_surrogate c)
 
--- whether a character may be written unescaped: the encoding has it, and it is ASCII if only that may stand unescaped
+-- whether a character may be written unescaped: the encoding has it, and so does the set of the repertoire
 abbrev pub may_be_unescaped : Repertoire → ℕ → Bool
-may_be_unescaped r c = (not r.ascii_only || nat_lt c 0x80) && is_some (encoded r.encoding c)
+may_be_unescaped r c = holds r.characters r.encoding c && is_some (encoded r.encoding c)
 
 -- the character unescaped if that is allowed, otherwise escaped
 abbrev pub literal : Repertoire → ℕ → List ℕ

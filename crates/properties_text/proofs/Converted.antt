@@ -438,6 +438,7 @@ utf_8-encoded (c ∷ x) = ap (λ v. encode_utf8 c ++ v) (utf_8-encoded x)
 same-bytes : (t : Repertoire) (bytes : List ℕ) → IsWell (line_in t) bytes → All byte bytes
     → encoded_text (in_format t).encoding (text_in (line_in t) bytes) ≡ bytes
 same-bytes repertoire.Windows1252 bytes w b = windows-bytes bytes b
+same-bytes repertoire.Latin1 bytes w b = windows-bytes bytes b
 same-bytes repertoire.Utf8 bytes w b = utf_8-encoded (chars bytes) ∙ encodes-chars bytes w
 same-bytes repertoire.Ascii bytes w b = utf_8-encoded (chars bytes) ∙ encodes-chars bytes w
 
@@ -452,6 +453,7 @@ utf_8-written x h = ((x, (all x h, sym (utf_8-encoded x))), ap chars (utf_8-enco
 written-text : (t : Repertoire) (x : List ℕ) → AreWritable (in_format t).encoding x
     → IsWell (line_in t) (encoded_text (in_format t).encoding x) × (text_in (line_in t) (encoded_text (in_format t).encoding x) ≡ x)
 written-text repertoire.Windows1252 x w = (tt, sym (decodes (encoded_text windows_1252 x)) ∙ text-decoded windows_1252 x w.scalars w.encodable)
+written-text repertoire.Latin1 x w = (tt, sym (decodes (encoded_text windows_1252 x)) ∙ text-decoded windows_1252 x w.scalars w.encodable)
 written-text repertoire.Utf8 x w = utf_8-written x w.scalars
 written-text repertoire.Ascii x w = utf_8-written x w.scalars
 
@@ -465,6 +467,8 @@ copied-stays repertoire.Windows1252 Windows1252 text h w b = ap (encoded_text wi
 copied-stays repertoire.Utf8 Utf8 text h w b = utf_8-copied text w
 copied-stays repertoire.Utf8 Windows1252 text h w b = absurd (cc)
 copied-stays repertoire.Windows1252 Utf8 text h w b = absurd (cc)
+copied-stays repertoire.Latin1 Windows1252 text h w b = absurd (cc)
+copied-stays repertoire.Latin1 Utf8 text h w b = absurd (cc)
 copied-stays repertoire.Ascii Windows1252 text h w b = absurd (cc)
 copied-stays repertoire.Ascii Utf8 text h w b = absurd (cc)
 

@@ -54,6 +54,7 @@ pub record IsUnitFront (t : Repertoire) (readable : Bool) (e : LineEncoding) (ol
 -- the encoding of a result
 abbrev pub line_in : Repertoire → LineEncoding
 line_in repertoire.Windows1252 = Windows1252
+line_in repertoire.Latin1 = Windows1252
 line_in repertoire.Utf8 = Utf8
 line_in repertoire.Ascii = Utf8
 

@@ -5,7 +5,7 @@ use Rattle.properties_format.specs.Encoding as meant
 use Rattle.properties_format.specs.Text.{tab, line_feed, form_feed, space, backslash, is_separator}
 use Rattle.properties_format.specs.Encoding.{windows_1252, utf_8}
 use Rattle.properties_text.specs.declared.print.Repertoire.{Repertoire}
-use Rattle.properties_text.specs.declared.print.Repertoire.TheVariants.{Windows1252, Utf8, Ascii}
+use Rattle.properties_text.specs.declared.print.Repertoire.TheVariants.{Windows1252, Latin1, Utf8, Ascii}
 use Rattle.properties_text.specs.declared.print.Place.{Place}
 use Rattle.properties_text.specs.declared.print.Place.TheVariants.{Comment, Prefix}
 
@@ -20,6 +20,7 @@ AppendsOnOk old bytes result new = OnOk result (new ≡ old ++ bytes)
 -- what a repertoire is among the definitions of the format
 abbrev pub in_format : Repertoire → meant.Repertoire
 in_format Windows1252 = meant.all_of windows_1252
+in_format Latin1 = meant.latin_1_in windows_1252
 in_format Utf8 = meant.all_of utf_8
 in_format Ascii = meant.ascii_in utf_8
 

@@ -114,7 +114,7 @@ fn line_in(repertoire: Repertoire) -> LineEncoding
     ensures { result ≡ line_in repertoire }
 {
     match repertoire {
-        Repertoire::Windows1252 => LineEncoding::Windows1252,
+        Repertoire::Windows1252 | Repertoire::Latin1 => LineEncoding::Windows1252,
         Repertoire::Utf8 | Repertoire::Ascii => LineEncoding::Utf8,
     }
 }

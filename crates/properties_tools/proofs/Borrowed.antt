@@ -4,9 +4,9 @@ use Rattle.std.specs.Borrow.{MutBor}
 use Rattle.std.specs.Prelude.{Bool, Option, Some, None, Result, Ok, Err}
 use Rattle.std.specs.declared.io.Error.{Error}
 use Rattle.counted_io.specs.Streams.{Reader, Sink, CameFromWrite}
-use Rattle.properties_format.specs.Encoding.{Encoding, Repertoire, repertoire}
+use Rattle.properties_format.specs.Encoding.{Encoding}
 use Rattle.properties_items.specs.declared.error.PropertiesError.{PropertiesError}
-use Rattle.properties_tools.specs.Filter.{Filters}
+use Rattle.properties_tools.specs.Filter.{Filters, Form, form}
 
 -- what is known of a lent reader, and of a lent sink
 abbrev pub borrowed_reader : {R : Type 0} → Reader R → Reader (MutBor R)
@@ -28,7 +28,7 @@ borrowed_sink sink = record {
   flush_gives = λ old result new. sink.flush_gives old.now result new.now;
 }
 
-module _ {R W : Type 0} (reader : Reader R) (sink : Sink W) (r : Repertoire) (input : MutBor R) (output : MutBor W) (input' : MutBor R)
+module _ {R W : Type 0} (reader : Reader R) (sink : Sink W) (r : Form) (input : MutBor R) (output : MutBor W) (input' : MutBor R)
     (output' : MutBor W) where
   came : (cause : Option Error) → CameFromWrite (borrowed_sink sink) cause output' → CameFromWrite sink cause output'.now
   came None h = (h.0.now, h.1, h.2, h.3)
@@ -73,6 +73,6 @@ module _ {R W : Type 0} (reader : Reader R) (sink : Sink W) (r : Repertoire) (in
 -- equals stand for equals
 pub filters-same : {R W : Type 0} (reader : Reader R) (sink : Sink W) (result : Result Unit PropertiesError) (e e' : Encoding)
     (only only' : Bool) (input input' new new' : R) (output output' to to' : W)
-    → Filters reader sink (repertoire e only) input output result new to → e ≡ e' → only ≡ only' → input ≡ input' → output ≡ output' → new ≡ new' → to ≡ to'
-    → Filters reader sink (repertoire e' only') input' output' result new' to'
+    → Filters reader sink (form e only) input output result new to → e ≡ e' → only ≡ only' → input ≡ input' → output ≡ output' → new ≡ new' → to ≡ to'
+    → Filters reader sink (form e' only') input' output' result new' to'
 filters-same reader sink result e e' only only' input input' new new' output output' to to' h a m b c d f = rw (← a, ← m, ← b, ← c, ← d, ← f) h

@@ -3,11 +3,10 @@ use Rattle.std.proofs.Common.{◌≡◌, ℕ, List, inl, inr, refl}
 use Rattle.std.specs.Prelude.{Option, Some, None, Err}
 use Rattle.std.specs.Option.{option_map}
 use Rattle.counted_io.specs.Streams.{Reader, Sink}
-use Rattle.properties_format.specs.Encoding.{Repertoire}
 use Rattle.java_properties.specs.DisplayTexts.{error_display}
 use Rattle.java_properties.specs.Errors.{refused_of}
 use Rattle.properties_items.specs.declared.error.PropertiesError.{PropertiesError}
-use Rattle.properties_tools.specs.Filter.{Filters}
+use Rattle.properties_tools.specs.Filter.{Filters, Form}
 
 nothing-of : {A B : Type 0} (f : A → B) (o : Option A) → option_map f o ≡ None → o ≡ None
 nothing-of f None h = refl
@@ -16,7 +15,7 @@ nothing-of f (Some x) h = cc
 shown : (error : PropertiesError) → refused_of error ≡ None → (text : List ℕ) × (error_display error ≡ Some text)
 shown error h = let none = nothing-of _ error.refused h in rw none (_, refl)
 
-pub filter-shown : {R W : Type 0} (reader : Reader R) (sink : Sink W) (r : Repertoire) (input input' : R) (output output' : W) (error : PropertiesError)
+pub filter-shown : {R W : Type 0} (reader : Reader R) (sink : Sink W) (r : Form) (input input' : R) (output output' : W) (error : PropertiesError)
     → Filters reader sink r input output (Err error) input' output' → (text : List ℕ) × (error_display error ≡ Some text)
 filter-shown reader sink r input input' output output' error h = shown error (elim h.1.stops [
   | inl k ↦ elim k.stops [

@@ -2,7 +2,7 @@
 use Rattle.std.proofs.Common.{◌≡◌, ◌++◌, ℕ, false, List, [], ◌∷◌, sym, ◌∙◌, inl, inr, subst, append-nil}
 use Rattle.std.specs.Prelude.{Bool, Result, Ok, Err}
 use Rattle.counted_io.specs.Streams.{Reader, Sink}
-use Rattle.properties_format.specs.Encoding.{Encoding, Repertoire}
+use Rattle.properties_format.specs.Encoding.{Encoding}
 use Rattle.properties_format.specs.ItemsToCome.{ReaderState, start}
 use Rattle.properties_format.specs.Items.{Content, comment, pair, Entry, item, malformed, read_fault, AreItems, IsItems}
 use Rattle.properties_format.specs.Lines.{end}
@@ -17,7 +17,7 @@ use Rattle.java_properties.proofs.Readings.{Comes, Collected, collected-start, c
 use Rattle.java_properties.specs.Copying.{HasScalars, WritesIfPair, Copies}
 use Rattle.java_properties.specs.declared.copy.CopyError.{CopyError}
 use Rattle.java_properties.specs.declared.copy.CopyError.TheVariants.{Read, Write}
-use Rattle.properties_tools.specs.Filter.{pair_writer, Filters}
+use Rattle.properties_tools.specs.Filter.{pair_writer, Filters, Form}
 use Rattle.properties_tools.proofs.Pairs.{HasWrittenPairs, pairs-none, pairs-comment, pairs-more, pairs-live, pairs-fail, pairs-refused, pairs-flushed, pairs-flush, pairs-flush-failed}
 
 -- one item more
@@ -37,7 +37,7 @@ scalars-more (malformed kind n ∷ xs) number content h q = scalars-more xs numb
 scalars-more (read_fault n ∷ xs) number content h q = scalars-more xs number content h q
 
 -- The items that came were all that the reader gave so far, and their pairs were written.
-pub record HasPassed {R W : Type 0} (reader : Reader R) (sink : Sink W) (r : Repertoire) (input : R) (output : W) (it : Iteration R)
+pub record HasPassed {R W : Type 0} (reader : Reader R) (sink : Sink W) (r : Form) (input : R) (output : W) (it : Iteration R)
     (w : Writing W) : Type 0 where
   pub items : List Entry
   pub whole : AreItems items
@@ -47,7 +47,7 @@ pub record HasPassed {R W : Type 0} (reader : Reader R) (sink : Sink W) (r : Rep
   pub pairs : HasWrittenPairs sink r output items w
 
 -- before the first item
-passed-none : {R W : Type 0} (reader : Reader R) (sink : Sink W) (r : Repertoire) (it : Iteration R) (w : Writing W) → it.state ≡ start r.encoding
+passed-none : {R W : Type 0} (reader : Reader R) (sink : Sink W) (r : Form) (it : Iteration R) (w : Writing W) → it.state ≡ start r.encoding
     → w ≡ pair_writer r w.sink → HasPassed reader sink r it.reader w.sink it w
 passed-none reader sink r it w fresh new = record {
   items = [];
@@ -66,7 +66,7 @@ begins {e} {bytes} {items} {s = s} (Comes.going_on g m) =
 begins {e} {bytes} {items} (Comes.at_last d k m) =
     inr (k, ([], subst (IsItems e bytes end) (m ∙ sym (append-nil items)) (items_of-meets e bytes end)))
 
-module _ {R W : Type 0} {reader : Reader R} {sink : Sink W} {r : Repertoire} {input : R} {output : W} {it : Iteration R} {w : Writing W}
+module _ {R W : Type 0} {reader : Reader R} {sink : Sink W} {r : Form} {input : R} {output : W} {it : Iteration R} {w : Writing W}
     (h : HasPassed reader sink r input output it w) where
   -- An item came, and was written if it is a pair.
   passed-more : {next : Iteration R} (new : Writing W) (number : ℕ) (content : Content)
@@ -137,7 +137,7 @@ module _ {R W : Type 0} {reader : Reader R} {sink : Sink W} {r : Repertoire} {in
 -- ---- items that are copied
 
 -- Copying has stopped: no more items came; or reading the next one failed; or writing it did.
-abbrev pub Stops : {R W : Type 0} → Reader R → Sink W → Repertoire → R → W → Result Unit CopyError → Iteration R → Writing W → Type 0
+abbrev pub Stops : {R W : Type 0} → Reader R → Sink W → Form → R → W → Result Unit CopyError → Iteration R → Writing W → Type 0
 Stops {R} reader sink r input output (Ok done) new written =
     (it : Iteration R) × HasPassed reader sink r input output it written × GivesNone reader it.state it.reader new.state new.reader
 Stops {R} reader sink r input output (Err (Read error)) new written =
@@ -145,7 +145,7 @@ Stops {R} reader sink r input output (Err (Read error)) new written =
     × GivesError reader it.state it.reader error new.reader
 Stops reader sink r input output (Err (Write error)) new written = Filters reader sink r input output (Err error) new.reader written.sink
 
-module _ {R W : Type 0} {reader : Reader R} {sink : Sink W} {r : Repertoire} {input : R} {output : W} where
+module _ {R W : Type 0} {reader : Reader R} {sink : Sink W} {r : Form} {input : R} {output : W} where
   -- Items were copied in turn, up to where copying stopped.
   copied : {it new : Iteration R} {w written : Writing W} {result : Result Unit CopyError} → HasPassed reader sink r input output it w
       → Copies reader sink it w result new written → Stops reader sink r input output result new written
@@ -157,7 +157,7 @@ module _ {R W : Type 0} {reader : Reader R} {sink : Sink W} {r : Repertoire} {in
       rw is (stops-writing h written failed.number failed.key failed.value failed.gives failed.writes)
 
 -- from the first item on
-pub copied-all : {R W : Type 0} {reader : Reader R} {sink : Sink W} {r : Repertoire}
+pub copied-all : {R W : Type 0} {reader : Reader R} {sink : Sink W} {r : Form}
     {it new : Iteration R} {w written : Writing W} {result : Result Unit CopyError}
     → it.state ≡ start r.encoding → w ≡ pair_writer r w.sink → Copies reader sink it w result new written
     → Stops reader sink r it.reader w.sink result new written

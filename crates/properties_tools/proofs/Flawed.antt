@@ -30,10 +30,10 @@ use Rattle.properties_lines.specs.declared.scanner.Front.TheVariants.{Mark, Feed
 use Rattle.properties_lines.specs.declared.scanner.RawLine.{RawLine}
 use Rattle.properties_lines.specs.declared.scanner.Scanner.{Scanner}
 use Rattle.properties_lines.proofs.HeldLines.{body-next, body-after, body-lines_left}
-use Rattle.properties_tools.specs.Propedit.Lines.{holds_zero, is_sought, starts_with_bom, AreFlawed, AreFlawedIn, HasFlaw, HasFlawed, IsFirstFlawed, IsFirstUtf8, IsWellFormedIn, LacksFlaw, LooksUtf8}
+use Rattle.properties_tools.specs.Propedit.Lines.{holds_byte, holds_zero, is_sought, starts_with_bom, AreFlawed, AreFlawedIn, HasFlaw, HasFlawed, IsFirstFlawed, IsFirstUtf8, IsWellFormedIn, LacksFlaw, LooksUtf8}
 use Rattle.properties_tools.specs.Private.Flawed.{are_paired, is_ascii, is_flawed, is_well_formed, unit_in, numbers_from, numbers_left, FindsNext, HasFlawedIn, HasLinesOf, IsFound, IsScanning}
 use Rattle.properties_tools.specs.declared.propedit.ill_formed.Flaw.{Flaw}
-use Rattle.properties_tools.specs.declared.propedit.ill_formed.Flaw.TheVariants.{IllFormed, Zero, NonAscii}
+use Rattle.properties_tools.specs.declared.propedit.ill_formed.Flaw.TheVariants.{IllFormed, Zero, NonAscii, Byte}
 use Rattle.properties_tools.proofs.NonAscii.{tells-ascii, told-nothing}
 use Rattle.properties_tools.proofs.Paired.{paired-well_formed, well_formed-paired}
 
@@ -60,6 +60,7 @@ not-well utf_16be d k w = let t = well_formed-paired high_first d w.0 w.1 in cc
 has-flaw : (flaw : Flaw) (e : Encoding) (d : List ℕ) → is_flawed flaw e d ≡ true → HasFlaw flaw e d
 has-flaw IllFormed e d k = elim (cases_Bool (is_well_formed e d)) [ inl t ↦ absurd (cc) | inr t ↦ not-well e d t ]
 has-flaw Zero e d k = k
+has-flaw (Byte byte) e d k = k
 has-flaw NonAscii e d k =
     let parts = and_parts (not (is_ascii e d)) (is_well_formed e d) k in
     (well e d parts.1, (decoded_line e d, decoded_line-meets e d, tells-ascii e d ∙ parts.0))
@@ -73,6 +74,7 @@ first-false true false h k = absurd (cc)
 lacks-flaw : (flaw : Flaw) (e : Encoding) (d : List ℕ) → is_flawed flaw e d ≡ false → LacksFlaw flaw e d
 lacks-flaw IllFormed e d k = elim (cases_Bool (is_well_formed e d)) [ inl t ↦ well e d t | inr t ↦ absurd (cc) ]
 lacks-flaw Zero e d k = k
+lacks-flaw (Byte byte) e d k = k
 lacks-flaw NonAscii e d k = elim (cases_Bool (is_well_formed e d)) [
   | inl t ↦ inr (decoded_line e d, decoded_line-meets e d, tells-ascii e d ∙ first-false (not (is_ascii e d)) (is_well_formed e d) t k)
   | inr t ↦ inl (not-well e d t)
@@ -81,6 +83,7 @@ lacks-flaw NonAscii e d k = elim (cases_Bool (is_well_formed e d)) [
 not-both : (flaw : Flaw) (e : Encoding) (d : List ℕ) → LacksFlaw flaw e d → HasFlaw flaw e d → ⊥
 not-both IllFormed e d x y = y x
 not-both Zero e d x y = absurd (cc)
+not-both (Byte byte) e d x y = absurd (cc)
 not-both NonAscii e d (inl x) y = x y.0
 not-both NonAscii e d (inr (text, is, none)) (sound, (other, same, has)) =
     let x = decoded_line-only e d text is in
@@ -97,20 +100,21 @@ empty-well utf_16be = refl
 empty-flawless : (flaw : Flaw) (e : Encoding) → is_flawed flaw e [] ≡ false
 empty-flawless IllFormed e = ap not (empty-well e)
 empty-flawless Zero e = refl
+empty-flawless (Byte byte) e = refl
 empty-flawless NonAscii e = let told = told-nothing e in rw told refl
 
--- No place has a byte 0.
-none-at : (bytes : List ℕ) → ((k : ℕ) → k < length bytes → (get_or bytes k 0 == 0) ≡ true → ⊥) → holds_zero bytes ≡ false
-none-at [] h = refl
-none-at (b ∷ bs) h =
-    or_from (b == 0) (holds_zero bs)
-    (false_from_ne_true (b == 0) (h 0 (omega arith)))
-    (none-at bs (λ k l e. h (suc k) (omega arith) e))
+-- No place has a byte.
+none-at : (byte : ℕ) (bytes : List ℕ) → ((k : ℕ) → k < length bytes → (get_or bytes k 0 == byte) ≡ true → ⊥) → holds_byte byte bytes ≡ false
+none-at byte [] h = refl
+none-at byte (b ∷ bs) h =
+    or_from (b == byte) (holds_byte byte bs)
+    (false_from_ne_true (b == byte) (h 0 (omega arith)))
+    (none-at byte bs (λ k l e. h (suc k) (omega arith) e))
 
--- A search tells whether a byte is 0.
-pub tells_zero : (bytes : List ℕ) (found : Option ℕ) → IsFirstByte (is_byte 0) bytes found → is_some found ≡ holds_zero bytes
-tells_zero bytes (Some at) h = sym (list_any_at is_zero bytes at 0 h.0.high h.1)
-tells_zero bytes None h = sym (none-at bytes (λ k l e. h k (omega arith) l e))
+-- A search tells whether one of the bytes is this one.
+pub tells_byte : (byte : ℕ) (bytes : List ℕ) (found : Option ℕ) → IsFirstByte (is_byte byte) bytes found → is_some found ≡ holds_byte byte bytes
+tells_byte byte bytes (Some at) h = sym (list_any_at (λ b. b == byte) bytes at 0 h.0.high h.1)
+tells_byte byte bytes None h = sym (none-at byte bytes (λ k l e. h k (omega arith) l e))
 
 -- ---- the numbers, computed
 
@@ -210,6 +214,14 @@ unsought-other e source body WINDOWS_1252 is h = rw is refl
 unsought-other e source body UTF_8 is h = absurd (h refl)
 unsought-other e source body UTF_16LE is h = rw is refl
 unsought-other e source body UTF_16BE is h = rw is refl
+
+-- Other bytes are sought in windows-1252 alone.
+pub unsought-byte : (byte : ℕ) (e : Encoding) (source body : List ℕ) (f : code.Encoding)
+    → byte_order_mark e source ≡ record { encoding = encoding_of f; body = body } → f ≢ WINDOWS_1252 → is_sought (Byte byte) e source ≡ false
+unsought-byte byte e source body WINDOWS_1252 is h = absurd (h refl)
+unsought-byte byte e source body UTF_8 is h = rw is refl
+unsought-byte byte e source body UTF_16LE is h = rw is refl
+unsought-byte byte e source body UTF_16BE is h = rw is refl
 
 pub unsought-marked : (e : Encoding) (source body : List ℕ) → byte_order_mark e source ≡ record { encoding = utf_8; body = body }
     → starts_with_bom source ≡ true

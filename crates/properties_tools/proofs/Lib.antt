@@ -8,6 +8,7 @@ pub mod FirstKeys
 pub mod Flawed
 pub mod Folding
 pub mod Borrowed
+pub mod Counting
 pub mod LastPairs
 pub mod LineFindings
 pub mod ListedKeys

@@ -3,7 +3,6 @@ use Rattle.std.proofs.Common.{◌≡◌, ◌⊎◌, ◌+◌, ◌^◌, ◌++◌, 
 use Rattle.std.specs.Prelude.{Result, Ok, Err}
 use Rattle.counted_io.specs.Streams.{Sink, HasWritten}
 use Rattle.counted_io.proofs.Streams.{faulted-more, written-flushed}
-use Rattle.properties_format.specs.Encoding.{Repertoire}
 use Rattle.properties_format.specs.Items.{comment, pair, Entry, item, malformed, read_fault}
 use Rattle.properties_format.specs.Writing.{Pair, pairs_in, calls_of, pair_call, is_accepted, settings_after, line_count_after}
 use Rattle.java_properties.specs.Calls.{HasMade}
@@ -14,7 +13,7 @@ use Rattle.properties_items.specs.declared.error.ErrorKind.TheVariants as kind
 use Rattle.properties_items.specs.declared.error.PropertiesError.{PropertiesError}
 use Rattle.java_properties.proofs.Calls.Made.{made-none, pair-made, made-more}
 use Rattle.java_properties.specs.WholeSources as source
-use Rattle.properties_tools.specs.Filter.{settings_with, pair_writer, pair_calls, pair_count, pair_lines, next_pair_line, TakesAndFlushes, FailsInPair, RefusesPair}
+use Rattle.properties_tools.specs.Filter.{settings_with, pair_writer, pair_calls, pair_count, pair_lines, next_pair_line, TakesAndFlushes, FailsInPair, RefusesPair, Form}
 
 -- the pairs of two lists of entries
 pub pair_calls-append : (xs ys : List Entry) → pair_calls (xs ++ ys) ≡ pair_calls xs ++ pair_calls ys
@@ -50,13 +49,13 @@ refused-kind only w key value kind.Memory live same reason = inl refl
 refused-kind only w key value other live same reason = absurd reason
 
 -- The pairs of these items were written by a new writer, which is now this one.
-pub record HasWrittenPairs {W : Type 0} (sink : Sink W) (r : Repertoire) (output : W) (items : List Entry) (w : Writing W) : Type 0 where
+pub record HasWrittenPairs {W : Type 0} (sink : Sink W) (r : Form) (output : W) (items : List Entry) (w : Writing W) : Type 0 where
   pub made : HasMade sink (pair_writer r output) (pair_calls items) w
 
 bare : {k l : ErrorKind} {error : PropertiesError} → l ≡ k → IsBareError l error → IsBareError k error
 bare same is = record { its_kind = is.its_kind ∙ same; its_line = is.its_line; its_cause = is.its_cause; its_text = is.its_text }
 
-module _ {W : Type 0} {sink : Sink W} {r : Repertoire} {output : W} {items : List Entry} {w : Writing W}
+module _ {W : Type 0} {sink : Sink W} {r : Form} {output : W} {items : List Entry} {w : Writing W}
     (h : HasWrittenPairs sink r output items w) where
   -- a comment is not written
   pub pairs-comment : (number : ℕ) (text : List ℕ) → HasWrittenPairs sink r output (items ++ (item number (comment text) ∷ [])) w
@@ -124,5 +123,5 @@ module _ {W : Type 0} {sink : Sink W} {r : Repertoire} {output : W} {items : Lis
   pairs-flush new (Err error) (inr k) = inr (w.sink, pairs-written, (k.cause, k.flushed))
 
 -- before the first pair
-pub pairs-none : {W : Type 0} (sink : Sink W) (r : Repertoire) (output : W) → HasWrittenPairs sink r output [] (pair_writer r output)
+pub pairs-none : {W : Type 0} (sink : Sink W) (r : Form) (output : W) → HasWrittenPairs sink r output [] (pair_writer r output)
 pairs-none sink r output = record { made = made-none (pair_writer r output) }

@@ -1,9 +1,9 @@
 -- What filtering wrote is read back, and filtering it changes nothing.
-use Rattle.std.proofs.Common.{◌≡◌, ◌++◌, ℕ, List, [], refl, ◌∙◌, inl, inr, subst, append-nil}
+use Rattle.std.proofs.Common.{◌≡◌, ◌++◌, ℕ, false, List, [], refl, ◌∙◌, inl, inr, subst, append-nil}
 use Rattle.std.specs.Prelude.{◌⊎◌, Result, Ok, Err}
 use Rattle.counted_io.specs.Streams.{Reader, Sink, HasWritten, HasFaulted, IsProperPrefix}
 use Rattle.counted_io.proofs.Streams.{written-failed_flush}
-use Rattle.properties_format.specs.Encoding.{Encoding, output_encoding, Repertoire, all_of}
+use Rattle.properties_format.specs.Encoding.{Encoding, output_encoding}
 use Rattle.properties_format.specs.Items.{Entry, IsItems}
 use Rattle.properties_format.specs.Lines.{end}
 use Rattle.properties_format.specs.Computed.Items.{items_of}
@@ -14,36 +14,36 @@ use Rattle.properties_format.proofs.ReadBack.Law.{default_settings-good, output_
 use Rattle.properties_format.proofs.ReadBack.Lists.{items_of-pairs, pairs_in-items}
 use Rattle.properties_items.specs.declared.error.PropertiesError.{PropertiesError}
 use Rattle.java_properties.proofs.TextMaps.ReadBack.{pairs-accepted}
-use Rattle.properties_tools.specs.Filter.{pair_lines, next_pair_line, StopsInReading, StopsInWriting, StopsInFlush, Filters, Settles}
+use Rattle.properties_tools.specs.Filter.{pair_lines, next_pair_line, StopsInReading, StopsInWriting, StopsInFlush, Filters, Settles, Form, form}
 
 module _ (e : Encoding) (items : List Entry) where
   -- filtering the lines of pairs writes the same
-  lines-same : pair_lines (all_of (output_encoding e)) (items_after 0 (pairs_in items)) ≡ pair_lines (all_of e) items
+  lines-same : pair_lines (form (output_encoding e) false) (items_after 0 (pairs_in items)) ≡ pair_lines (form e false) items
   lines-same = rw (output_encoding-own, pairs_in-items) refl
 
   module _ (scalars : ArePairsOfScalars (pairs_in items)) where
     -- the lines of pairs of scalar values are read back as these pairs
-    lines-read : items_of (output_encoding e) (pair_lines (all_of e) items) end ≡ items_after 0 (pairs_in items)
+    lines-read : items_of (output_encoding e) (pair_lines (form e false) items) end ≡ items_after 0 (pairs_in items)
     lines-read = items_of-pairs (output_encoding e) default_settings (output_encoding-own e) default_settings-good
         (pairs_in items) (pairs-accepted (pairs_in items)) scalars
 
-    lines-back : IsItems (output_encoding e) (pair_lines (all_of e) items) end (items_after 0 (pairs_in items))
-    lines-back = subst (IsItems (output_encoding e) (pair_lines (all_of e) items) end) lines-read
-        (items_of-meets (output_encoding e) (pair_lines (all_of e) items) end)
+    lines-back : IsItems (output_encoding e) (pair_lines (form e false) items) end (items_after 0 (pairs_in items))
+    lines-back = subst (IsItems (output_encoding e) (pair_lines (form e false) items) end) lines-read
+        (items_of-meets (output_encoding e) (pair_lines (form e false) items) end)
 
     -- and as nothing else
-    lines-only : (others : List Entry) → IsItems (output_encoding e) (pair_lines (all_of e) items) end others → others ≡ items_after 0 (pairs_in items)
-    lines-only others is = items_of-only (output_encoding e) (pair_lines (all_of e) items) end others is ∙ lines-read
+    lines-only : (others : List Entry) → IsItems (output_encoding e) (pair_lines (form e false) items) end others → others ≡ items_after 0 (pairs_in items)
+    lines-only others is = items_of-only (output_encoding e) (pair_lines (form e false) items) end others is ∙ lines-read
 
 -- ---- what the sink took
 
 -- the lines of the pairs, and then at most a part of one line more
-pub record Took {W : Type 0} (sink : Sink W) (r : Repertoire) (items : List Entry) (old new : W) : Type 0 where
+pub record Took {W : Type 0} (sink : Sink W) (r : Form) (items : List Entry) (old new : W) : Type 0 where
   pub part : List ℕ
   pub begins : (part ≡ []) ⊎ ((key : List ℕ) × (value : List ℕ) × IsProperPrefix part (next_pair_line r items key value))
   pub taken : HasWritten sink old (pair_lines r items ++ part) new ⊎ HasFaulted sink old (pair_lines r items ++ part) new
 
-module _ {W : Type 0} {sink : Sink W} {r : Repertoire} {items : List Entry} {old new : W} where
+module _ {W : Type 0} {sink : Sink W} {r : Form} {items : List Entry} {old new : W} where
   -- no more than the lines
   whole : HasWritten sink old (pair_lines r items) new ⊎ HasFaulted sink old (pair_lines r items) new → Took sink r items old new
   whole h = record { part = []; begins = inl refl; taken = rw append-nil h }
@@ -62,12 +62,12 @@ module _ {W : Type 0} {sink : Sink W} {r : Repertoire} {items : List Entry} {old
 
 -- What filtering says of its output.
 pub filters_settles : {R W : Type 0} (reader : Reader R) (sink : Sink W) (e : Encoding) (input input' : R) (output output' : W)
-    (result : Result Unit PropertiesError) → Filters reader sink (all_of e) input output result input' output'
+    (result : Result Unit PropertiesError) → Filters reader sink (form e false) input output result input' output'
     → Settles reader sink e input output result input' output'
 filters_settles reader sink e input input' output output' (Ok done) h = record {
   items = h.items;
   reads = h.reads;
-  bytes = pair_lines (all_of e) h.items;
+  bytes = pair_lines (form e false) h.items;
   written = h.written;
   back = lines-back e h.items h.scalars;
   only = lines-only e h.items h.scalars;

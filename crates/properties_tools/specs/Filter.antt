@@ -1,8 +1,8 @@
 -- What `filter` does: it reads the items of an input, and writes each pair as one line.
-use Rattle.std.specs.Prelude.{◌≡◌, ◌⊎◌, ◌+◌, ◌^◌, ◌==◌, ℕ, Bool, true, List, [], ◌∷◌, ◌++◌, length, Option, Some, Result, Ok, Err}
+use Rattle.std.specs.Prelude.{◌≡◌, ◌⊎◌, ◌+◌, ◌^◌, ◌==◌, ℕ, Bool, true, false, List, [], ◌∷◌, ◌++◌, length, Option, Some, Result, Ok, Err}
 use Rattle.std.specs.declared.io.Error.{Error}
 use Rattle.counted_io.specs.Streams.{Reader, HasRead, Sink, HasWritten, HasFaulted, HasFailedFlush, IsProperPrefix, CameFromWrite, has_ended}
-use Rattle.properties_format.specs.Encoding.{Encoding, output_encoding, Repertoire, all_of}
+use Rattle.properties_format.specs.Encoding.{Encoding, output_encoding}
 use Rattle.properties_format.specs.Items.{pair, Entry, item, AreItems, IsItems}
 use Rattle.properties_format.specs.Printing.{printed}
 use Rattle.properties_format.specs.Settings.{Settings, default_settings}
@@ -31,16 +31,24 @@ pair_count entries = length (pair_calls entries)
 abbrev pub settings_with : Bool → Settings
 settings_with only = record default_settings { ascii_only = only }
 
--- the writer of the pairs of an input, before the first: in the encoding of the repertoire, and ASCII-only if it is
-abbrev pub pair_writer : {W : Type 0} → Repertoire → W → Writing W
+-- the encoding that an input is read in, and whether the output is ASCII-only
+pub record Form : Type 0 where
+  pub encoding : Encoding
+  pub ascii_only : Bool
+
+abbrev pub form : Encoding → Bool → Form
+form e only = record { encoding = e; ascii_only = only }
+
+-- the writer of the pairs of an input, before the first
+abbrev pub pair_writer : {W : Type 0} → Form → W → Writing W
 pair_writer r sink = with_settings (new_writer (output_encoding r.encoding) sink) (settings_with r.ascii_only)
 
 -- the lines of these pairs, as that writer prints them
-abbrev pub pair_lines : Repertoire → List Entry → List ℕ
+abbrev pub pair_lines : Form → List Entry → List ℕ
 pair_lines r entries = wrote (output_encoding r.encoding) (settings_with r.ascii_only) 0 (pair_calls entries)
 
 -- the line of a pair after these
-abbrev pub next_pair_line : Repertoire → List Entry → List ℕ → List ℕ → List ℕ
+abbrev pub next_pair_line : Form → List Entry → List ℕ → List ℕ → List ℕ
 next_pair_line r entries key value = printed (output_encoding r.encoding) (settings_with r.ascii_only) (pair_count entries == 0) (pair key value)
 
 -- ---- what was written
@@ -52,7 +60,7 @@ TakesAndFlushes {W} sink old bytes new =
     ⊎ ((middle : W) × HasWritten sink old bytes middle × ((source : Error) × HasFailedFlush sink middle source new))
 
 -- The pairs of these items were written, and a proper prefix of the line of this pair. Then a write failed, and the error has the number of that line and what the sink said.
-pub record FailsInPair {W : Type 0} (sink : Sink W) (r : Repertoire) (old : W) (items : List Entry) (key value : List ℕ) (error : PropertiesError) (new : W) : Type 0 where
+pub record FailsInPair {W : Type 0} (sink : Sink W) (r : Form) (old : W) (items : List Entry) (key value : List ℕ) (error : PropertiesError) (new : W) : Type 0 where
   pub part : List ℕ
   pub begins : IsProperPrefix part (next_pair_line r items key value)
   pub faulted : HasFaulted sink old (pair_lines r items ++ part) new
@@ -61,14 +69,14 @@ pub record FailsInPair {W : Type 0} (sink : Sink W) (r : Repertoire) (old : W) (
   pub is : IsError kind.Io (Some (pair_count items + 1)) (cause_of_write cause) error
 
 -- The pairs of these items were written, but not this one, for which memory ran out or the numbers for lines.
-pub record RefusesPair {W : Type 0} (sink : Sink W) (r : Repertoire) (old : W) (items : List Entry) (error : PropertiesError) (new : W) : Type 0 where
+pub record RefusesPair {W : Type 0} (sink : Sink W) (r : Form) (old : W) (items : List Entry) (error : PropertiesError) (new : W) : Type 0 where
   pub written : HasWritten sink old (pair_lines r items) new
   pub is : IsBareError kind.Memory error ⊎ IsBareError kind.TooManyLines error × (pair_count items + 1 ≡ 2 ^ 64)
 
 -- ---- how it ends
 
 -- The input was read to its end, its pairs were written, and the sink was flushed. Their texts are of scalar values.
-pub record HasFiltered {R W : Type 0} (reader : Reader R) (sink : Sink W) (r : Repertoire) (input : R) (output : W) (input' : R) (output' : W) : Type 0 where
+pub record HasFiltered {R W : Type 0} (reader : Reader R) (sink : Sink W) (r : Form) (input : R) (output : W) (input' : R) (output' : W) : Type 0 where
   pub items : List Entry
   pub whole : AreItems items
   pub scalars : ArePairsOfScalars (pairs_in items)
@@ -77,14 +85,14 @@ pub record HasFiltered {R W : Type 0} (reader : Reader R) (sink : Sink W) (r : R
   pub flushed : sink.is_flushed output' ≡ true
 
 -- Reading stopped after these items: at malformed escapes, at a fault, or since memory ran out or the numbers for lines. Their pairs were written, and the sink was flushed, or its flush failed.
-pub record StopsInReading {R W : Type 0} (reader : Reader R) (sink : Sink W) (r : Repertoire) (input : R) (output : W)
+pub record StopsInReading {R W : Type 0} (reader : Reader R) (sink : Sink W) (r : Form) (input : R) (output : W)
     (items : List Entry) (error : PropertiesError) (input' : R) (output' : W) : Type 0 where
   pub whole : AreItems items
   pub stops : ReadsUpTo reader r.encoding input items error input'
   pub written : TakesAndFlushes sink output (pair_lines r items) output'
 
 -- Writing stopped at a pair, which comes after these items.
-pub record StopsInWriting {R W : Type 0} (reader : Reader R) (sink : Sink W) (r : Repertoire) (input : R) (output : W)
+pub record StopsInWriting {R W : Type 0} (reader : Reader R) (sink : Sink W) (r : Form) (input : R) (output : W)
     (items : List Entry) (error : PropertiesError) (input' : R) (output' : W) : Type 0 where
   pub number : ℕ
   pub key : List ℕ
@@ -96,21 +104,21 @@ pub record StopsInWriting {R W : Type 0} (reader : Reader R) (sink : Sink W) (r 
   pub fails : FailsInPair sink r output items key value error output' ⊎ RefusesPair sink r output items error output'
 
 -- The input was read to its end, these are its items, and their pairs were written, but the flush failed.
-pub record StopsInFlush {R W : Type 0} (reader : Reader R) (sink : Sink W) (r : Repertoire) (input : R) (output : W)
+pub record StopsInFlush {R W : Type 0} (reader : Reader R) (sink : Sink W) (r : Form) (input : R) (output : W)
     (items : List Entry) (error : PropertiesError) (input' : R) (output' : W) : Type 0 where
   pub whole : AreItems items
   pub reads : ReadsWhole reader r.encoding input items input'
   pub fails : FailsInFlush sink output (pair_lines r items) error output'
 
 -- Filtering stopped after these items of the input, of whose pairs the texts are of scalar values.
-pub record StopsAfter {R W : Type 0} (reader : Reader R) (sink : Sink W) (r : Repertoire) (input : R) (output : W)
+pub record StopsAfter {R W : Type 0} (reader : Reader R) (sink : Sink W) (r : Form) (input : R) (output : W)
     (items : List Entry) (error : PropertiesError) (input' : R) (output' : W) : Type 0 where
   pub scalars : ArePairsOfScalars (pairs_in items)
   pub stops : StopsInReading reader sink r input output items error input' output'
       ⊎ (StopsInWriting reader sink r input output items error input' output' ⊎ StopsInFlush reader sink r input output items error input' output')
 
 -- What filtering an input to an output does.
-abbrev pub Filters : {R W : Type 0} → Reader R → Sink W → Repertoire → R → W → Result Unit PropertiesError → R → W → Type 0
+abbrev pub Filters : {R W : Type 0} → Reader R → Sink W → Form → R → W → Result Unit PropertiesError → R → W → Type 0
 Filters reader sink r input output (Ok done) input' output' = HasFiltered reader sink r input output input' output'
 Filters reader sink r input output (Err error) input' output' = (items : List Entry) × StopsAfter reader sink r input output items error input' output'
 
@@ -125,28 +133,28 @@ pub record HasSettled {R W : Type 0} (reader : Reader R) (sink : Sink W) (e : En
   pub written : HasWritten sink output bytes output'
   pub back : IsItems (output_encoding e) bytes end (items_after 0 (pairs_in items))
   pub only : (others : List Entry) → IsItems (output_encoding e) bytes end others → others ≡ items_after 0 (pairs_in items)
-  pub same : pair_lines (all_of (output_encoding e)) (items_after 0 (pairs_in items)) ≡ bytes
+  pub same : pair_lines (form (output_encoding e) false) (items_after 0 (pairs_in items)) ≡ bytes
 
 -- of the line of a pair after these, at most a part: nothing, or a proper prefix
 abbrev pub IsPartOfNext : Encoding → List Entry → List ℕ → Type 0
-IsPartOfNext e items part = (part ≡ []) ⊎ ((key : List ℕ) × (value : List ℕ) × IsProperPrefix part (next_pair_line (all_of e) items key value))
+IsPartOfNext e items part = (part ≡ []) ⊎ ((key : List ℕ) × (value : List ℕ) × IsProperPrefix part (next_pair_line (form e false) items key value))
 
 -- The sink took the lines of the pairs among these items, and then at most a part of one line more. A write or a flush may have failed.
 pub record TakesLines {W : Type 0} (sink : Sink W) (e : Encoding) (items : List Entry) (old new : W) : Type 0 where
   pub part : List ℕ
   pub begins : IsPartOfNext e items part
-  pub taken : HasWritten sink old (pair_lines (all_of e) items ++ part) new ⊎ HasFaulted sink old (pair_lines (all_of e) items ++ part) new
+  pub taken : HasWritten sink old (pair_lines (form e false) items ++ part) new ⊎ HasFaulted sink old (pair_lines (form e false) items ++ part) new
 
 -- Filtering stopped after these items, and the sink took the lines of their pairs. The lines are read, by themselves and in
 -- the output encoding, as these pairs, one a line and under its number, and as nothing else. To filter them writes the same
 -- bytes.
 pub record HasSettledBefore {R W : Type 0} (reader : Reader R) (sink : Sink W) (e : Encoding) (input : R) (output : W) (error : PropertiesError) (input' : R) (output' : W) : Type 0 where
   pub items : List Entry
-  pub stops : StopsAfter reader sink (all_of e) input output items error input' output'
+  pub stops : StopsAfter reader sink (form e false) input output items error input' output'
   pub takes : TakesLines sink e items output output'
-  pub back : IsItems (output_encoding e) (pair_lines (all_of e) items) end (items_after 0 (pairs_in items))
-  pub only : (others : List Entry) → IsItems (output_encoding e) (pair_lines (all_of e) items) end others → others ≡ items_after 0 (pairs_in items)
-  pub same : pair_lines (all_of (output_encoding e)) (items_after 0 (pairs_in items)) ≡ pair_lines (all_of e) items
+  pub back : IsItems (output_encoding e) (pair_lines (form e false) items) end (items_after 0 (pairs_in items))
+  pub only : (others : List Entry) → IsItems (output_encoding e) (pair_lines (form e false) items) end others → others ≡ items_after 0 (pairs_in items)
+  pub same : pair_lines (form (output_encoding e) false) (items_after 0 (pairs_in items)) ≡ pair_lines (form e false) items
 
 -- What filtering says of filtering its output anew.
 abbrev pub Settles : {R W : Type 0} → Reader R → Sink W → Encoding → R → W → Result Unit PropertiesError → R → W → Type 0

@@ -1,3 +1,4 @@
+pub mod Counting
 pub mod FirstKeys
 pub mod Flawed
 pub mod Fold

@@ -2,6 +2,7 @@
 -- it fails, and the effects of that.
 pub mod Change
 pub mod Check
+pub mod Counts
 pub mod Failures
 pub mod Get
 pub mod Hints

@@ -1,11 +1,11 @@
 -- What `propfilter` does, over any streams.
 use Rattle.std.specs.Prelude.{◌≡◌, ◌⊎◌, ℕ, Bool, true, false, List, [], ◌∷◌, Option, Some, None, Result, Ok, Err, codes}
 use Rattle.counted_io.specs.Streams.{Reader, Sink}
-use Rattle.properties_format.specs.Encoding.{Encoding, windows_1252, Repertoire, repertoire}
+use Rattle.properties_format.specs.Encoding.{Encoding, windows_1252}
 use Rattle.properties_format.specs.Names.{name_of}
 use Rattle.properties_items.specs.declared.error.PropertiesError.{PropertiesError}
 use Rattle.properties_text.specs.Encoding.{encoding_of}
-use Rattle.properties_tools.specs.Filter.{Filters}
+use Rattle.properties_tools.specs.Filter.{Filters, Form, form}
 use Rattle.properties_tools.specs.Messages.{printed_line, HasPrintedLine, PrintsErrorOf}
 use Rattle.properties_tools.specs.declared.propfilter.Asked.{Asked}
 
@@ -25,23 +25,23 @@ ascii_word = codes "ascii"
 
 -- the arguments ask for this encoding, and for ASCII-only output or not: none for windows-1252, and one by its name,
 -- which the word for ASCII only may follow
-abbrev pub Asks : List (List ℕ) → Repertoire → Type 0
+abbrev pub Asks : List (List ℕ) → Form → Type 0
 Asks [] r = (r.encoding ≡ windows_1252) × (r.ascii_only ≡ false)
 Asks (name ∷ []) r = (name ≡ name_of r.encoding) × (r.ascii_only ≡ false)
 Asks (name ∷ (word ∷ [])) r = (name ≡ name_of r.encoding) × (word ≡ ascii_word) × (r.ascii_only ≡ true)
 Asks (name ∷ (word ∷ (other ∷ others))) r = ⊥
 
 -- an encoding, and whether ASCII-only output is asked for
-abbrev pub asked_of : Asked → Repertoire
-asked_of asked = repertoire (encoding_of asked.encoding) asked.ascii_only
+abbrev pub asked_of : Asked → Form
+asked_of asked = form (encoding_of asked.encoding) asked.ascii_only
 
 -- what they ask for, where they ask for something
-abbrev pub IsAsked : List (List ℕ) → Option Repertoire → Type 0
-IsAsked arguments None = (r : Repertoire) → Asks arguments r → ⊥
+abbrev pub IsAsked : List (List ℕ) → Option Form → Type 0
+IsAsked arguments None = (r : Form) → Asks arguments r → ⊥
 IsAsked arguments (Some r) = Asks arguments r
 
 -- the encoding of this name, where it is one, with ASCII-only output beside it, or not
-abbrev pub IsNamedWith : List ℕ → Bool → Option Repertoire → Type 0
+abbrev pub IsNamedWith : List ℕ → Bool → Option Form → Type 0
 IsNamedWith name only None = (e : Encoding) → name ≡ name_of e → ⊥
 IsNamedWith name only (Some r) = (name ≡ name_of r.encoding) × (r.ascii_only ≡ only)
 
@@ -56,7 +56,7 @@ status_of (Err error) = 1
 -- an error was printed on `errors`.
 pub record HasRun {R W E : Type 0} (reader : Reader R) (sink : Sink W) (error_sink : Sink E) (arguments : List (List ℕ)) (input : R) (output : W) (errors : E)
     (status : ℕ) (input' : R) (output' : W) (errors' : E) : Type 0 where
-  pub allowed : Repertoire
+  pub allowed : Form
   pub asked : Asks arguments allowed
   pub result : Result Unit PropertiesError
   pub filters : Filters reader sink allowed input output result input' output'
@@ -66,7 +66,7 @@ pub record HasRun {R W E : Type 0} (reader : Reader R) (sink : Sink W) (error_si
 -- The arguments ask for nothing that there is: nothing was read or written, and the usage was printed on `errors`.
 pub record RefusesArguments {R W E : Type 0} (error_sink : Sink E) (arguments : List (List ℕ)) (input : R) (output : W) (errors : E)
     (status : ℕ) (input' : R) (output' : W) (errors' : E) : Type 0 where
-  pub unasked : (r : Repertoire) → Asks arguments r → ⊥
+  pub unasked : (r : Form) → Asks arguments r → ⊥
   pub answer : status ≡ 2
   pub unread : input' ≡ input
   pub unwritten : output' ≡ output

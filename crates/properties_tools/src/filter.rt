@@ -3,9 +3,8 @@
 ghost use Rattle.std.specs.Prelude.{◌≡◌, true, false};
 ghost use Rattle.counted_io.specs.Streams.{IsSameReader, IsSameSink};
 ghost use Rattle.properties_format.specs.ItemsToCome.{start};
-ghost use Rattle.properties_format.specs.Encoding.{repertoire, all_of, ascii_in};
 ghost use Rattle.properties_text.specs.Encoding.{encoding_of};
-ghost use Rattle.properties_tools.specs.Filter.{pair_writer, Filters, FiltersToAscii, Settles};
+ghost use Rattle.properties_tools.specs.Filter.{pair_writer, Filters, FiltersToAscii, Settles, form};
 
 use counted_io::{CountedRead, CountedWrite};
 use java_properties::{CopyError, Encoding, PropertiesError, PropertiesIter, PropertiesWriter};
@@ -33,7 +32,7 @@ pub fn filter<R: CountedRead, W: CountedWrite>(
     encoding: Encoding,
 ) -> Result<(), PropertiesError>
     ensures filters { let e = encoding_of encoding in
-        Filters R.CountedRead W.CountedWrite (all_of e) input.old writer.old result input.new writer.new }
+        Filters R.CountedRead W.CountedWrite (form e false) input.old writer.old result input.new writer.new }
     ensures idempotent { let e = encoding_of encoding in
         Settles R.CountedRead W.CountedWrite e input.old writer.old result input.new writer.new }
     ensures same_reader { IsSameReader R.CountedRead input.old input.new }
@@ -60,7 +59,7 @@ pub fn filter_ascii<R: CountedRead, W: CountedWrite>(
     encoding: Encoding,
 ) -> Result<(), PropertiesError>
     ensures filters { let e = encoding_of encoding in
-        Filters R.CountedRead W.CountedWrite (ascii_in e) input.old writer.old result input.new writer.new }
+        Filters R.CountedRead W.CountedWrite (form e true) input.old writer.old result input.new writer.new }
     ensures ascii { let e = encoding_of encoding in
         FiltersToAscii R.CountedRead W.CountedWrite e input.old writer.old result input.new writer.new }
     ensures same_reader { IsSameReader R.CountedRead input.old input.new }
@@ -78,7 +77,7 @@ pub(crate) fn filter_with<R: CountedRead, W: CountedWrite>(
     ascii_only: bool,
 ) -> Result<(), PropertiesError>
     ensures filters { let e = encoding_of encoding in
-        Filters R.CountedRead W.CountedWrite (repertoire e ascii_only)
+        Filters R.CountedRead W.CountedWrite (form e ascii_only)
         input.old writer.old result input.new writer.new }
     ensures same_reader { IsSameReader R.CountedRead input.old input.new }
     ensures same_sink { IsSameSink W.CountedWrite writer.old writer.new }
@@ -100,12 +99,12 @@ fn write_pairs<R: CountedRead, W: CountedWrite>(
 ) -> Result<(), PropertiesError>
     requires reading { items.old.state ≡ start items.old.state.encoding }
     requires writing { let only = lines.old.settings.ascii_only in
-        lines.old ≡ pair_writer (repertoire items.old.state.encoding only) lines.old.sink }
+        lines.old ≡ pair_writer (form items.old.state.encoding only) lines.old.sink }
     ensures filters { let e = items.old.state.encoding in
         let input = items.old.reader in
         let only = lines.old.settings.ascii_only in
         let output = lines.old.sink in
-        Filters R.CountedRead W.CountedWrite (repertoire e only)
+        Filters R.CountedRead W.CountedWrite (form e only)
         input output result items.new.reader lines.new.sink }
     ensures same_reader { IsSameReader R.CountedRead items.old.reader items.new.reader }
     ensures same_sink { IsSameSink W.CountedWrite lines.old.sink lines.new.sink }

@@ -4,6 +4,7 @@ pub mod answer;
 pub mod answers;
 pub mod change;
 pub mod check;
+pub mod counts;
 pub mod error;
 mod first_keys;
 mod fold;
@@ -158,7 +159,7 @@ pub fn exit_status<E: CountedWrite>(
 ///
 /// ```text
 /// let mut output = Counted::new(Vec::new(alloc));
-/// propedit::print_text(alloc, "propedit 1.15.0\n", &mut output, &mut errors); // 0, and the output holds the text
+/// propedit::print_text(alloc, "propedit 1.16.0\n", &mut output, &mut errors); // 0, and the output holds the text
 /// ```
 pub fn print_text<W: CountedWrite, E: CountedWrite>(
     alloc: Global,

@@ -17,12 +17,12 @@ use Rattle.properties_c.specs.declared.records.Record as code
 use Rattle.properties_c.specs.declared.status.Status.{Status}
 use Rattle.properties_c.specs.declared.status.Status.TheVariants.{NoMemory, NotUtf8, BadList}
 
--- The bytes stand from this place on, and everything else is as it was.
-pub record Puts (at : ℕ) (bytes old new : List ℕ) : Type 0 where
-  pub is : new ≡ take at old ++ (bytes ++ drop (at + length bytes) old)
-
 abbrev pub header_bytes : Header → List ℕ
 header_bytes h = number_bytes h.kind ++ (number_bytes h.line ++ (number_bytes h.key_length ++ number_bytes h.value_length))
+
+-- the header of a record
+abbrev pub header_of : Record → Header
+header_of r = record { kind = r.kind; line = r.line; key_length = length r.key; value_length = length r.value }
 
 -- Each number fits in its eight bytes.
 pub record IsSizedHeader (h : Header) : Type 0 where

@@ -1,6 +1,6 @@
 -- What a document holds: the parts of a source, in which nothing is malformed but in comments that are passed over.
 use Rattle.std.specs.Prelude.{◌≡◌, ℕ, Bool, true, List}
-use Rattle.properties_format.specs.Encoding.{Encoding, InForce, Repertoire, byte_order_mark, repertoire}
+use Rattle.properties_format.specs.Encoding.{Encoding, InForce, Repertoire, byte_order_mark, characters_for}
 use Rattle.properties_format.specs.Body.{HeldLine}
 use Rattle.properties_format.specs.Computed.Body.{held_groups_of}
 use Rattle.properties_text.specs.Encoding.{encoding_of}
@@ -20,7 +20,8 @@ every key = true
 
 -- what was requested, and the bytes after the edits
 abbrev pub repertoire_of : Inside → Repertoire
-repertoire_of d = repertoire (encoding_of d.encoding) d.edited.opened.ascii_only
+repertoire_of d =
+    let opened = d.edited.opened in record { encoding = encoding_of d.encoding; characters = characters_for opened.ascii_only opened.latin_1 }
 
 abbrev pub bytes_of : Inside → List ℕ
 bytes_of d = source_bytes d.source.items d.edited

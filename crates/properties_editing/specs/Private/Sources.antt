@@ -13,12 +13,12 @@ use Rattle.properties_editing.specs.declared.edit.BorrowedEdit.TheVariants.{Put,
 use Rattle.properties_editing.specs.declared.source.BodyStart.{BodyStart}
 use Rattle.properties_items.specs.declared.error.ErrorKind.TheVariants as kind
 use Rattle.properties_items.specs.declared.error.PropertiesError.{PropertiesError}
-use Rattle.properties_format.specs.Encoding.{repertoire, in_encoding, Repertoire}
+use Rattle.properties_format.specs.Encoding.{characters_for, in_encoding, Repertoire}
 use Rattle.properties_format.specs.Edits.{Edit, put, remove, set_value}
 
 -- what may stand unescaped in the body of an opened source, and in what is printed for it
 abbrev pub used_in : BodyStart → Repertoire
-used_in opened = repertoire (encoding_of opened.encoding) opened.ascii_only
+used_in opened = record { encoding = encoding_of opened.encoding; characters = characters_for opened.ascii_only opened.latin_1 }
 
 abbrev pub printed_in : BodyStart → Repertoire
 printed_in opened = in_encoding (used_in opened) (format.output_encoding (encoding_of opened.encoding))
@@ -34,7 +34,7 @@ borrowed_edit_in (SetValue key value) = set_value (chars key.now) (chars value.n
 pub record IsInForce (source : List ℕ) (r : Repertoire) (opened : BodyStart) : Type 0 where
   pub in_force : format.byte_order_mark r.encoding source ≡ record { encoding = encoding_of opened.encoding; body = drop opened.start source }
   pub within : opened.start ≤ length source
-  pub ascii_only : opened.ascii_only ≡ r.ascii_only
+  pub characters : characters_for opened.ascii_only opened.latin_1 ≡ r.characters
   pub editable : is_editable (encoding_of opened.encoding) ≡ true
 
 -- A source was opened so; or its encoding can't be edited.

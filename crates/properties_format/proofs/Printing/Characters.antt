@@ -5,7 +5,7 @@ use Rattle.std.specs.Char.{digit_char}
 use Rattle.std.proofs.lemmas.Bool.{cond_both, and_from, and_parts}
 use Rattle.std.proofs.lemmas.Str.{encode_ascii}
 use Rattle.properties_format.specs.Text.{scalar, line_ending_text, LineEnding, is_blank, is_separator, is_line_ending, space, backslash}
-use Rattle.properties_format.specs.Encoding.{Encoding, encoded, Repertoire}
+use Rattle.properties_format.specs.Encoding.{Encoding, windows_1252, utf_8, utf_16le, utf_16be, encoded, Repertoire, Characters, all_characters, latin_1_characters, ascii_characters, holds}
 use Rattle.properties_format.specs.Settings.{repertoire_of, Settings, IsGoodSeparator}
 use Rattle.properties_format.specs.Items.{Content, comment, pair}
 use Rattle.properties_format.specs.Split.{AreBlanks}
@@ -109,14 +109,23 @@ letter_escape-ascii c = grind (arith)
 pub special-ascii : (c : ℕ) → is_special c ≡ true → c < 0x80
 special-ascii c h = grind (arith)
 
+-- Every set has the ASCII characters.
+holds-ascii : (s : Characters) (e : Encoding) (c : ℕ) → c < 0x80 → holds s e c ≡ true
+holds-ascii all_characters e c h = refl
+holds-ascii latin_1_characters windows_1252 c h = grind (arith)
+holds-ascii latin_1_characters utf_8 c h = lt-ltb c 0x80 h
+holds-ascii latin_1_characters utf_16le c h = lt-ltb c 0x80 h
+holds-ascii latin_1_characters utf_16be c h = lt-ltb c 0x80 h
+holds-ascii ascii_characters e c h = lt-ltb c 0x80 h
+
 -- Every ASCII character may be written unescaped.
 pub may_be_unescaped-ascii : (r : Repertoire) (c : ℕ) → c < 0x80 → may_be_unescaped r c ≡ true
-may_be_unescaped-ascii r c h = grind (arith, and_from, encoded-ascii, lt-ltb)
+may_be_unescaped-ascii r c h = grind (arith, and_from, encoded-ascii, holds-ascii)
 
 -- A character that is unescaped if that is allowed, and escaped otherwise, is printed as an ASCII text or as itself.
 literal-either : (r : Repertoire) (c : ℕ) (P : List ℕ → Type 0) → ((x : List ℕ) → AreAscii x → P x) → (may_be_unescaped r c ≡ true → P (c ∷ []))
     → P (literal r c)
-literal-either r c P ascii as_it_is = search (rules, cond_both, unicode_escape-ascii)
+literal-either r c P ascii as_it_is = cond_both (may_be_unescaped r c) (c ∷ []) (unicode_escape c) P as_it_is (λ k. ascii (unicode_escape c) (unicode_escape-ascii c))
 
 -- What is printed is an ASCII text; or it is the character itself, which may be written unescaped.
 pub printed-either : (r : Repertoire) (place : Place) (c : ℕ) (P : List ℕ → Type 0) → ((x : List ℕ) → AreAscii x → P x)

@@ -8,7 +8,7 @@ use Rattle.std.specs.Str.{IsUtf8}
 use Rattle.std.proofs.lemmas.Bool.{cases_lt, not-false, cond-false, and_from, and_left, and_right, lt-leb, le-leb}
 use Rattle.std.proofs.lemmas.Str.{IsCharBoundary-start}
 use Rattle.std.proofs.lemmas.List.Elements.{All-head, All-tail}
-use Rattle.properties_format.specs.Encoding.{utf_8, windows_1252, one_byte, encoded, ascii_in, all_of}
+use Rattle.properties_format.specs.Encoding.{utf_8, windows_1252, one_byte, encoded, ascii_in, all_of, holds, latin_1_characters}
 use Rattle.properties_format.specs.Text.{backslash}
 use Rattle.properties_format.specs.Windows1252.{windows_1252_character, windows_1252_byte}
 use Rattle.properties_format.specs.Escapes.{Meaning, means, breaks}
@@ -48,6 +48,18 @@ put_lacked c h e = escaped-printed (all_of windows_1252) c h (ap (λ o. is_some 
 -- In ASCII only, what is non-ASCII is.
 pub put_escaped : (c : ℕ) → 0x80 ≤ c → put_of repertoire.Ascii c ≡ unicode_escape c
 put_escaped c h = escaped-printed (ascii_in utf_8) c h (and_left (nat_lt c 0x80) (is_some (encoded utf_8 c)) (le-ltb c 0x80 h))
+
+-- Of the characters that windows-1252 and ISO 8859-1 have alike, the byte is the character's number,
+pub latin_1_below : (c : ℕ) → holds latin_1_characters windows_1252 c ≡ true → c < 0x100
+latin_1_below c h = grind (arith)
+
+-- as which it is printed.
+pub put_latin_1 : (c : ℕ) → 0x80 ≤ c → holds latin_1_characters windows_1252 c ≡ true → put_of repertoire.Latin1 c ≡ c ∷ []
+put_latin_1 c h k = rw (past-special c h, past-letter c h, past-control c h, k) (rw k refl)
+
+-- Others are escaped.
+pub put_latin_1_lacked : (c : ℕ) → 0x80 ≤ c → holds latin_1_characters windows_1252 c ≡ false → put_of repertoire.Latin1 c ≡ unicode_escape c
+put_latin_1_lacked c h k = escaped-printed (in_format repertoire.Latin1) c h (and_left (holds latin_1_characters windows_1252 c) (is_some (encoded windows_1252 c)) k)
 
 -- ---- characters in front of a meaning
 

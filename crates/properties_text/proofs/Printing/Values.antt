@@ -12,10 +12,12 @@ use Rattle.memchr.specs.Find.{IsFirstByte}
 use Rattle.byte_blocks.specs.Classes.{is_control, is_non_ascii}
 use Rattle.properties_format.specs.Text.{space, backslash, is_separator, is_comment_sign, is_empty}
 use Rattle.properties_format.specs.Encoding.{Repertoire}
-use Rattle.properties_format.specs.Printing.{in_key_or_value, is_special, has_letter, unicode_escape, printed_character, encoded_text, is_free, printed_inside, printed_first, printed_last, printed_rest, printed_value}
+use Rattle.properties_format.specs.Printing.{literal, in_key_or_value, is_special, has_letter, unicode_escape, printed_character, encoded_text, is_free, printed_inside, printed_first, printed_last, printed_rest, printed_value}
 use Rattle.properties_format.specs.Writing.{HoldsNoBackslash}
-use Rattle.properties_format.proofs.Printing.Characters.{encoded_text-append, encoded_text-ascii, unicode_escape-ascii}
-use Rattle.properties_text.specs.Printing.{is_first_escaped, last_run}
+use Rattle.properties_format.proofs.Printing.Characters.{encoded_text-append, encoded_text-ascii, unicode_escape-ascii, free-plain}
+use Rattle.properties_format.proofs.ReadBack.Comments.{literal-ascii}
+use Rattle.properties_text.specs.declared.print.Repertoire as code
+use Rattle.properties_text.specs.Printing.{in_format, inside_bytes, is_first_escaped, last_run}
 use Rattle.properties_text.specs.Escaping.{text_in, IsWell}
 use Rattle.properties_text.specs.declared.encoding.line_encoding.LineEncoding.{LineEncoding}
 use Rattle.properties_text.proofs.Printing.Bytes.{ascii-printed}
@@ -26,6 +28,16 @@ use Rattle.properties_format.proofs.Valued.Fronts.{right-some}
 pub none-left : (x : List ℕ) → (length x == 0) ≡ true → chars x ≡ []
 none-left [] h = chars-nil
 none-left (b ∷ x) h = absurd (grind (arith, nat_tests))
+
+-- ---- a character inside
+
+-- One that a value may have unescaped is printed as it is, also at its end if it isn't a space.
+pub inside-free : (r : code.Repertoire) (is_last : Bool) (c : ℕ) → (is_last && c == space) ≡ false → is_free c ≡ true
+    → inside_bytes r is_last c ≡ encoded_text (in_format r).encoding (literal (in_format r) c)
+inside-free r false c inside free = rw (free, literal-ascii (in_format r) c (free-plain c free).2) refl
+inside-free r true c inside free =
+    let m = in_format r in
+    ap (encoded_text m.encoding) (cond-false (c == space) _ (printed_inside m c) inside ∙ cond-true (is_free c) (c ∷ []) _ free ∙ sym (literal-ascii m c (free-plain c free).2))
 
 -- ---- what stops a run
 

@@ -8,7 +8,7 @@ ghost use Rattle.properties_text.specs.Escaping.{text_in, IsWell, IsRead};
 ghost use Rattle.properties_text.specs.Printing.{in_format};
 ghost use Rattle.properties_text.specs.Converted.{converted_in, is_stop, StaysUpTo, IsConvertedFront, IsUnitFront};
 
-use super::runs::put_literal;
+use super::runs::{is_latin_1, put_literal};
 use super::{Repertoire, is_copied};
 use crate::encoding::{LineEncoding, ReadCharacter, byte_of};
 use crate::escape::read_escape;
@@ -285,6 +285,7 @@ fn has(repertoire: Repertoire, character: char) -> bool
     match repertoire {
         Repertoire::Utf8 => true,
         Repertoire::Windows1252 => byte_of(character).is_some(),
+        Repertoire::Latin1 => is_latin_1(character),
         Repertoire::Ascii => false,
     }
 }

@@ -4,6 +4,7 @@
 ghost use Rattle.std.specs.Prelude.{◌≡◌, ◌+◌, ◌-◌, ◌*◌, ◌<◌, ◌≤◌, ◌++◌, ℕ, Bool, true, false, length, take, drop, get_or, IfOk, IsOkUnless};
 ghost use Rattle.properties_text.specs.declared.escape.UnescapeError.TheVariants.{Memory};
 ghost use Rattle.properties_format.specs.Text.{backslash};
+ghost use Rattle.properties_format.specs.Encoding.{holds, latin_1_characters, windows_1252};
 ghost use Rattle.properties_text.specs.Escaping.{IsWell};
 ghost use Rattle.properties_format.specs.Printing.{literal, encoded_text};
 ghost use Rattle.properties_text.specs.Printing.{in_format, put_of, puts_of};
@@ -49,7 +50,7 @@ pub fn put_printed(out: &mut [u8], at: usize, repertoire: Repertoire, character:
 
 // Puts a non-ASCII character as it is, or as a `\u` escape if the repertoire lacks it, and returns the index after it.
 #[inline(always)]
-#[tactic(auto, using(crate::proofs::PrintedTexts::Steps::put_lacked, crate::proofs::PrintedTexts::Steps::put_escaped))]
+#[tactic(auto, using(crate::proofs::PrintedTexts::Steps::put_lacked, crate::proofs::PrintedTexts::Steps::put_escaped, crate::proofs::PrintedTexts::Steps::put_latin_1, crate::proofs::PrintedTexts::Steps::put_latin_1_lacked, crate::proofs::PrintedTexts::Steps::latin_1_below))]
 fn put_past(out: &mut [u8], at: usize, repertoire: Repertoire, character: char) -> usize
     requires room { at + 12 ≤ length out.old }
     requires past { 0x80 ≤ character }
@@ -66,8 +67,20 @@ fn put_past(out: &mut [u8], at: usize, repertoire: Repertoire, character: char) 
             }
             None => put_escape(out, at, character),
         },
-        Repertoire::Ascii => put_escape(out, at, character),
+        Repertoire::Latin1 if is_latin_1(character) => {
+            out[at] = u32::from(character) as u8;
+            at + 1
+        }
+        Repertoire::Latin1 | Repertoire::Ascii => put_escape(out, at, character),
     }
+}
+
+/// Returns whether windows-1252 and ISO 8859-1 have a character at the same byte, which isn't one of 80 to 9F.
+#[inline(always)]
+pub fn is_latin_1(character: char) -> bool
+    ensures { result ≡ holds latin_1_characters windows_1252 character }
+{
+    matches!(character, '\u{0}'..='\u{7f}' | '\u{a0}'..='\u{ff}')
 }
 
 /// Puts a character as it is, or as a `\u` escape if the repertoire lacks it, and returns the index after it.

@@ -34,7 +34,6 @@ use Rattle.properties_tools.specs.Private.Fold.{escapes_among, keys_among, pairs
 use Rattle.properties_tools.specs.Propedit.Texts.{ended_all}
 use Rattle.properties_tools.specs.declared.propedit.list.Listed.{Listed}
 use Rattle.properties_items.specs.declared.error.ErrorKind.TheVariants as kind
-use Rattle.properties_format.specs.Edits as format
 use Rattle.properties_format.specs.Found as meant
 use Rattle.properties_tools.specs.Private.Fold as fold
 

@@ -13,10 +13,11 @@ use Rattle.properties_lines.specs.Private.HeldLines.{IsInBody, lines_left}
 use Rattle.properties_lines.specs.Scanner.{HasRightFlags, bytes_of}
 use Rattle.properties_lines.specs.declared.scanner.RawLine.{RawLine}
 use Rattle.properties_lines.specs.declared.scanner.Scanner.{Scanner}
-use Rattle.properties_tools.specs.Propedit.Check.{AreRefused}
-use Rattle.properties_tools.specs.Propedit.Lines.{holds_non_ascii, holds_zero, AreFlawedIn, HasFlawed}
+use Rattle.properties_tools.specs.Propedit.Check.{AreOtherwise, AreRefused, AreWithBytes}
+use Rattle.properties_tools.specs.declared.propedit.check.Finding.{Finding}
+use Rattle.properties_tools.specs.Propedit.Lines.{holds_byte, holds_non_ascii, holds_zero, AreFlawedIn, HasFlawed}
 use Rattle.properties_tools.specs.declared.propedit.ill_formed.Flaw.{Flaw}
-use Rattle.properties_tools.specs.declared.propedit.ill_formed.Flaw.TheVariants.{IllFormed, Zero, NonAscii}
+use Rattle.properties_tools.specs.declared.propedit.ill_formed.Flaw.TheVariants.{IllFormed, Zero, NonAscii, Byte}
 use Rattle.properties_tools.specs.declared.propedit.request.Allowed.{Allowed}
 
 -- ---- the bytes of a line
@@ -56,6 +57,7 @@ is_ascii e bytes = not (holds_non_ascii bytes)
 abbrev pub is_flawed : Flaw → Encoding → List ℕ → Bool
 is_flawed IllFormed e bytes = not (is_well_formed e bytes)
 is_flawed Zero e bytes = holds_zero bytes
+is_flawed (Byte byte) e bytes = holds_byte byte bytes
 is_flawed NonAscii e bytes = not (is_ascii e bytes) && is_well_formed e bytes
 
 -- ---- the lines of a body
@@ -87,6 +89,15 @@ pub record IsScanning (body : List ℕ) (s : Scanner) : Type 0 where
 abbrev pub FindsRefused : Allowed → Encoding → List ℕ → Result (Vec ℕ) PropertiesError → Type 0
 FindsRefused allowed e source (Ok numbers) = AreRefused allowed e source numbers.items
 FindsRefused allowed e source (Err error) = IsBareError kind.Memory error
+
+-- What finding the lines with these bytes returns, and with those that aren't allowed, likewise.
+abbrev pub FindsBytes : List ℕ → Encoding → List ℕ → Result (Vec Finding) PropertiesError → Type 0
+FindsBytes bytes e source (Ok findings) = AreWithBytes e source bytes findings.items
+FindsBytes bytes e source (Err error) = IsBareError kind.Memory error
+
+abbrev pub FindsOtherwise : Allowed → Encoding → List ℕ → Result (Vec Finding) PropertiesError → Type 0
+FindsOtherwise allowed e source (Ok findings) = AreOtherwise allowed e source findings.items
+FindsOtherwise allowed e source (Err error) = IsBareError kind.Memory error
 
 -- The next number is found, if there is one.
 abbrev pub FindsNext : Flaw → List ℕ → Scanner → Option ℕ → Scanner → Type 0

@@ -1,13 +1,20 @@
 -- What is known of a file that is edited in place without asking the system.
-use Rattle.std.specs.Prelude.{◌≡◌, ◌≢◌, ◌⊎◌, ℕ, if◌then◌else◌, List, length, ◌==◌, Option, Some, None, Err}
+use Rattle.std.specs.Prelude.{◌≡◌, ◌≢◌, ◌⊎◌, ℕ, true, false, if◌then◌else◌, List, length, ◌==◌, Option, Some, None, Result, Ok, Err, string_bytes}
+use Rattle.std.specs.Global.{Global, Vec}
 use Rattle.std.specs.Path.{cur_dir, path_parent}
 use Rattle.std.specs.IoError.{error_kind}
 use Rattle.std.specs.declared.io.Error.{Error}
 use Rattle.std.specs.declared.io.ErrorKind.TheVariants.{NotFound, ResourceBusy}
+use Rattle.std.specs.declared.string.String.{String}
 use Rattle.properties_format.specs.Encoding.{Encoding}
+use Rattle.properties_text.specs.Encoding.{encoding_of}
 use Rattle.properties_items.specs.declared.error.PropertiesError.{PropertiesError}
+use Rattle.properties_tools.specs.Propedit.{Replaces}
 use Rattle.properties_tools.specs.Propedit.Change.{Changes}
+use Rattle.properties_tools.specs.Propedit.InPlace.{IsChangeLine}
 use Rattle.properties_tools.specs.declared.propedit.request.Change.{Change}
+use Rattle.properties_tools.specs.declared.propedit.request.FileChange.{FileChange}
+use Rattle.properties_tools.specs.declared.propedit.error.Failure.{Failure}
 use Rattle.properties_tools.specs.declared.propedit.error.Failure.TheVariants.{Input}
 use Rattle.properties_tools.specs.declared.propedit.in_place.EditError.{EditError}
 use Rattle.properties_tools.specs.declared.propedit.in_place.EditError.TheVariants.{NotEdited, NotReplaced}
@@ -40,6 +47,24 @@ IsPresenceAfter error result =
 abbrev pub IsRenameProblem : Error → Problem → Type 0
 IsRenameProblem error result =
     ((error_kind error ≡ ResourceBusy) × (result ≡ problem.Busy)) ⊎ ((error_kind error ≢ ResourceBusy) × (result ≡ problem.NotRenamed error))
+
+-- What is said of a file whose bytes were those of the source, where these are to replace them: a line, if that is
+-- asked for.
+abbrev pub SaysOf : FileChange → List ℕ → Option (Vec ℕ) → Option (String Global) → Type 0
+SaysOf file source bytes None = file.verbose ≡ false
+SaysOf file source bytes (Some line) =
+    (file.verbose ≡ true) × IsChangeLine (string_bytes file.path) (encoding_of file.encoding) source bytes (string_bytes line)
+
+-- What changing the bytes of a file returns. It fails only as the change does, or as comparing its result with them
+-- does.
+abbrev pub EditsBytes : FileChange → List ℕ → Result (Option (Vec ℕ) × Option (String Global)) Failure → Type 0
+EditsBytes file source (Ok made) = Replaces (encoding_of file.encoding) source file.change (Ok made.0) × SaysOf file source made.0 made.1
+EditsBytes file source (Err failure) =
+    ((error : PropertiesError) × (failure ≡ Input error)) ⊎ Changes (encoding_of file.encoding) source file.change (Err failure)
+
+-- This is said of what replaces some bytes.
+abbrev pub SaysOfSome : FileChange → Option (String Global) → Type 0
+SaysOfSome file said = (source : List ℕ) × (bytes : Option (Vec ℕ)) × EditsBytes file source (Ok (bytes, said))
 
 -- Why a file is not changed: it can't be read, the change is refused for some bytes, or the file is not replaced.
 abbrev pub IsEditError : Encoding → Change → EditError → Type 0

@@ -5,7 +5,7 @@ use Rattle.std.specs.declared.string.String.{String}
 use Rattle.properties_format.specs.Converting.{IsConverted}
 use Rattle.properties_format.specs.Edits.{HasPairValue, IsEditPairsResult, put, remove, set_value}
 use Rattle.properties_format.specs.Edits as format
-use Rattle.properties_format.specs.Encoding.{Encoding, repertoire}
+use Rattle.properties_format.specs.Encoding.{Encoding, Repertoire, characters_for}
 use Rattle.properties_text.specs.Converted.{is_readable}
 use Rattle.properties_text.specs.Printing.{in_format}
 use Rattle.java_properties.specs.Editing.{ArePairsMade, IsRefusal, edits_in}
@@ -51,17 +51,21 @@ pub record IsFirstAbsent (e : Encoding) (source : List ℕ) (keys : List (List �
 
 -- ---- edits
 
+-- what may stand unescaped in what edits put in
+abbrev pub put_in : Encoding → Edits → Repertoire
+put_in e edits = record { encoding = e; characters = characters_for edits.ascii_only edits.latin_1 }
+
 -- The source is sound, and these are its bytes after the edits. If that is asked for, a pair of it has each of their keys.
 pub record MakesEdits (e : Encoding) (source : List ℕ) (edits : Edits) (bytes : List ℕ) : Type 0 where
   pub sound : IsSound e source
   pub existing : edits.existing ≡ true → HasKeys e source (edited_keys (edits_in edits.list.items))
-  pub made : ArePairsMade (repertoire e edits.ascii_only) source (edits_in edits.list.items) bytes
+  pub made : ArePairsMade (put_in e edits) source (edits_in edits.list.items) bytes
 
 -- The source is sound, but the edits aren't made: its encoding is not one that is edited, or memory ran out.
 pub record RefusesEdits (e : Encoding) (source : List ℕ) (edits : Edits) (failure : Failure) : Type 0 where
   pub sound : IsSound e source
   pub error : PropertiesError
-  pub refused : IsRefusal (IsEditPairsResult (repertoire e edits.ascii_only) source (edits_in edits.list.items)) error
+  pub refused : IsRefusal (IsEditPairsResult (put_in e edits) source (edits_in edits.list.items)) error
   pub is : failure ≡ Input error
 
 -- The source is sound, and the edits can be made. But a pair of it has to have each of their keys, and this is the first of
@@ -70,7 +74,7 @@ pub record RefusesAbsent (e : Encoding) (source : List ℕ) (edits : Edits) (fai
   pub sound : IsSound e source
   pub existing : edits.existing ≡ true
   pub bytes : List ℕ
-  pub made : ArePairsMade (repertoire e edits.ascii_only) source (edits_in edits.list.items) bytes
+  pub made : ArePairsMade (put_in e edits) source (edits_in edits.list.items) bytes
   pub key : String Global
   pub first : IsFirstAbsent e source (edited_keys (edits_in edits.list.items)) (characters key)
   pub is : failure ≡ Absent key

@@ -1,13 +1,16 @@
 -- Why a file that is edited in place is not replaced, or what fails after that, and what is printed of it.
-use Rattle.std.specs.Prelude.{◌≡◌, ◌⊎◌, ℕ, List, [], ◌++◌, Option, None, Some, Err, IfSome, codes, string_bytes}
+use Rattle.std.specs.Prelude.{◌≡◌, ◌⊎◌, ℕ, List, [], ◌++◌, Option, None, Some, Ok, Err, IfSome, codes, string_bytes}
 use Rattle.std.specs.Fmt.{◌++?◌}
-use Rattle.std.specs.Global.{Global}
+use Rattle.std.specs.Global.{Global, Vec}
 use Rattle.std.specs.declared.string.String.{String}
 use Rattle.counted_io.specs.Streams.{Sink}
 use Rattle.properties_format.specs.Encoding.{Encoding}
-use Rattle.properties_tools.specs.Messages.{escaped, printed_line}
+use Rattle.properties_tools.specs.Messages.{escaped, printed_line, HasPrintedLine}
+use Rattle.properties_tools.specs.Propedit.{Replaces}
 use Rattle.properties_tools.specs.Propedit.Change.{Changes}
+use Rattle.properties_tools.specs.Propedit.Counts.{count_words, AreCounts}
 use Rattle.properties_tools.specs.Propedit.Failures.{failure_status, message, PrintsFailure, PrintsLine}
+use Rattle.properties_tools.specs.declared.propedit.counts.Counts.{Counts}
 use Rattle.properties_tools.specs.declared.propedit.request.Change.{Change}
 use Rattle.properties_tools.specs.declared.propedit.error.Failure.{Failure}
 use Rattle.properties_tools.specs.declared.propedit.error.Failure.TheVariants.{Absent}
@@ -50,6 +53,22 @@ pub record IsProblemLine (path : List ℕ) (error : ReplaceError) (line : List �
 -- Why a file is not replaced is printed.
 abbrev pub PrintsProblem : {W : Type 0} → Sink W → W → List ℕ → ReplaceError → W → Type 0
 PrintsProblem sink old path error new = PrintsLine sink old (IsProblemLine path error) new
+
+-- The line says of the file at this path, whose bytes were those of the source, how many pairs changed as these
+-- replaced them; or that nothing did.
+abbrev pub IsChangeLine : List ℕ → Encoding → List ℕ → Option (Vec ℕ) → List ℕ → Type 0
+IsChangeLine path e source None line = line ≡ escaped path ++ printed_line (codes ": unchanged")
+IsChangeLine path e source (Some bytes) line =
+    (counts : Counts) × AreCounts e source bytes.items counts × (line ≡ escaped path ++ (codes ": " ++ printed_line (count_words counts)))
+
+-- The change was made to some bytes, and such a line is printed.
+pub record PrintsChange {W : Type 0} (sink : Sink W) (old : W) (path : List ℕ) (e : Encoding) (change : Change) (new : W) : Type 0 where
+  pub source : List ℕ
+  pub bytes : Option (Vec ℕ)
+  pub replaced : Replaces e source change (Ok bytes)
+  pub line : List ℕ
+  pub is : IsChangeLine path e source bytes line
+  pub prints : HasPrintedLine sink old line new
 
 -- The change is refused for some bytes: they have no pair with a key that has to be there. That is printed as a line.
 pub record PrintsAbsent {W : Type 0} (sink : Sink W) (old : W) (path : List ℕ) (e : Encoding) (change : Change) (new : W) : Type 0 where

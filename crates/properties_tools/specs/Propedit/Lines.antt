@@ -14,7 +14,7 @@ use Rattle.java_properties.specs.Errors.{IsBareError}
 use Rattle.properties_items.specs.declared.error.ErrorKind.TheVariants as kind
 use Rattle.properties_items.specs.declared.error.PropertiesError.{PropertiesError}
 use Rattle.properties_tools.specs.declared.propedit.ill_formed.Flaw.{Flaw}
-use Rattle.properties_tools.specs.declared.propedit.ill_formed.Flaw.TheVariants.{IllFormed, Zero, NonAscii}
+use Rattle.properties_tools.specs.declared.propedit.ill_formed.Flaw.TheVariants.{IllFormed, Zero, NonAscii, Byte}
 
 -- The bytes are a unit that isn't a surrogate.
 abbrev pub IsPlainUnit : (ℕ → ℕ → ℕ) → List ℕ → Type 0
@@ -36,9 +36,12 @@ IsWellFormedUnits unit bytes = (characters : List (List ℕ)) × AreCharacters u
 
 -- ---- of the bytes of a line
 
--- whether one of the bytes is 0, which is U+0000 in UTF-8
+-- whether one of the bytes is this byte, such as 0, which is U+0000 in UTF-8
+abbrev pub holds_byte : ℕ → List ℕ → Bool
+holds_byte byte bytes = list_any (λ b. b == byte) bytes
+
 abbrev pub holds_zero : List ℕ → Bool
-holds_zero bytes = list_any (λ b. b == 0) bytes
+holds_zero bytes = holds_byte 0 bytes
 
 -- The bytes are well-formed in this encoding. In windows-1252 every byte is a character.
 abbrev pub IsWellFormedIn : Encoding → List ℕ → Type 0
@@ -59,12 +62,14 @@ TellsNonAscii e bytes has = (text : List ℕ) × IsDecodedLine e bytes text × (
 abbrev pub HasFlaw : Flaw → Encoding → List ℕ → Type 0
 HasFlaw IllFormed e bytes = ¬ IsWellFormedIn e bytes
 HasFlaw Zero e bytes = holds_zero bytes ≡ true
+HasFlaw (Byte byte) e bytes = holds_byte byte bytes ≡ true
 HasFlaw NonAscii e bytes = IsWellFormedIn e bytes × TellsNonAscii e bytes true
 
 -- The bytes don't have it.
 abbrev pub LacksFlaw : Flaw → Encoding → List ℕ → Type 0
 LacksFlaw IllFormed e bytes = IsWellFormedIn e bytes
 LacksFlaw Zero e bytes = holds_zero bytes ≡ false
+LacksFlaw (Byte byte) e bytes = holds_byte byte bytes ≡ false
 LacksFlaw NonAscii e bytes = (¬ IsWellFormedIn e bytes) ⊎ TellsNonAscii e bytes false
 
 -- ---- of a body
@@ -89,7 +94,11 @@ pub record AreFlawedIn (flaw : Flaw) (e : Encoding) (body : List ℕ) (numbers :
 abbrev pub starts_with_bom : List ℕ → Bool
 starts_with_bom source = starts_with nat_eq source (239 ∷ 187 ∷ 191 ∷ [])
 
--- whether an encoding is UTF-8, and whether it is one of the two of UTF-16
+-- whether an encoding is windows-1252, whether it is UTF-8, and whether it is one of the two of UTF-16
+abbrev pub is_windows_1252 : Encoding → Bool
+is_windows_1252 windows_1252 = true
+is_windows_1252 other = false
+
 abbrev pub is_utf_8 : Encoding → Bool
 is_utf_8 utf_8 = true
 is_utf_8 other = false
@@ -99,10 +108,12 @@ is_utf_16 utf_16le = true
 is_utf_16 utf_16be = true
 is_utf_16 other = false
 
--- Whether a flaw is sought. A byte order mark says that the source isn't UTF-16, so a byte 0 is no flaw after one.
+-- Whether a flaw is sought. A byte order mark says that the source isn't UTF-16, so a byte 0 is no flaw after one. Other
+-- bytes by themselves are sought in windows-1252.
 abbrev pub is_sought : Flaw → Encoding → List ℕ → Bool
 is_sought IllFormed e source = true
 is_sought NonAscii e source = true
+is_sought (Byte byte) e source = is_windows_1252 (byte_order_mark e source).encoding
 is_sought Zero e source = is_utf_8 (byte_order_mark e source).encoding && not (starts_with_bom source)
 
 -- These are the numbers of the lines of a source that have this flaw, if it is sought.

@@ -27,6 +27,7 @@ use std::alloc::{AllocError, Global};
 /// let edits = Change::Edits(Edits {
 ///     list: vec![in alloc; Edit::SetValue(port, value)]?,
 ///     ascii_only: false,
+///     latin_1: false,
 ///     existing: false,
 /// });
 /// let bytes = change(alloc, b"# the front door\nport = 80\n", Encoding::UTF_8, &edits)?;
@@ -66,6 +67,7 @@ fn edited(
     let options = SourceOptions {
         encoding,
         ascii_only: edits.ascii_only,
+        latin_1: edits.latin_1,
         comments: Comments::PassedOver,
     };
     match edit_with(alloc, source, options, &edits.list) {

@@ -3,9 +3,10 @@
 ghost use Rattle.std.specs.Prelude.{◌≡◌, ◌++◌, map, OnOk};
 ghost use Rattle.std.specs.List.{flat_map};
 ghost use Rattle.std.specs.String.{string_bytes};
+ghost use Rattle.properties_format.specs.Windows1252.{windows_1252_character};
 ghost use Rattle.properties_text.specs.Encoding.{encoding_of};
-ghost use Rattle.properties_tools.specs.Propedit.Check.{comment_words, finding_line, first_findings, first_words, ill_formed_findings, ill_formed_text, non_ascii_finding, words_after, ArrangesByLine, Reports};
-ghost use Rattle.properties_tools.specs.Private.Flawed.{FindsRefused};
+ghost use Rattle.properties_tools.specs.Propedit.Check.{comment_words, finding_line, first_findings, first_words, ill_formed_findings, ill_formed_text, finding_of, words_after, ArrangesByLine, Reports};
+ghost use Rattle.properties_tools.specs.Private.Flawed.{FindsBytes, FindsOtherwise, FindsRefused};
 
 use crate::messages::Escaped;
 use crate::propedit::error::{HOLDS_ZERO, NOT_UTF_8, NOT_UTF_8_BY_MARK, NOT_UTF_16};
@@ -16,8 +17,13 @@ use crate::propedit::line_findings::line_findings;
 use crate::propedit::request::Allowed;
 use crate::propedit::sound::in_utf_16;
 use java_properties::{Encoding, MalformedEscape, PropertiesError};
+use properties_text::encoding::LineEncoding;
 use std::alloc::{AllocError, Global};
 use std::fmt;
+
+// The bytes that windows-1252 and ISO 8859-1 read as different characters.
+const READ_OTHERWISE: &[u8] = b"\x80\x82\x83\x84\x85\x86\x87\x88\x89\x8a\x8b\x8c\x8e\
+    \x91\x92\x93\x94\x95\x96\x97\x98\x99\x9a\x9b\x9c\x9e\x9f";
 
 const LOOKS_UTF_8: &str = "looks like UTF-8; without -e it is read as UTF-8";
 
@@ -36,6 +42,8 @@ pub(crate) enum FindingKind {
     // The source is UTF-8, and is read as windows-1252. This is its first line that isn't ASCII.
     LooksUtf8,
     NonAscii,
+    // This byte, which ISO 8859-1 reads as another character than windows-1252 does.
+    ReadOtherwise(u8),
     Escape(MalformedEscape),
     // The key of this earlier line.
     Repeats(usize),
@@ -56,7 +64,8 @@ pub(crate) enum Words {
 /// Returns what is wrong in a source, a line for each finding, in the order of the source's lines: the first line with
 /// U+0000, if UTF-8 is in force without a byte order mark; the lines that are ill-formed in the encoding in force; the
 /// first line with a non-ASCII character, if windows-1252 is in force though the source is well-formed UTF-8; the
-/// well-formed lines with a non-ASCII character, if only ASCII is allowed; malformed escapes; and pairs that repeat a
+/// well-formed lines with a non-ASCII character, if only ASCII is allowed; each byte of a line that ISO 8859-1 reads as
+/// another character, if that isn't allowed and windows-1252 is in force; malformed escapes; and pairs that repeat a
 /// key. The text is empty if nothing is wrong. Fails only if memory runs out.
 ///
 /// If a line is ill-formed, a key with U+FFFD repeats no other, since that character may stand for any bytes.
@@ -86,7 +95,9 @@ pub fn report(
     let utf_8 = first_utf_8_line(source, encoding);
     push_first(&mut findings, utf_8, FindingKind::LooksUtf8)?;
     let refused = refused_lines(alloc, source, encoding, allowed)?;
-    push_non_ascii(&mut findings, &refused)?;
+    push_all(&mut findings, &refused, FindingKind::NonAscii)?;
+    let otherwise = read_otherwise(alloc, source, encoding, allowed)?;
+    findings.extend_from_slice(&otherwise)?;
     let in_lines = line_findings(alloc, source, encoding, numbers.is_empty())?;
     findings.extend_from_slice(&in_lines.escapes)?;
     findings.extend_from_slice(&in_lines.repeats)?;
@@ -166,18 +177,54 @@ fn refused_lines(
     ensures { FindsRefused allowed (encoding_of encoding) source.now result }
 {
     match allowed {
-        Allowed::All => Ok(Vec::new(alloc)),
+        Allowed::All | Allowed::Latin1 => Ok(Vec::new(alloc)),
         Allowed::Ascii => flawed_lines(alloc, source, encoding, Flaw::NonAscii),
     }
 }
 
-fn push_non_ascii(findings: &mut Vec<Finding>, numbers: &[usize]) -> Result<(), AllocError>
-    ensures { OnOk result (findings.new.items ≡ findings.old.items ++ map non_ascii_finding numbers.now) }
+// Returns the lines with bytes that ISO 8859-1 reads otherwise, byte by byte, if these aren't allowed.
+fn read_otherwise(
+    alloc: Global,
+    source: &[u8],
+    encoding: Encoding,
+    allowed: Allowed,
+) -> Result<Vec<Finding>, PropertiesError>
+    ensures { FindsOtherwise allowed (encoding_of encoding) source.now result }
+{
+    match allowed {
+        Allowed::Latin1 => lines_with(alloc, source, encoding, READ_OTHERWISE),
+        Allowed::All | Allowed::Ascii => Ok(Vec::new(alloc)),
+    }
+}
+
+// Returns the lines that have one of these bytes, byte by byte.
+fn lines_with(
+    alloc: Global,
+    source: &[u8],
+    encoding: Encoding,
+    bytes: &[u8],
+) -> Result<Vec<Finding>, PropertiesError>
+    ensures { FindsBytes bytes.now (encoding_of encoding) source.now result }
+{
+    let mut findings = Vec::new(alloc);
+    for byte in bytes {
+        let numbers = flawed_lines(alloc, source, encoding, Flaw::Byte(*byte))?;
+        push_all(&mut findings, &numbers, FindingKind::ReadOtherwise(*byte))?;
+    }
+    Ok(findings)
+}
+
+fn push_all(
+    findings: &mut Vec<Finding>,
+    numbers: &[usize],
+    kind: FindingKind,
+) -> Result<(), AllocError>
+    ensures { OnOk result (findings.new.items ≡ findings.old.items ++ map (finding_of kind) numbers.now) }
 {
     for number in numbers {
         findings.push(Finding {
             line_number: *number,
-            kind: FindingKind::NonAscii,
+            kind,
         })?;
     }
     Ok(())
@@ -219,6 +266,14 @@ impl fmt::Display for FindingKind {
             FindingKind::IllFormedLine(words) => f.write_str(ill_formed_words(*words)),
             FindingKind::LooksUtf8 => f.write_str(LOOKS_UTF_8),
             FindingKind::NonAscii => f.write_str("has a non-ASCII character"),
+            FindingKind::ReadOtherwise(byte) => {
+                let code = u32::from(character_of(*byte));
+                let zero = if code < 0x1000 { "0" } else { "" };
+                write!(
+                    f,
+                    "byte {byte:X} is '\\u{zero}{code:x}' in windows-1252 and U+00{byte:X} to Java"
+                )
+            }
             FindingKind::Escape(escape) => {
                 let place = place_words(escape.in_comment);
                 write!(f, "{}{place}", escape.kind)
@@ -237,6 +292,13 @@ fn ill_formed_words(words: Words) -> &'static str
         Words::NotUtf8 => "not UTF-8",
         Words::NotUtf16 => NOT_UTF_16,
     }
+}
+
+// Returns the character of a byte in windows-1252.
+fn character_of(byte: u8) -> char
+    ensures { result ≡ windows_1252_character byte }
+{
+    LineEncoding::Windows1252.first_character(&[byte]).character
 }
 
 fn place_words(in_comment: bool) -> &'static str

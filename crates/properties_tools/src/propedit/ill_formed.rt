@@ -7,7 +7,7 @@ ghost use Rattle.properties_lines.specs.Scanner.{bytes_of};
 ghost use Rattle.properties_tools.specs.Propedit.Lines as spec;
 ghost use Rattle.properties_tools.specs.Propedit.Lines.{FindsFlawed, IsFirstFlawed, IsFirstUtf8, starts_with_bom};
 ghost use Rattle.properties_tools.specs.Private.Flawed.{are_ascii, are_paired, is_ascii, is_flawed, is_well_formed, unit_in, FindsNext, HasLinesOf, IsFound, IsScanning};
-ghost use Rattle.properties_tools.specs.declared.propedit.ill_formed.Flaw.TheVariants.{IllFormed, NonAscii, Zero};
+ghost use Rattle.properties_tools.specs.declared.propedit.ill_formed.Flaw.TheVariants.{Byte, IllFormed, NonAscii, Zero};
 
 use java_properties::{Encoding, PropertiesError};
 use memchr::memchr;
@@ -26,6 +26,8 @@ pub enum Flaw {
     Zero,
     /// They are well-formed, and have a character that isn't ASCII.
     NonAscii,
+    /// One of them is this byte. It is sought only if windows-1252 is in force.
+    Byte(u8),
 }
 
 /// Returns the numbers of the natural lines that are ill-formed in the encoding in force, in order. Fails only if
@@ -103,6 +105,7 @@ fn body_to_search(source: &[u8], encoding: Encoding, flaw: Flaw) -> (Encoding, &
         Flaw::IllFormed => body_to_decode(source, encoding),
         Flaw::Zero => body_with_zeros(source, encoding),
         Flaw::NonAscii => whole_body(source, encoding),
+        Flaw::Byte(byte) => body_in_windows_1252(source, encoding, byte),
     }
 }
 
@@ -133,6 +136,16 @@ fn body_with_zeros(source: &[u8], encoding: Encoding) -> (Encoding, &[u8])
         return (in_force, &[]);
     }
     (in_force, body)
+}
+
+fn body_in_windows_1252(source: &[u8], encoding: Encoding, byte: u8) -> (Encoding, &[u8])
+    ensures { HasLinesOf (Byte byte) (encoding_of encoding) source.now (encoding_of result.0) result.1.now }
+{
+    let (in_force, start) = encoding_in_force(source, encoding);
+    match in_force {
+        Encoding::WINDOWS_1252 => (in_force, &source[start..]),
+        _ => (in_force, &[]),
+    }
 }
 
 fn whole_body(source: &[u8], encoding: Encoding) -> (Encoding, &[u8])
@@ -169,6 +182,7 @@ fn has_flaw(encoding: Encoding, body: &[u8], line: &RawLine, flaw: Flaw) -> bool
     match flaw {
         Flaw::IllFormed => !is_well_formed(encoding, body, line),
         Flaw::Zero => holds_zero(&body[line.start..line.end]),
+        Flaw::Byte(byte) => holds(&body[line.start..line.end], byte),
         Flaw::NonAscii => {
             !is_ascii(encoding, body, line) && is_well_formed(encoding, body, line)
         }
@@ -199,11 +213,17 @@ fn is_ascii(encoding: Encoding, body: &[u8], line: &RawLine) -> bool
     }
 }
 
-#[tactic(auto, using(crate::proofs::Flawed::tells_zero))]
 fn holds_zero(bytes: &[u8]) -> bool
     ensures { result ≡ spec.holds_zero bytes.now }
 {
-    memchr(0, bytes).is_some()
+    holds(bytes, 0)
+}
+
+#[tactic(auto, using(crate::proofs::Flawed::tells_byte))]
+fn holds(bytes: &[u8], byte: u8) -> bool
+    ensures { result ≡ spec.holds_byte byte bytes.now }
+{
+    memchr(byte, bytes).is_some()
 }
 
 // Returns whether each surrogate is one of a pair, and no byte is left over.

@@ -1,19 +1,21 @@
 //! Files that are edited in place, whole or not at all.
 
-ghost use Rattle.std.specs.Prelude.{◌≡◌, ◌⊎◌, ◌++◌, codes, string_bytes, if◌then◌else◌, IfErr, IfOk};
+ghost use Rattle.std.specs.Prelude.{◌≡◌, ◌⊎◌, ◌++◌, true, false, codes, string_bytes, if◌then◌else◌, IfErr, IfOk};
 ghost use Rattle.std.specs.Option.{is_some};
 ghost use Rattle.counted_io.specs.Streams.{IsSameSink};
 ghost use Rattle.std.specs.Path.{path_bytes};
 ghost use Rattle.properties_text.specs.Encoding.{encoding_of};
-ghost use Rattle.properties_tools.specs.Propedit.InPlace.{problem_display, replace_display, IsProblemLine, PrintsAbsent, PrintsEditError, PrintsProblem};
-ghost use Rattle.properties_tools.specs.Private.InPlace.{folder_of, unsynced, IsEditError, IsPresenceAfter, IsRenameProblem};
+ghost use Rattle.properties_tools.specs.Propedit.InPlace.{problem_display, replace_display, IsChangeLine, IsProblemLine, PrintsAbsent, PrintsChange, PrintsEditError, PrintsProblem};
+ghost use Rattle.properties_tools.specs.Private.InPlace.{folder_of, unsynced, EditsBytes, IsEditError, IsPresenceAfter, IsRenameProblem, SaysOfSome};
 
 use crate::messages::{Escaped, print_line};
+use crate::propedit::counts::count_changes;
 use crate::propedit::error::{FAILED, Failure, NO_MEMORY, print_failure};
 use crate::propedit::replacement;
 use crate::propedit::request::{FileChange, Missing};
 use crate::propedit::same_file::{is_same_file, refuse_output};
 use counted_io::CountedWrite;
+use java_properties::{Encoding, PropertiesError};
 use std::alloc::{AllocError, Global};
 use std::error::Error;
 use std::fmt;
@@ -30,7 +32,8 @@ const BLOCK: usize = 1 << 16;
 /// line. It is 1 if that error is a key to set or remove which no pair of the file has.
 ///
 /// The file is replaced whole, or stays as it is. Nothing is written if no byte changes. A missing file that
-/// may be created counts as empty. What can't be printed is dropped.
+/// may be created counts as empty. If the change is verbose and the status is 0, a line on `errors` says how many pairs
+/// changed, or that no byte did. What can't be printed is dropped.
 ///
 /// ```text
 /// // If the request is to remove a key of a file:
@@ -43,7 +46,9 @@ pub fn edit_file<E: CountedWrite>(
     errors: &mut E,
 ) -> u8
     ensures status { (result ≡ 0) ⊎ ((result ≡ 1) ⊎ (result ≡ 2)) }
-    ensures quiet { result ≡ 0 → errors.new ≡ errors.old }
+    ensures quiet { result ≡ 0 → file.now.verbose ≡ false → errors.new ≡ errors.old }
+    ensures says { result ≡ 0 → file.now.verbose ≡ true →
+        PrintsChange E.CountedWrite errors.old (string_bytes file.now.path) (encoding_of file.now.encoding) file.now.change errors.new }
     ensures absent { result ≡ 1 →
         PrintsAbsent E.CountedWrite errors.old (string_bytes file.now.path) (encoding_of file.now.encoding) file.now.change errors.new }
     ensures prints { result ≡ 2 → PrintsEditError E.CountedWrite errors.old (string_bytes file.now.path) errors.new }
@@ -51,7 +56,11 @@ pub fn edit_file<E: CountedWrite>(
 {
     let path = file.path.as_str();
     match replace_edited(rt, alloc, file) {
-        Ok(()) => 0,
+        Ok(Some(line)) => {
+            print_line(errors, line.as_str());
+            0
+        }
+        Ok(None) => 0,
         Err(EditError::NotEdited(failure)) => {
             print_failure(alloc, errors, path, &failure);
             failure.status()
@@ -67,20 +76,65 @@ enum EditError {
     NotReplaced(ReplaceError),
 }
 
-fn replace_edited(rt: &HostRuntime, alloc: Global, file: &FileChange) -> Result<(), EditError>
-    ensures { IfErr result (IsEditError (encoding_of file.now.encoding) file.now.change) }
+// Replaces the file, and returns the line that says how it changed, if that is asked for.
+fn replace_edited(
+    rt: &HostRuntime,
+    alloc: Global,
+    file: &FileChange,
+) -> Result<Option<String>, EditError>
+    ensures fails { IfErr result (IsEditError (encoding_of file.now.encoding) file.now.change) }
+    ensures says { IfOk result (SaysOfSome file.now) }
 {
     let target = match Target::read(rt, alloc, file.path.as_str(), file.missing) {
         Ok(target) => target,
         Err(error) => return Err(EditError::NotEdited(Failure::from(error))),
     };
-    match replacement(alloc, target.bytes(), file.encoding, &file.change) {
-        Ok(Some(bytes)) => match target.replace(rt, bytes.as_slice()) {
-            Ok(()) => Ok(()),
+    let (bytes, said) = match edited(alloc, target.bytes(), file) {
+        Ok(made) => made,
+        Err(failure) => return Err(EditError::NotEdited(failure)),
+    };
+    match bytes {
+        Some(bytes) => match target.replace(rt, bytes.as_slice()) {
+            Ok(()) => Ok(said),
             Err(error) => Err(EditError::NotReplaced(error)),
         },
-        Ok(None) => Ok(()),
-        Err(failure) => Err(EditError::NotEdited(failure)),
+        None => Ok(said),
+    }
+}
+
+// Returns the new bytes of a file, if they differ, and that line.
+fn edited(
+    alloc: Global,
+    source: &[u8],
+    file: &FileChange,
+) -> Result<(Option<Vec<u8>>, Option<String>), Failure>
+    ensures { EditsBytes file.now source.now result }
+{
+    let bytes = replacement(alloc, source, file.encoding, &file.change)?;
+    if file.verbose {
+        let line = change_line(alloc, file.path.as_str(), source, &bytes, file.encoding)?;
+        return Ok((bytes, Some(line)));
+    }
+    Ok((bytes, None))
+}
+
+// Returns the line that says how the pairs of a file changed, or that nothing did.
+fn change_line(
+    alloc: Global,
+    path: &str,
+    source: &[u8],
+    bytes: &Option<Vec<u8>>,
+    encoding: Encoding,
+) -> Result<String, PropertiesError>
+    ensures { IfOk result (λ line. IsChangeLine path.now (encoding_of encoding) source.now bytes.now (string_bytes line)) }
+{
+    let path = Escaped(path);
+    match bytes {
+        Some(bytes) => {
+            let counts = count_changes(alloc, source, bytes, encoding)?;
+            Ok(format!(in alloc; "{path}: {counts}\n")?)
+        }
+        None => Ok(format!(in alloc; "{path}: unchanged\n")?),
     }
 }
 

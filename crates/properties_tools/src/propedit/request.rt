@@ -41,6 +41,8 @@ pub struct FileChange {
     pub change: Change,
     /// What is done if there is no such file.
     pub missing: Missing,
+    /// Whether a line says how its pairs changed.
+    pub verbose: bool,
 }
 
 /// A change of a source.
@@ -59,6 +61,8 @@ pub struct Edits {
     pub list: Vec<Edit>,
     /// Whether what they put in is ASCII-only.
     pub ascii_only: bool,
+    /// Whether it has only characters whose bytes ISO 8859-1 reads alike.
+    pub latin_1: bool,
     /// Whether a pair of the source has to have each of their keys.
     pub existing: bool,
 }
@@ -120,6 +124,8 @@ pub struct Check {
 pub enum Allowed {
     /// Those of any text.
     All,
+    /// In windows-1252, those whose bytes ISO 8859-1 reads alike. All others are reported, byte by byte.
+    Latin1,
     /// Only ASCII, in comments too.
     Ascii,
 }

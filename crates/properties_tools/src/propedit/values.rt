@@ -19,6 +19,7 @@ pub(crate) fn values_of(
     let options = SourceOptions {
         encoding,
         ascii_only: false,
+        latin_1: false,
         comments: Comments::PassedOver,
     };
     let mut values = Vec::new(alloc);

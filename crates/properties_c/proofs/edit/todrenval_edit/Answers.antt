@@ -1,4 +1,4 @@
-use Rattle.std.proofs.Common.{rules, inl, inr}
+use Rattle.std.proofs.Common.{refl, rules, inl, inr}
 use Rattle.java_properties.specs.Editing.{edits_in}
 use Rattle.properties_text.specs.Encoding.{encoding_of}
 use Rattle.properties_c.specs.Packed.{edits}
@@ -17,10 +17,38 @@ returns-in-Err c =
       ),
     )
 
+pub returns-in-Some-refused_line : goal.returns-in-Some-refused_line
+returns-in-Some-refused_line c =
+    inl (
+      encoding_of c.in-Some.encoding,
+      search rules,
+      inl (
+        c.in-Some-flags_numbered.flags,
+        search rules,
+        inl (
+          edits_in c.in-Ok.edits.items,
+          search rules,
+          inr (
+            c.in-Some-refused_line.number,
+            c.in-Some-refused_line.ensures,
+            record { answers = search rules; kept = refl },
+          ),
+        ),
+      ),
+    )
+
 pub returns : goal.returns
 returns c =
     inl (
       encoding_of c.in-Some.encoding,
       search rules,
-      inl (c.in-Some-flags_numbered.flags, search rules, inl (edits_in c.in-Ok.edits.items, search rules, (c.with_edits-edited.result, search rules, search rules))),
+      inl (
+        c.in-Some-flags_numbered.flags,
+        search rules,
+        inl (
+          edits_in c.in-Ok.edits.items,
+          search rules,
+          inl (c.in_default-refused_line.ensures, (c.with_edits-edited.result, search rules, search rules)),
+        ),
+      ),
     )

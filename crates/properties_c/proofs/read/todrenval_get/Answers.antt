@@ -2,7 +2,7 @@ use Rattle.std.proofs.Common.{◌≡◌, ◌∙◌, sym, refl, rules, inl, inr, 
 use Rattle.std.specs.Prelude.{Ok, Err, encode_utf8_all}
 use Rattle.std.specs.Str.{chars}
 use Rattle.properties_text.specs.Encoding.{encoding_of}
-use Rattle.properties_c.proofs.PackedLines.{encoded-text}
+use Rattle.properties_c.proofs.Texts.{encoded-text}
 use Rattle.properties_c.proofs.read.todrenval_get.Goals as goal
 
 pub returns-in-Ok-Some : goal.returns-in-Ok-Some
@@ -13,7 +13,11 @@ returns-in-Ok-Some c =
     inl (
       encoding_of c.in-Some.encoding,
       search rules,
-      inl (c.in-Some-flags_numbered.flags, search rules, inl (search rules, (Ok (Some value), search rules, rw same (search rules)))),
+      inl (
+        c.in-Some-flags_numbered.flags,
+        search rules,
+        inl (search rules, inl (c.in_default-refused_line.ensures, (Ok (Some value), search rules, rw same (search rules)))),
+      ),
     )
 
 pub returns-in-Err : goal.returns-in-Err
@@ -24,7 +28,7 @@ returns-in-Err c =
       inl (
         c.in-Some-flags_numbered.flags,
         search rules,
-        inl (search rules, (Err c.in-Err.error, search rules, record { answers = search rules; kept = refl })),
+        inl (search rules, inl (c.in_default-refused_line.ensures, (Err c.in-Err.error, search rules, record { answers = search rules; kept = refl }))),
       ),
     )
 
@@ -41,5 +45,28 @@ returns-in-Ok-None c =
     inl (
       encoding_of c.in-Some.encoding,
       search rules,
-      inl (c.in-Some-flags_numbered.flags, search rules, inl (search rules, (Ok None, search rules, record { answers = search rules; kept = refl }))),
+      inl (
+        c.in-Some-flags_numbered.flags,
+        search rules,
+        inl (search rules, inl (c.in_default-refused_line.ensures, (Ok None, search rules, record { answers = search rules; kept = refl }))),
+      ),
+    )
+
+pub returns-in-Some-refused_line : goal.returns-in-Some-refused_line
+returns-in-Some-refused_line c =
+    inl (
+      encoding_of c.in-Some.encoding,
+      search rules,
+      inl (
+        c.in-Some-flags_numbered.flags,
+        search rules,
+        inl (
+          search rules,
+          inr (
+            c.in-Some-refused_line.number,
+            c.in-Some-refused_line.ensures,
+            record { answers = search rules; kept = refl },
+          ),
+        ),
+      ),
     )

@@ -1,25 +1,63 @@
-use Rattle.std.proofs.Common.{◌≡◌, rules, arith, inl, to_z, of_z, w32}
+use Rattle.std.proofs.Common.{◌≡◌, rules, refl, inl, inr, to_z, of_z, w32}
 use Rattle.properties_text.specs.Encoding.{encoding_of}
-use Rattle.properties_c.proofs.ItemsRead.{items-whole, items-stopped}
-use Rattle.properties_c.proofs.Slices.{slice-items}
+use Rattle.properties_c.proofs.GivenItems.{items-across, spans-across}
 use Rattle.properties_c.proofs.read.todrenval_items.Goals as goal
+
+pub returns-in-Some-refused_line : goal.returns-in-Some-refused_line
+returns-in-Some-refused_line c =
+    inl (
+      encoding_of c.in-Some.encoding,
+      search rules,
+      inl (
+        c.in-Some-asked_numbered.asked,
+        search rules,
+        inr (c.in-Some-refused_line.number, c.in-Some-refused_line.ensures, record { answers = search rules; kept = refl }),
+      ),
+    )
+
+pub returns-then-asked : goal.returns-then-asked
+returns-then-asked c =
+    let plain : to_z w32 (of_z w32 c.write_result.result) ≡ c.write_result.result = search rules in
+    let asked = c.in-Some-asked_numbered.asked in
+    rw plain (inl (
+      encoding_of c.in-Some.encoding,
+      search rules,
+      inl (
+        asked,
+        search rules,
+        inl (
+          c.in_default-refused_line.ensures,
+          spans-across asked (encoding_of c.in-Some.encoding) c.args.source.now c.spanned_items.result _ c.spanned_items.ensures c.if-asked.true c.write_result.ensures,
+        ),
+      ),
+    ))
 
 pub returns-in-Ok : goal.returns-in-Ok
 returns-in-Ok c =
-    let plain : to_z w32 (of_z w32 c.deliver_items.result) ≡ c.deliver_items.result = search rules in
+    let plain : to_z w32 (of_z w32 c.write_up_to.result) ≡ c.write_up_to.result = search rules in
+    let asked = c.in-Some-asked_numbered.asked in
     rw plain (inl (
       encoding_of c.in-Some.encoding,
       search rules,
-      items-whole c.in-Ok.lines.items c.deref.result.now c.deref.ensures.value (slice-items c.in-Ok.ensures.reads) c.deliver_items.ensures,
+      inl (
+        asked,
+        search rules,
+        inl (
+          c.in_default-refused_line.ensures,
+          inl (items-across asked (encoding_of c.in-Some.encoding) c.args.source.now c.deref.result.now c.in-Ok.items _ c.in-Ok.ensures c.deref.ensures.value
+              c.if-asked.false c.write_up_to.ensures),
+        ),
+      ),
     ))
 
-pub returns : goal.returns
-returns c =
-    let given = c.deliver_items-in_default-status_of in
-    let plain : to_z w32 (of_z w32 given.result) ≡ given.result = search rules in
-    rw plain (inl (
+pub returns-in-Err : goal.returns-in-Err
+returns-in-Err c =
+    inl (
       encoding_of c.in-Some.encoding,
       search rules,
-      items-stopped c.in-Err.stopped.lines.items c.deref-in_default-status_of.result.now c.in-Err.stopped.error c.status_of.result c.line_in-number.result
-          c.deref-in_default-status_of.ensures.value (omega arith) c.in-Err.ensures.reads (search rules) c.in_default-status_of.not-NoMemory (search rules) given.ensures,
-    ))
+      inl (
+        c.in-Some-asked_numbered.asked,
+        search rules,
+        inl (c.in_default-refused_line.ensures, inr (record { answers = search rules; kept = refl })),
+      ),
+    )

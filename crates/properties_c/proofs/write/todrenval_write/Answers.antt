@@ -1,8 +1,7 @@
-use Rattle.std.proofs.Common.{◌≡◌, map, refl, rules, inl, inr}
+use Rattle.std.proofs.Common.{◌≡◌, refl, rules, inl, inr}
+use Rattle.std.proofs.lemmas.List.{take_rest}
 use Rattle.std.specs.Prelude.{Ok, Err}
 use Rattle.std.specs.Str.{chars}
-use Rattle.java_properties.specs.Calls.{calls_in}
-use Rattle.java_properties.specs.PropertiesWriter.{call_of}
 use Rattle.properties_text.specs.Encoding.{encoding_of}
 use Rattle.properties_c.specs.Packed.{lines}
 use Rattle.properties_c.specs.Writing.{settings_for}
@@ -35,26 +34,29 @@ returns-in-Err c =
       inl (c.in-Some-flags_numbered.flags, search rules, inl (search rules, inl (search rules, inr refused))),
     )
 
-pub returns-in-Ok-written : goal.returns-in-Ok-written
-returns-in-Ok-written c =
+pub returns-in-Ok-written_going_on : goal.returns-in-Ok-written_going_on
+returns-in-Ok-written_going_on c =
     let found = c.in-Ok.ensures in
     let e = encoding_of c.in-Some.encoding in
     let f = c.in-Some-flags_numbered.flags in
     let s = settings_for f (chars c.args.prefix.now) (chars c.args.separator.now) in
     let asked = settings_for f (chars c.in-Some-text_of.prefix.now) (chars c.in-Some-text_of-2.separator.now) in
     let settled : asked ≡ s = rw (c.in-Some-text_of.ensures.0, c.in-Some-text_of-2.ensures.0) refl in
-    let same : calls_in c.deref.result.now ≡ map call_of found.0 = rw c.deref.ensures.value found.2 in
-    let crossed = lines-crossed e asked s found.0 (calls_in c.deref.result.now) (Ok c.in-Ok-written.bytes) _ settled same c.in-Ok-written.ensures (search rules) in
+    let bytes = c.in-Ok-written_going_on.bytes in
+    let front = c.in-Ok-written_going_on.front in
+    let given = rw (take_rest c.deref.result.now front) at c.write_bytes.ensures in
+    let crossed = lines-crossed e asked s f.goes_on found.0 _ (Ok (bytes, front)) _ settled found.2 c.in-Ok-written_going_on.ensures (search rules) in
     inl (e, search rules, inl (f, search rules, inl (search rules, inl (search rules, inl (found.0, found.1, crossed)))))
 
-pub returns : goal.returns
-returns c =
+pub returns-in-Err-written_going_on : goal.returns-in-Err-written_going_on
+returns-in-Err-written_going_on c =
     let found = c.in-Ok.ensures in
     let e = encoding_of c.in-Some.encoding in
     let f = c.in-Some-flags_numbered.flags in
     let s = settings_for f (chars c.args.prefix.now) (chars c.args.separator.now) in
     let asked = settings_for f (chars c.in-Some-text_of.prefix.now) (chars c.in-Some-text_of-2.separator.now) in
     let settled : asked ≡ s = rw (c.in-Some-text_of.ensures.0, c.in-Some-text_of-2.ensures.0) refl in
-    let same : calls_in c.deref.result.now ≡ map call_of found.0 = rw c.deref.ensures.value found.2 in
-    let crossed = lines-crossed e asked s found.0 (calls_in c.deref.result.now) (Err c.in-Err-written.status) _ settled same c.in-Err-written.ensures (record { answers = search rules; kept = refl }) in
+    let refused = c.in-Err-written_going_on in
+    let crossed = lines-crossed e asked s f.goes_on found.0 _ (Err refused.status) _ settled found.2 refused.ensures
+    (record { answers = search rules; kept = refl }) in
     inl (e, search rules, inl (f, search rules, inl (search rules, inl (search rules, inl (found.0, found.1, crossed)))))

@@ -8,3 +8,6 @@ returns-in-Zero c = rw c.in-Zero.is c.body_with_zeros.ensures
 
 pub returns-in-NonAscii : goal.returns-in-NonAscii
 returns-in-NonAscii c = rw c.in-NonAscii.is c.whole_body.ensures
+
+pub returns-in-Byte : goal.returns-in-Byte
+returns-in-Byte c = rw c.in-Byte.is c.body_in_windows_1252.ensures

@@ -10,7 +10,7 @@ pub returns-in-Err-NotEdited-clause-absent : goal.returns-in-Err-NotEdited-claus
 returns-in-Err-NotEdited-clause-absent g c = λ one.
     rw (← c.as_str-path.ensures.value)
     (absent-status _ _ _ _ _ _ c.in-Err-NotEdited.failure c.status.result
-    (rw c.in-Err-NotEdited.field-0-is at c.in-Err-NotEdited.ensures) c.status.ensures c.print_failure.ensures.prints one)
+    (rw c.in-Err-NotEdited.field-0-is at c.in-Err-NotEdited.ensures.fails) c.status.ensures c.print_failure.ensures.prints one)
 
 pub returns-in-Err-NotEdited-clause-prints : goal.returns-in-Err-NotEdited-clause-prints
 returns-in-Err-NotEdited-clause-prints g c = λ two.

@@ -1,0 +1,12 @@
+use Rattle.properties_c.proofs.Texts.{text-bytes, comment-record, pair-record}
+use Rattle.properties_c.proofs.items.item_record.Goals as goal
+
+pub returns-in-Comment : goal.returns-in-Comment
+returns-in-Comment c =
+    rw c.in-Comment.is (comment-record _ _ _ _ _ c.as_slice.ensures (text-bytes _ _ _ c.as_bytes.ensures.value c.as_str.utf8 c.as_str.ensures.value))
+
+pub returns-in-KVPair : goal.returns-in-KVPair
+returns-in-KVPair c =
+    rw c.in-KVPair.is (pair-record _ _ _ _ _ _
+    (text-bytes _ _ _ c.as_bytes-in-KVPair.ensures.value c.as_str-in-KVPair.utf8 c.as_str-in-KVPair.ensures.value)
+    (text-bytes _ _ _ c.as_bytes-in-KVPair-2.ensures.value c.as_str-in-KVPair-2.utf8 c.as_str-in-KVPair-2.ensures.value))

@@ -1,0 +1,15 @@
+use Rattle.std.proofs.Common.{◌≡◌}
+use Rattle.std.specs.Prelude.{None}
+use Rattle.properties_text.specs.Encoding.{encoding_of}
+use Rattle.properties_lines.specs.LineReader.{lines_left}
+use Rattle.properties_c.proofs.GivenItems.{HasPacked}
+use Rattle.properties_c.proofs.items.items_in.Given as goal
+
+abbrev pub invariant-loop-number : goal.invariant-loop-number
+invariant-loop-number l = record {
+  packed : HasPacked l.fn.asked (encoding_of l.fn.encoding) l.fn.source l.bytes.items l.lines.at.state l.input;
+  error : l.lines.error ≡ None;
+}
+
+abbrev pub decreases-loop-number : goal.decreases-loop-number
+decreases-loop-number l = lines_left l.lines.at.state
