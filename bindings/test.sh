@@ -1,5 +1,5 @@
 #!/usr/bin/env bash
-# Tests the library for programs in C and in Python, outside the gate. It needs cc, c++, python3 and, where it isn't given a
+# Tests the library for programs in C, Python and Rust, outside the gate. It needs cc, c++, python3 and, where it isn't given a
 # folder into which build.sh has built, what build.sh needs. With valgrind it also looks for reads outside of the inputs.
 #
 #     bindings/test.sh [FOLDER]
@@ -162,7 +162,7 @@ other="import platform; platform.machine = lambda: 'i686'; $use"
 env PYTHONPATH="$built" PYTHONDONTWRITEBYTECODE=1 python3 -c "$other" >log 2>&1
 grep -q '^ImportError: .* is for x86-64, and this machine is i686\.$' log
 result $? 'the module on another processor'
-gives 0 "{'a': '1'}\n" '' env TODRENVAL_LIBRARY="$built/libtodrenval.so.1" PYTHONPATH="$built" \
+gives 0 "{'a': '1'}\n" '' env TODRENVAL_LIBRARY="$built/libtodrenval.so.2" PYTHONPATH="$built" \
     PYTHONDONTWRITEBYTECODE=1 python3 -c "$other"
 printf 'unsigned todrenval_version(void) { return %s; }\n' "$(sed -n 's/^#define TODRENVAL_VERSION //p' "$built/todrenval.h")" |
     cc -shared -fPIC -x c - -o older.so
@@ -171,7 +171,7 @@ grep -q '^ImportError: ./older.so is older than this module' log
 result $? 'the module with an older shared object'
 for python in python3 python3.{8..15}; do
     "$python" -c '' 2>/dev/null || continue
-    counts "the tables and the module, in $("$python" --version)" env TODRENVAL_LIBRARY="$built/libtodrenval.so.1" \
+    counts "the tables and the module, in $("$python" --version)" env TODRENVAL_LIBRARY="$built/libtodrenval.so.2" \
         PYTHONDONTWRITEBYTECODE=1 "$python" "$top/bindings/python/test_rows.py"
     grep -E '^ *[0-9]+ of ' "$work/log" >rows
 done
@@ -180,6 +180,37 @@ if python3 -m mypy --version >/dev/null 2>&1; then
     works 'the types, by mypy' python3 -m mypy --strict --cache-dir=/dev/null "$top/bindings/python/todrenval"
 else
     echo 'There is no mypy, so types are not checked.'
+fi
+
+# Rust: the crate over the archive, in a folder of its own for what cargo builds.
+if command -v cargo >/dev/null; then
+    export TODRENVAL_LIB_DIR=$built CARGO_TARGET_DIR=$work/target
+    rust=$top/bindings/rust
+    works 'the crate, its tests and examples' cargo test --offline --manifest-path "$rust/Cargo.toml"
+    passed=$((passed + $(grep -c ' \.\.\. ok$' log)))
+    ! cargo fmt --version >/dev/null 2>&1 || works 'the layout of the crate' cargo fmt --check --manifest-path "$rust/Cargo.toml"
+    ! cargo clippy --version >/dev/null 2>&1 ||
+        works 'the crate, by clippy' cargo clippy -q --offline --all-targets --manifest-path "$rust/Cargo.toml" -- -D warnings
+    works 'the pages of the crate' env RUSTDOCFLAGS='-D warnings' cargo doc -q --offline --manifest-path "$rust/Cargo.toml"
+    if command -v valgrind >/dev/null; then
+        # The runner of tests itself leaves memory that is still reachable, or may be.
+        for test in reading writing; do
+            works "the crate under valgrind, $test" env TODRENVAL_FEW=1 valgrind -q --error-exitcode=9 --leak-check=full \
+                --show-leak-kinds=definite --errors-for-leak-kinds=definite \
+                "$(find target/debug/deps -name "$test-*" -type f -perm -u+x | head -n 1)" --test-threads 1
+        done
+    fi
+    # The program of docs/RUST.md prints what the page says.
+    block() { sed -n "/^\`\`\`$1\$/,/^\`\`\`\$/{//!p}" "$top/docs/RUST.md"; }
+    mkdir -p prog/src
+    printf '[package]\nname = "prog"\nversion = "0.1.0"\nedition = "2021"\n\n[dependencies]\ntodrenval = { path = "%s" }\n' "$rust" \
+        >prog/Cargo.toml
+    block rust >prog/src/main.rs
+    cargo -q run --offline --manifest-path prog/Cargo.toml >printed 2>&1
+    block stdout | diff - printed >log
+    result $? 'the program of docs/RUST.md'
+else
+    echo 'There is no cargo, so the crate is not tested.'
 fi
 
 echo "$passed passed, $failed failed"

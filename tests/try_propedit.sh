@@ -85,7 +85,7 @@ gives 0 "$(cat ../output)\n" ''
 cp ../output ../usage
 for words in 'Usage: propedit COMMAND [OPTION ..] [ARGUMENT ..]' '  get KEY ..  ' '  list [PREFIX]  ' '  check [FILE ..]  ' \
     '  set KEY VALUE  ' '  remove KEY  ' '  convert ENCODING  ' '  help [COMMAND]  ' '-f, --file FILE' '-i, --in-place FILE' '--create' '-e, --encoding NAME' \
-    '-d, --default VALUE' '-z, --null' '-v, --values' '-a, --ascii' '-x, --existing' '-q, --quiet' '-r, --readable' '-h, --help' '-V, --version' 'utf-8 (the default)' \
+    '-d, --default VALUE' '-z, --null' '-v, --values' '-a, --ascii' '-x, --existing' '-q, --quiet' '-v, --verbose' '-r, --readable' '-h, --help' '-V, --version' 'utf-8 (default)' iso-8859-1 \
     'Options come before or after the command, but before its first argument' "comes after '--'" 'standard input' \
     'Status: 0'; do
     grep -qF -- "$words" ../usage || fail "the usage lacks: $words"
@@ -95,9 +95,9 @@ is "$(awk 'length > 80' ../usage)" ''
 run -h
 gives 0 "$(cat ../usage)\n" ''
 run --version
-gives 0 'propedit 1.15.0\n' ''
+gives 0 'propedit 1.16.0\n' ''
 run -V
-gives 0 'propedit 1.15.0\n' ''
+gives 0 'propedit 1.16.0\n' ''
 run -f nowhere --help get
 gives 0 "$(cat ../usage)\n" ''
 run help
@@ -118,8 +118,8 @@ done <<'end'
 get file encoding default null
 list file encoding null values
 check file encoding ascii quiet
-set file in-place create encoding ascii existing
-remove file in-place create encoding ascii existing
+set file in-place create encoding ascii existing verbose
+remove file in-place create encoding ascii existing verbose
 convert file in-place encoding readable
 end
 run help help
@@ -128,7 +128,7 @@ is "$(head -n 3 ../output)" $'Prints the commands, or the page of one of them\n\
 run help remove
 is "$(tail -n 2 ../output)" $'Status: 0 done; 1 no pair has a KEY, and -x is given; 2 an error.\nThe option -a requires a \'set\'.'
 run get -V
-gives 0 'propedit 1.15.0\n' ''
+gives 0 'propedit 1.16.0\n' ''
 
 # Each option, short and long.
 
@@ -429,6 +429,21 @@ holds app.properties '# ports\r\nport : 8080\r\n\r\n  host = a\r\n! end'
 run remove --in-place=app.properties port set host b
 gives 0 '' ''
 holds app.properties '# ports\r\n\r\n  host = b\r\n! end'
+# With -v, a line says what changed.
+run remove -v -i app.properties host set name a set mode b set port 1
+gives 0 '' 'app.properties: 0 pairs changed, 3 added, 1 removed\n'
+run -v set -i app.properties name c set mode b set port 2
+gives 0 '' 'app.properties: 2 pairs changed, 0 added, 0 removed\n'
+run set --verbose -i app.properties name c
+gives 0 '' 'app.properties: unchanged\n'
+run remove -vi app.properties name remove mode remove port set host b
+gives 0 '' 'app.properties: 0 pairs changed, 1 added, 3 removed\n'
+run set -vi $'b\n.properties' --create a 1
+gives 0 '' 'b\\u{a}.properties: 0 pairs changed, 1 added, 0 removed\n'
+rm $'b\n.properties'
+printf '# ports\r\n\r\n  host = b\r\n! end' >app.properties
+run set -xv -i app.properties prot 1
+gives 1 '' "propedit: app.properties: no pair has the key 'prot'\n"
 # Options after the command have their effect on files too.
 run set -x -i app.properties prot 1
 gives 1 '' "propedit: app.properties: no pair has the key 'prot'\n"
@@ -827,9 +842,10 @@ all='Usage: propedit get [OPTION ..] KEY ..
 shape() {
     echo "Usage: $(grep -o "propedit $1 .*" <<<"$all")"
 }
-is_refused "'convert' requires an ENCODING: utf-8, windows-1252 or ascii" "$(shape convert)" convert
-is_refused "cannot convert to 'utf-16le'; use utf-8, windows-1252 or ascii" "$(shape convert)" convert utf-16le
-is_refused "cannot convert to 'latin1'; for programs that read ISO 8859-1, use ascii" "$(shape convert)" convert latin1
+targets='utf-8, iso-8859-1, windows-1252 or ascii'
+is_refused "'convert' requires an ENCODING: $targets" "$(shape convert)" convert
+is_refused "cannot convert to 'utf-16le'; use $targets" "$(shape convert)" convert utf-16le
+is_refused "cannot convert to 'latin1'; did you mean 'iso-8859-1'?" "$(shape convert)" convert latin1
 is_refused "cannot convert to 'UTF_8'; did you mean 'utf-8'?" "$(shape convert)" convert UTF_8
 is_refused "cannot convert to 'us-ascii'; did you mean 'ascii'?" "$(shape convert)" convert us-ascii
 for option in -a '-d VALUE' -z --create; do
@@ -953,7 +969,7 @@ is_refused "the option '--null' takes no value" "$all" --null=1 list
 is_refused "unknown option in '-u'" "$all" -u get a
 is_refused "unknown option in '-zu'" "$all" -zu list
 is_refused "unknown option '--fil'; did you mean '--file'?" "$all" --fil app.properties get a
-labels='use utf-8, windows-1252, utf-16le or utf-16be'
+labels='use utf-8, iso-8859-1, windows-1252, utf-16le or utf-16be'
 is_refused "unknown encoding 'latin2'; $labels" "$(shape get)" -e latin2 get a
 is_refused "unknown encoding 'latin-1'; did you mean 'latin1'?" "$(shape get)" -e latin-1 -f app.properties get port
 is_refused "unknown encoding 'Latin_1'; did you mean 'latin1'?" "$(shape list)" -e Latin_1 list
@@ -980,6 +996,9 @@ is_refused "the option '-f FILE' cannot be used with '-i FILE'" "$(shape set)" -
 is_refused "the option '-f FILE' cannot be used with '-i FILE'" "$(shape set)" -i a -f a set a 1
 is_refused "the option '-f FILE' cannot be used with 'check FILE ..'" "$(shape check)" \
     -f app.properties check app.properties
+for words in 'set a 1' 'remove a'; do
+    is_refused "the option '-v' requires '-i FILE'" "$(shape ${words%% *})" -v $words
+done
 for words in 'get a' list; do
     is_refused "the option '-a' cannot be used with '${words%% *}'" "$(shape ${words%% *})" -a $words
 done

@@ -1,7 +1,7 @@
 #!/usr/bin/env python3
 """Runs the rows of the tables of crates/properties_vectors through the module todrenval, and tries what no row says.
 
-    TODRENVAL_LIBRARY=FOLDER/libtodrenval.so.1 bindings/python/test_rows.py [LENGTH]
+    TODRENVAL_LIBRARY=FOLDER/libtodrenval.so.2 bindings/python/test_rows.py [LENGTH]
 
 It prints what doesn't hold, how many rows are left out and why, and last how many checks passed and failed. LENGTH is how
 long the files are that are made of each choice of a few characters: 6 if it isn't given; 7 takes half a minute more.
@@ -26,6 +26,7 @@ import struct
 import sys
 import tempfile
 import threading
+import types
 import typing
 from copy import copy as copy_of, deepcopy
 
@@ -403,6 +404,49 @@ def loaded(load, source, key, encoding):
         return came_error(error)
 
 
+LINE_ENDING = re.compile(rb"\r\n|\r|\n")
+
+
+def shown(data, group):
+    """A group as a row shows it: its kind, lines, key and value, seven places, and what is wrong."""
+    key_end, end = group.spans.key_end, group.spans.end
+    kind, texts = "blank", ["", ""]
+    if isinstance(group.item, Pair):
+        kind, texts = "pair", [group.item.key, group.item.value]
+    elif isinstance(group.item, Comment):
+        # What comes before the sign may be a joined line.
+        kind, texts = "comment", [data[key_end - 1 : key_end].decode(), group.item.text]
+    wrong = []
+    if group.flaw:
+        wrong.append((KINDS[group.flaw.status], group.flaw.start, group.flaw.line, group.flaw.column))
+    if group.ill_formed_line:
+        wrong.append(("ill-formed", group.ill_formed_line))
+    last = group.line + len(LINE_ENDING.findall(data[group.spans.start : end]))
+    return (kind, group.line, last, *texts, *group.spans, *wrong)
+
+
+def view(encoding, left, right):
+    data = input_of(left)
+    wanted = []
+    for part in split(right):
+        kind, _, rest = part.partition(" ")
+        if rest == "":
+            wanted += [] if kind == "nothing" else [("error", kind, None)]
+            continue
+        first, _, last = rest.partition(" ")[0].partition("-")
+        texts = [as_bytes(text).decode() for text in QUOTED.findall(rest)]
+        words = rest[rest.rindex('"') + 1 :].split()
+        told = " ".join(words[7:])
+        wrong = [(how, int(at), int(line), int(column)) for how, at, line, column in re.findall(r"(\w+) at (\d+) in (\d+):(\d+)", told)]
+        wrong += [("ill-formed", int(line)) for line in re.findall(r"ill-formed (\d+)", told)]
+        wanted.append((kind, int(first), int(last or first), *texts, *map(int, words[:7]), *wrong))
+    try:
+        came = [shown(data, group) for group in todrenval.groups(data, encoding=encoding, errors="replace", raw=True)]
+    except PropertiesError as error:
+        came = [came_error(error)]
+    yield came, wanted
+
+
 def left_out(why):
     def leave(*_):
         raise LeftOut(why)
@@ -423,6 +467,7 @@ ROWS = {
     "edit-pairs": edit_pairs,
     "get-pairs": get_pairs,
     "convert": convert,
+    "view": view,
     "write-print": left_out("how errors of a writer print"),
     "compare": left_out("the order of lines"),
     "label": left_out("labels of the WHATWG Encoding Standard"),
@@ -501,6 +546,7 @@ def try_arguments(count):
     calls = [
         (todrenval.loads, []),
         (todrenval.items, []),
+        (todrenval.groups, []),
         (todrenval.findings, []),
         (todrenval.get, ["a"]),
         (todrenval.set_value, ["a", "b"]),
@@ -521,9 +567,9 @@ def try_arguments(count):
         for data, encoding, line, decoded in NOT_TEXT:
             error = raised(call, data, *more, encoding=encoding)
             place = f"{call.__name__} of {data!r}: {error!r}"
-            count.check(type(error) is PropertiesError and (error.status, error.line) == (Status.NOT_UTF_8, line), place)
+            count.check(type(error) is PropertiesError and (error.status, error.line) == (Status.NOT_TEXT, line), place)
             count.check(error.reason == f"Not text of {decoded}.", place)
-            unsupported = decoded != "utf-8" and call.__name__ in ("set_value", "set_key", "remove_key", "edit")
+            unsupported = decoded != "utf-8" and call.__name__ in ("set_value", "set_key", "remove_key", "edit", "groups")
             error = raised(call, data, *more, encoding=encoding, errors="replace")
             count.check(error is None or unsupported and error.status == Status.UNSUPPORTED, f"{place}, replaced")
     for label, name in (("US-ASCII", "ascii"), ("windows-1252", "cp1252"), ("UTF8", "utf-8")):
@@ -546,8 +592,10 @@ def try_arguments(count):
         (todrenval.loads, ["a=1"], "a file is bytes, not str; encode it, or give a path to load or open"),
         (todrenval.loads, [3], "a file is bytes, not int; load and open take a path"),
         (todrenval.dumps, [{"port": 8080}], "the value of 'port' has to be a str, not int"),
-        (todrenval.dumps, [{8080: "port"}], "a key, a value or a comment has to be a str, not int"),
-        (todrenval.dumps, [[Comment(3)]], "a key, a value or a comment has to be a str, not int"),
+        (todrenval.dumps, [{8080: "port"}], "the key 8080 has to be a str, not int"),
+        (todrenval.dumps, [{"": None}], "the value of '' has to be a str, not NoneType"),
+        (todrenval.dumps, [[Comment(3)]], "a comment has to be a str, not int"),
+        (todrenval.remove_key, [b"", None], "the key None has to be a str, not NoneType"),
         (todrenval.edit, [b"", {"port": 8080}], "the value of 'port' has to be a str, not int"),
         (todrenval.set_value, [b"", "port", 8080], "the value of 'port' has to be a str, not int"),
         (todrenval.set_key, [b"", "port", 8080], "the value of 'port' has to be a str, not int"),
@@ -567,13 +615,17 @@ def try_arguments(count):
     count.check(todrenval.dumps([("a", "b"), Pair("c", "d", 7), Comment("e")]) == b"a=b\nc=d\n# e\n", "dumps of lines")
     count.check(isinstance(raised(todrenval.dumps, {}, encoding="koi8-r"), LookupError), "dumps in koi8-r")
     document = todrenval.Document(b"a=1")
-    for call, more in (
-        (todrenval.get, [b"", "\ud83d"]), (todrenval.set_value, [b"", "a", "\ud83d"]), (todrenval.set_key, [b"", "\udc1e", "a"]),
-        (todrenval.remove_key, [b"", "\ud83d"]), (todrenval.edit, [b"", {"a": "\ud83d"}]), (todrenval.dumps, [{"a": "\ud83d"}]),
-        (todrenval.dumps, [[Comment("\ud83d")]]), (document.__setitem__, ["a", "\ud83d"]),
+    key, value = r"The key '\ud83d'", "The value of 'a'"
+    for call, more, named in (
+        (todrenval.get, [b"", "\ud83d"], key), (todrenval.set_value, [b"", "a", "\ud83d"], value),
+        (todrenval.set_key, [b"", "\ud83d", "a"], key), (todrenval.remove_key, [b"", "\ud83d"], key),
+        (todrenval.edit, [b"", {"b": "c", "a": "\udc1e"}], value), (todrenval.dumps, [{"a": "\ud83d"}], value),
+        (todrenval.dumps, [[Comment("\ud83d")]], "A comment"), (document.__setitem__, ["a", "\ud83d"], value),
+        (document.update, [{"a": "\ud83d"}], value),
     ):
         error = raised(call, *more)
         count.check(type(error) is PropertiesError and (error.status, error.line) == (Status.NOT_UTF_8, None), f"a surrogate: {error!r}")
+        count.check(str(error) == f"{named} has a surrogate without its partner.", f"a surrogate: {error!r}")
     count.check(bytes(document) == b"a=1" and dict(document) == {"a": "1"}, "a document after an error")
 
 
@@ -771,6 +823,90 @@ def try_documents(count):
             count.check(str(pickle.loads(pickle.dumps(error))) == str(error), "an error with a path that is pickled")
 
 
+def try_operators(count):
+    """What a document has of a dict, and the lines of its keys."""
+    source = b"# one\na : 1\n\nb : \\\n 2\nc 3\na : 4\n"
+    document = todrenval.Document(source, path="/app.properties")
+    count.check(list(reversed(document)) == ["c", "b", "a"], f"reversed: {list(reversed(document))}")
+    count.check([document.line(key) for key in document] == [7, 4, 6], "lines")
+    count.check(raised(document.line, "none").args == ("none",), "the line of a key that isn't there")
+    document["b"] = "5"
+    count.check([document.line(key) for key in document] == [6, 4, 5], "lines after an edit")
+    del document["a"]
+    document["d"] = "6"
+    count.check([document.line(key) for key in document] == [3, 4, 5], "lines after other edits")
+    count.check(raised(document.line, "a").args == ("a",), "the line of a key that was deleted")
+    copied = document.copy()
+    copied["c"] = "7"
+    count.check((copied.line("c"), document.line("c")) == (4, 4), "lines of a copy")
+    wide = todrenval.Document("\na=1\n# C:\\users\nb=2".encode("utf-16-le"), encoding="utf-16-le")
+    count.check((wide.line("a"), wide.line("b")) == (2, 4), "lines in UTF-16")
+    document = todrenval.Document(source, path="/app.properties")
+    for other in ({"b": "5", "d": "6"}, todrenval.Document(b"b=5\nd=6"), types.MappingProxyType({"b": "5", "d": "6"})):
+        made = document | other
+        count.check(type(made) is todrenval.Document and made.path == document.path, f"a document | {other!r}")
+        count.check(bytes(made) == b"# one\na : 1\n\nb : 5\nc 3\na : 4\nd : 6\n", f"a document | {other!r}: {made!r}")
+    count.check(bytes(document) == source and dict(document) == {"a": "4", "b": "2", "c": "3"}, "and it stays as it is")
+    for other in ({"b": "5", "d": "6"}, types.MappingProxyType({"b": "5", "d": "6"})):
+        made = other | document
+        count.check(type(made) is dict and list(made.items()) == [("b", "2"), ("d", "6"), ("a", "4"), ("c", "3")], f"{made!r}")
+    same = document
+    same |= {"b": "5"}
+    same |= [("d", "6"), ("c", "7")]
+    count.check(same is document and bytes(document) == b"# one\na : 1\n\nb : 5\nc 7\na : 4\nd : 6\n", f"|=: {document!r}")
+    for wrong in (3, None, [("a", "1")], "ab"):
+        count.check(type(raised(lambda: document | wrong)) is TypeError, f"a document | {wrong!r}")
+        count.check(type(raised(lambda: wrong | document)) is TypeError, f"{wrong!r} | a document")
+    error = raised(lambda: document | {"port": 80})
+    count.check(type(error) is TypeError and str(error) == "the value of 'port' has to be a str, not int", repr(error))
+
+
+def try_created(count):
+    """A file that isn't there is made, if it is to be and has something in it."""
+    with tempfile.TemporaryDirectory() as folder:
+        path = pathlib.Path(folder) / "app.properties"
+        for named in ({}, {"create": False}):
+            error = raised(todrenval.open, path, **named)
+            count.check(type(error) is FileNotFoundError and error.filename == str(path), f"open of none: {error!r}")
+        with todrenval.open(path, create=True) as settings:
+            count.check(len(settings) == 0 and bytes(settings) == b"", "a file that isn't there is empty")
+            settings["a"] = "1"
+            del settings["a"]
+        count.check(not path.exists(), "it isn't made if nothing is in it")
+        with todrenval.open(path, create=True) as settings:
+            settings["a"] = "1"
+        count.check(path.read_bytes() == b"a=1\n" and os.listdir(folder) == ["app.properties"], "it is made")
+        with todrenval.open(path, create=True) as settings:
+            settings["a"] = "2"
+            settings.save()
+            settings["a"] = "3"
+        count.check(path.read_bytes() == b"a=3\n", "one that is there is opened")
+        path.unlink()
+        early, late = todrenval.open(path, create=True), todrenval.open(path, create=True)
+        early["a"] = late["b"] = "1"
+        late.save()
+        error = raised(early.save)
+        count.check(type(error) is PropertiesError and error.status is None and path.read_bytes() == b"b=1\n", f"made meanwhile: {error!r}")
+        late["b"] = "2"
+        path.unlink()
+        count.check(type(raised(late.save)) is FileNotFoundError and not path.exists(), "one that was made and is gone")
+        early.save()
+        count.check(path.read_bytes() == b"a=1\n", "none is there again")
+        link = path.with_name("link")
+        link.symlink_to("made.properties")
+        with todrenval.open(link, create=True) as settings:
+            settings["a"] = "1"
+        count.check(link.is_symlink() and path.with_name("made.properties").read_bytes() == b"a=1\n", "where a link leads")
+        for wrong in (os.path.join(folder, "none", "a"), os.path.join(path, "a"), folder, "/dev/null"):
+            error = raised(todrenval.open, wrong, create=True)
+            count.check(isinstance(error, OSError) and error.filename == wrong, f"open of {wrong}: {error!r}")
+        path.write_bytes(b"")
+        before = path.stat().st_ino
+        with todrenval.open(path, create=True):
+            pass
+        count.check(path.stat().st_ino == before, "an empty file that nobody changed isn't written")
+
+
 def in_threads(*calls):
     """Makes each call in a thread of its own, and returns what they raised."""
     errors = []
@@ -846,10 +982,14 @@ def try_shared_documents(count):
 def try_zeros(count):
     """U+0000 in UTF-8 without a byte order mark is refused, unless what isn't text is replaced."""
     wide = "a=1\nb=2\n".encode("utf-16-le")
-    for data, line in ((wide, 1), (b"a=1\r\nb=\0", 2), (b"\xff=1\na\0", 2)):
-        for call, more in ((todrenval.loads, []), (todrenval.findings, []), (todrenval.set_value, ["a", "3"]), (todrenval.Document, [])):
+    calls = [
+        (todrenval.loads, []), (todrenval.items, []), (todrenval.groups, []), (todrenval.findings, []), (todrenval.get, ["a"]),
+        (todrenval.set_value, ["a", "3"]), (todrenval.edit, [{}]), (todrenval.convert, ["ascii"]), (todrenval.Document, []),
+    ]
+    for data, line in ((wide, 1), (b"a=1\r\nb=\0", 2), (b"\xff=1\na\0", 2), (b"a=1\n\0\n\xff", 2)):
+        for call, more in calls:
             error = raised(call, data, *more)
-            count.check(type(error) is PropertiesError and (error.status, error.line) == (Status.NOT_UTF_8, line), f"{data!r}: {error!r}")
+            count.check(type(error) is PropertiesError and (error.status, error.line) == (Status.NOT_TEXT, line), f"{data!r}: {error!r}")
             count.check(error.reason == "U+0000. If this is UTF-16, give that as the encoding.", repr(error))
             count.check(raised(call, data, *more, errors="replace") is None, f"{data!r}, replaced")
     for data, named in ((b"\xef\xbb\xbfa=\0", {}), (b"a=\0", {"encoding": "cp1252"}), (b"a=\\u0000", {})):
@@ -892,7 +1032,7 @@ def try_errors(count):
         error = raised(todrenval.dumps, {"": "a"}, **settings)
         count.check(type(error) is PropertiesError and error.status == status and error.reason == todrenval._reason(status), repr(error))
     error = raised(todrenval.set_key, b"", "a", "b", encoding="utf-16")
-    count.check(type(error) is PropertiesError and error.line is None and str(error) == "Encoding can't be edited.", repr(error))
+    count.check(type(error) is PropertiesError and error.line is None and str(error) == "The call doesn't take this encoding.", repr(error))
 
 
 def try_lists(count):
@@ -901,6 +1041,8 @@ def try_lists(count):
     edits = [todrenval._edit_record(each) for each in (SetKey("a", "b"), SetValue("a", "b"), RemoveKey("a"))]
     calls = [("todrenval_write", [0, 0, b"", b""], packed) for packed in edits + [item + edits[0]]]
     calls += [("todrenval_edit", [b"a=1", 0, 0], packed) for packed in (item, edits[0] + item)]
+    spanned = todrenval._result("todrenval_items", 100, b"a=1", 0, todrenval._SPANS)
+    calls += [("todrenval_write", [0, 0, b"", b""], spanned), ("todrenval_edit", [b"a=1", 0, 0], spanned)]
     for name, more, packed in calls:
         arguments = [packed, *more] if name == "todrenval_write" else [*more, packed]
         count.check(todrenval._answer(name, 100, *arguments) == (Status.BAD_LIST, b"", None), f"{name} of {packed!r}")
@@ -911,9 +1053,14 @@ class Newer:
 
     todrenval_status_text = staticmethod(todrenval._LIBRARY.todrenval_status_text)
 
+    todrenval_get = staticmethod(todrenval._LIBRARY.todrenval_get)
+
     def __init__(self, status, bytes_given):
         self.status = status
         self.given = bytes_given
+
+    def todrenval_items(self, source, source_length, encoding, flags, *out):
+        return self.todrenval_findings(source, source_length, encoding, *out)
 
     def todrenval_findings(self, source, source_length, encoding, out, room, length, line):
         length._obj.value = len(self.given)
@@ -932,24 +1079,33 @@ def try_newer(count):
         todrenval._LIBRARY = Newer(0, struct.pack("<4Q", 4, 3, 1, 1) + b"a")
         found = todrenval.findings(b"")
         count.check(found == [(3, 4, None, None, False)] and found[0].reason == "Unknown kind of finding.", repr(found))
+        todrenval._LIBRARY = Newer(0, struct.pack("<16Q", 17, 1, 1, 1, 0, 0, 1, 2, 3, 3, 3, 99, 2, 1, 3, 0) + b"ab")
+        found = todrenval.groups(b"a" * 99)
+        count.check(found == [(Pair("a", "b", 1), 1, (0, 0, 1, 2, 3, 3, 3), (99, 2, 1, 3), None)], repr(found))
+        count.check(found[0].flaw.reason == "Unknown status.", repr(found))
     finally:
         todrenval._LIBRARY = library
 
 
 def try_room(count):
-    """No source needs more room for its items than docs/C.md says. It is most if each other byte is a line ending."""
-    most = {}
-    for encoding in ("cp1252", "utf-8", "utf-16-le", "utf-16-be"):
-        number = todrenval._number(encoding)
-        for size in range(6):
-            for pieces in itertools.product((b"a", b"=", b"#", b"\\", b" ", b"\n", b"\r", b"\0", b"\x80", b"\xff"), repeat=size):
-                source = b"".join(pieces)
-                length, line = ctypes.c_size_t(), ctypes.c_size_t()
-                arguments = (source, size, number, b"", 0, ctypes.byref(length), ctypes.byref(line))
-                todrenval._LIBRARY.todrenval_items(*arguments)
-                most[size] = max(most.get(size, 0), length.value)
-    count.check(most == {size: 35 * ((size + 1) // 2) + (size % 2 == 0 and size > 0) * 3 for size in range(6)}, f"room: {most}")
-    count.check(all(most[size] <= 18 * size + 18 for size in most), f"room: {most}")
+    """No source needs more room for its items than docs/C.md says. It is most if each other byte is a line ending, or, with
+    spans, each byte."""
+    for flags, wanted, each in (
+        (todrenval._READ_COMMENTS, {size: 35 * ((size + 1) // 2) + (size % 2 == 0 and size > 0) * 3 for size in range(6)}, 18),
+        (todrenval._SPANS, {size: 128 * size + (size > 0) * 3 for size in range(6)}, 128),
+    ):
+        most = {}
+        for encoding in ("cp1252", "utf-8", "utf-16-le", "utf-16-be"):
+            number = todrenval._number(encoding)
+            for size in range(6):
+                for pieces in itertools.product((b"a", b"=", b"#", b"\\", b" ", b"\n", b"\r", b"\0", b"\x80", b"\xff"), repeat=size):
+                    source = b"".join(pieces)
+                    length, line = ctypes.c_size_t(), ctypes.c_size_t()
+                    arguments = (source, size, number, flags, b"", 0, ctypes.byref(length), ctypes.byref(line))
+                    todrenval._LIBRARY.todrenval_items(*arguments)
+                    most[size] = max(most.get(size, 0), length.value)
+        count.check(most == wanted, f"room with the flags {flags}: {most}")
+        count.check(all(most[size] <= each * size + each for size in most), f"room with the flags {flags}: {most}")
 
 
 def try_findings(count):
@@ -1003,6 +1159,22 @@ def try_comments(count):
         count.check(error and came_error(error) == ("error", "NotEnoughDigits", 4), f"{call.__name__} of a pair: {error!r}")
     error = raised(todrenval.items, source)
     count.check(error and came_error(error) == ("error", "NotHex", 1), f"items: {error!r}")
+    pairs = [Pair("port", "80", 2), Pair("host", "a", 3)]
+    for encoding in ("cp1252", "utf-8", "utf-8-sig", "utf-16-le", "utf-16-be", "utf-16"):
+        data = source.decode().encode(encoding)
+        count.check(todrenval.items(data, encoding=encoding, comments="skip") == pairs, f"items past comments in {encoding}")
+        found = todrenval.items(data, encoding=encoding, comments="raw")
+        count.check(found == [Comment("C:\\users", 1), *pairs], f"items with raw comments in {encoding}: {found}")
+    found = todrenval.items(b"!\\u0041\\\na=\\u0041", comments="raw")
+    count.check(found == [Comment("\\u0041\\", 1), Pair("a", "A", 2)], f"a comment as it stands: {found}")
+    for comments in ("skip", "raw"):
+        error = raised(todrenval.items, source + b"a=\\u12", comments=comments)
+        count.check(error and came_error(error) == ("error", "NotEnoughDigits", 4) and not error.in_comment, f"items: {error!r}")
+        count.check(error and [item for item in error.items if isinstance(item, Pair)] == pairs, f"items before it: {error.items}")
+    for call, words in ((todrenval.items, "Raw all"), (todrenval.groups, "skip Raw")):
+        for wrong in (*words.split(), "", None, True, 4):
+            error = raised(call, source, comments=wrong)
+            count.check(type(error) is ValueError, f"{call.__name__}, comments {wrong!r}: {error!r}")
     for text in (
         "# C:\\users\nport = 80\n", "\r\nport = \\\r\n  80\r\r#\\u\n\r\n!\\uxxxx", "#\\u12\\\nport:80",
         "\\\n#\\u\nport=80", "\\\r\n \\\r!\\ud83d\\\\\\\nport=1\r\nport=80\n\\\n#\\u",
@@ -1018,6 +1190,36 @@ def try_comments(count):
         count.check(todrenval.loads(name.encode("cp1252"), encoding="cp1252") == {"C\xe9": "1"}, f"loads of {name!r}")
         count.check(dict(todrenval.Document(name.encode())) == {"C\xe9": "1"}, f"a document of {name!r}")
     count.check(todrenval.get("#\\u12\nk=v".encode("utf-16-le"), "k", encoding="utf-16-le") == "v", "get in UTF-16")
+
+
+def try_groups(count):
+    """Groups are the file; their texts are resolved, or stand as they are; and a malformed escape is none of an error."""
+    source = b" # C:\\users \r\n\tport\\u0020 = \\\n  8\\u0030\n\n\\u12 x"
+    comment, pair, blank, bad = todrenval.groups(source)
+    parts = [source[start:end] for start, end in zip(comment.spans, comment.spans[1:])]
+    count.check(parts == [b" ", b"#", b" ", b"C:\\users", b" ", b"\r\n"], f"a comment: {parts}")
+    parts = [source[start:end] for start, end in zip(pair.spans, pair.spans[1:])]
+    count.check(parts == [b"\t", b"port\\u0020", b" = ", b"\\\n  8\\u0030", b"", b"\n"], f"a pair: {parts}")
+    count.check(comment.item == Comment("C:\\users", 1) and pair.item == Pair("port ", "80", 2), f"{comment} {pair}")
+    count.check((blank.item, blank.line, blank.flaw) == (None, 4, None), f"a blank line: {blank}")
+    count.check(bad.item == Pair("\\u12", "x", 5) and bad.line == 5, f"a malformed pair: {bad}")
+    count.check(comment.flaw == (Status.NOT_HEX, 5, 1, 6) and bad.flaw == (Status.NOT_ENOUGH_DIGITS, bad.spans.key_start, 5, 1), "flaws")
+    count.check(bad.flaw.reason == todrenval._reason(Status.NOT_ENOUGH_DIGITS) and pair.flaw is None, "why")
+    resolved = todrenval.groups(b"# \\u0041\n# C:\\users", comments="read")
+    count.check([group.item.text for group in resolved] == ["A", "C:\\users"], f"comments that are read: {resolved}")
+    count.check([group.flaw for group in resolved] == [None, (Status.NOT_HEX, 13, 2, 5)], f"comments that are read: {resolved}")
+    raw = todrenval.groups(source, raw=True)[1].item
+    count.check(raw == Pair("port\\u0020", "8\\u0030", 2), f"a pair as it stands: {raw}")
+    mixed = todrenval.groups(b"a=\xff\nb=\\\n\0\n\xe9", errors="replace")
+    count.check([group.ill_formed_line for group in mixed] == [1, None, 4], f"what isn't text: {mixed}")
+    count.check(todrenval.groups(b"\xff", encoding="cp1252")[0].ill_formed_line is None, "in cp1252 each byte is text")
+    count.check(todrenval.groups(b"") == todrenval.groups(b"\xef\xbb\xbf") == [], "groups of nothing")
+    count.check(todrenval.groups(b"\xef\xbb\xbfa=1")[0].spans.start == 3, "a byte order mark is no group")
+    for data, encoding in (("a=1".encode("utf-16-le"), "utf-16-le"), (b"\xfe\xff\0a", "utf-8")):
+        error = raised(todrenval.groups, data, encoding=encoding)
+        place = f"groups of {data!r}: {error!r}"
+        count.check(type(error) is PropertiesError and error.status == Status.UNSUPPORTED, place)
+        count.check(str(error) == "The call doesn't take this encoding.", place)
 
 
 LONGEST = int(sys.argv[1]) if len(sys.argv) > 1 else 6
@@ -1189,11 +1391,15 @@ def try_header(count):
         count.check(numbers["TO_" + name] == todrenval._TARGETS[label], name)
     count.check(not set(todrenval._TARGETS.values()) & set(todrenval._ENCODINGS.values()), "numbers of targets of their own")
     flags = {"ASCII_ONLY": todrenval._ASCII_ONLY, "READABLE": todrenval._READABLE, "READ_COMMENTS": todrenval._READ_COMMENTS}
+    flags.update(STRICT=todrenval._STRICT, RAW_COMMENTS=todrenval._RAW_COMMENTS, RAW=todrenval._RAW, SPANS=todrenval._SPANS)
     flags.update(CRLF=todrenval._ENDINGS["\r\n"], CR=todrenval._ENDINGS["\r"])
     for name, flag in flags.items():
         count.check(numbers[name] == flag, name)
     for line, name in ((Comment(""), "COMMENT"), (Pair("", ""), "PAIR")):
         count.check(numbers[name] == todrenval._line_record(line)[0], name)
+    group = todrenval._result("todrenval_items", 200, b"\n", 0, todrenval._SPANS)
+    count.check(group[0] == numbers["BLANK"] + 16 and len(group) == 32 + 96, "a blank line with spans")
+    count.check("_SPANS_SIZE 96\n" in header and "_WITH_SPANS 16\n" in header, "the size of spans")
     for name in todrenval._ARGUMENTS:
         count.check(f"int {name}(" in header, name)
 
@@ -1205,32 +1411,31 @@ def try_examples(count):
 
 
 def try_pages(count):
-    """The functions of docs/C.md are those of the example, and the program of docs/PYTHON.md prints what the page says."""
-
-    def blocks(page):
-        text = (TOP / page).read_text(encoding="utf-8")
-        return dict(re.findall(r"^```(\S+)\n(.*?)^```$", text, re.MULTILINE | re.DOTALL))
-
-    shown, example = blocks("docs/C.md").get("c"), (TOP / "bindings/c/example.c").read_text()
-    count.check(bool(shown) and shown in example, "docs/C.md has other functions in C")
-    python = blocks("docs/PYTHON.md")
-    printed, here = io.StringIO(), os.getcwd()
-    with tempfile.TemporaryDirectory() as folder, contextlib.redirect_stdout(printed):
-        os.chdir(folder)
-        try:
-            exec(compile(python["python"], "docs/PYTHON.md", "exec"), {})
-        finally:
-            os.chdir(here)
-    count.check(printed.getvalue() == python["stdout"], f"docs/PYTHON.md: {printed.getvalue()}")
+    """The functions of docs/C.md are those of the example, and the programs of docs/PYTHON.md print what the page says."""
+    pages = {name: (TOP / f"docs/{name}.md").read_text(encoding="utf-8") for name in ("C", "PYTHON")}
+    shown, example = re.search(r"^```c\n(.*?)^```$", pages["C"], re.MULTILINE | re.DOTALL), (TOP / "bindings/c/example.c").read_text()
+    count.check(bool(shown) and shown[1] in example, "docs/C.md has other functions in C")
+    programs = re.findall(r"^```python\n(.*?)^```$.*?^```stdout\n(.*?)^```$", pages["PYTHON"], re.MULTILINE | re.DOTALL)
+    count.check(len(programs) == pages["PYTHON"].count("\n```python\n") == 2, f"{len(programs)} programs in docs/PYTHON.md")
+    here = os.getcwd()
+    for program, stdout in programs:
+        printed = io.StringIO()
+        with tempfile.TemporaryDirectory() as folder, contextlib.redirect_stdout(printed):
+            os.chdir(folder)
+            try:
+                exec(compile(program, "docs/PYTHON.md", "exec"), {})
+            finally:
+                os.chdir(here)
+        count.check(printed.getvalue() == stdout, f"docs/PYTHON.md: {printed.getvalue()}")
 
 
 def main():
     count = Count()
     run_tables(count)
     for test in (
-        try_arguments, try_files, try_special_files, try_file_errors, try_documents, try_shared_documents, try_zeros, try_types,
-        try_errors, try_lists, try_newer, try_room, try_findings, try_comments, try_short_files, try_round_trips, try_random,
-        try_conversions, try_threads, try_header, try_examples, try_pages,
+        try_arguments, try_files, try_special_files, try_file_errors, try_documents, try_operators, try_created, try_shared_documents,
+        try_zeros, try_types, try_errors, try_lists, try_newer, try_room, try_findings, try_comments, try_groups, try_short_files,
+        try_round_trips, try_random, try_conversions, try_threads, try_header, try_examples, try_pages,
     ):
         try:
             test(count)

@@ -18,17 +18,17 @@ memoryview or an mmap. Keys and values are str.
 The encoding is utf-8 if none is given. Others are iso-8859-1, cp1252, utf-16, utf-16-le and utf-16-be, by any label that
 Python has for them. A byte order mark overrides the encoding. iso-8859-1 is taken as cp1252: they differ in 27 of the bytes
 from 80 to 9F. Bytes that aren't text of the encoding raise a PropertiesError with their line; with errors="replace" they
-are read as U+FFFD. U+0000 in UTF-8 without a byte order mark raises one too, since UTF-16 looks so, unless errors is
-"replace".
+are read as U+FFFD. A byte 0 isn't text in UTF-8 without a byte order mark, since UTF-16 looks so when its mark is missing.
 
 What is written is ASCII-only, with escapes for other characters, as Java's `Properties.store` and `json.dumps` write it, so
 it reads the same in iso-8859-1 and utf-8. With ascii_only=False a non-ASCII character is an escape only if the encoding
 lacks it, or if it is the first one of a key at the front of a file that would begin like a byte order mark.
 
-Java passes over comments, and so do all functions but `items`, so that a comment may be `# C:\users`. With comments="read" a
-malformed escape in a comment is an error.
+Java passes over comments, so that one may be `# C:\users`, and so do functions with comments="skip". With comments="read" the
+escapes in comments are resolved, and a malformed one is an error. With comments="raw" comments are given as they stand. `items`
+reads them if nothing else is said, `groups` gives them raw, and all other functions skip them.
 
-Any thread may call the functions at any time. They need the shared object libtodrenval.so.1 beside this file, or at the path
+Any thread may call the functions at any time. They need the shared object libtodrenval.so.2 beside this file, or at the path
 that the environment variable TODRENVAL_LIBRARY has.
 """
 
@@ -43,7 +43,6 @@ import io
 import mmap
 import os
 import pathlib
-import re
 import secrets
 import stat
 import struct
@@ -60,6 +59,8 @@ __all__ = [
     "Edit",
     "Finding",
     "FindingKind",
+    "Flaw",
+    "Group",
     "Item",
     "MalformedEscape",
     "Pair",
@@ -67,6 +68,7 @@ __all__ = [
     "RemoveKey",
     "SetKey",
     "SetValue",
+    "Spans",
     "Status",
     "convert",
     "dump",
@@ -74,6 +76,7 @@ __all__ = [
     "edit",
     "findings",
     "get",
+    "groups",
     "items",
     "load",
     "loads",
@@ -86,7 +89,7 @@ __all__ = [
 #: The version of the package, which bindings/build.sh writes here. Where nothing was built, there is none.
 __version__ = "0"
 #: The version of the interface for C, which rises more rarely: TODRENVAL_VERSION of todrenval.h.
-VERSION = 3
+VERSION = 4
 Bytes = Union[bytes, bytearray, memoryview, mmap.mmap]
 Path = Union[str, "os.PathLike[str]"]
 
@@ -110,6 +113,7 @@ class Status(enum.IntEnum):
     BAD_SEPARATOR = 13
     EMPTY_KEY = 14
     UNKNOWN_FLAGS = 15
+    NOT_TEXT = 16
 
 
 class Comment(NamedTuple):
@@ -128,6 +132,49 @@ class Pair(NamedTuple):
 
 
 Item = Union[Comment, Pair]
+
+
+class Spans(NamedTuple):
+    """Where a group of lines and its parts are in a file, in bytes from its front. The places don't descend. Between them are
+    an indent; the key, or the sign of a comment; the separator; the value, or the text of a comment; blanks after a comment;
+    and the line ending. A backslash, a line ending and blanks that join two lines belong to the part that follows them."""
+
+    start: int
+    key_start: int
+    key_end: int
+    value_start: int
+    value_end: int
+    end: int
+    next: int
+
+
+class Flaw(NamedTuple):
+    """A malformed escape: why it is one, where its backslash is in the file, and in which line. The column says which byte of
+    that line the backslash is, counted from 1. A `status` that is no Status comes only from a library that is newer than this
+    module."""
+
+    status: Union[Status, int]
+    start: int
+    line: int
+    column: int
+
+    @property
+    def reason(self) -> str:
+        """Why it is malformed, in words."""
+        return _reason(self.status)
+
+
+class Group(NamedTuple):
+    """The lines that make a pair or a comment, or a line of blanks, whose `item` is None; with the number of the first line.
+
+    `flaw` is the first malformed escape. If there is one, the texts of the item are as they stand. `ill_formed_line` is the
+    first line with bytes that aren't text of the encoding, which only errors="replace" lets through."""
+
+    item: Optional[Item]
+    line: int
+    spans: Spans
+    flaw: Optional[Flaw] = None
+    ill_formed_line: Optional[int] = None
 
 
 class SetValue(NamedTuple):
@@ -189,9 +236,9 @@ class Finding(NamedTuple):
 
 
 class PropertiesError(ValueError):
-    r"""Why a call failed: a status, the reason in words, and the number of a line, or None. The status is NOT_UTF_8 if a key
-    or a value has a surrogate, and if bytes aren't text of the encoding; it is None if a file has changed since `open` read
-    it. A status that is no Status comes only from a library that is newer than this module.
+    r"""Why a call failed: a status, the reason in words, and the number of a line, or None. The status is NOT_TEXT if bytes
+    aren't text of the encoding, and NOT_UTF_8 if a key or a value has a surrogate; it is None if a file has changed since
+    `open` read it. A status that is no Status comes only from a library that is newer than this module.
 
     >>> try:
     ...     loads(b"a=1\nb=caf\xe9")
@@ -251,8 +298,9 @@ _ENCODINGS = {
 _DECODED = {1: "utf-8", 2: "utf-16-le", 3: "utf-16-be"}
 _MARKS = {codecs.BOM_UTF8: 1, codecs.BOM_UTF16_LE: 2, codecs.BOM_UTF16_BE: 3}
 _TARGETS = {"cp1252": 16, "utf-8": 17, "ascii": 18}
-_ASCII_ONLY, _READABLE, _READ_COMMENTS = 1, 2, 4
-_COMMENTS = {"skip": 0, "read": _READ_COMMENTS}
+_ASCII_ONLY, _READABLE, _READ_COMMENTS, _STRICT, _RAW_COMMENTS, _RAW, _SPANS = 1, 2, 4, 32, 64, 128, 256
+_COMMENTS = {"skip": 0, "read": _READ_COMMENTS, "raw": _RAW_COMMENTS}
+_ERRORS = {"strict": _STRICT, "replace": 0}
 _ENDINGS = {"\n": 0, "\r\n": 8, "\r": 16}
 
 _IN = [ctypes.c_char_p, ctypes.c_size_t]
@@ -260,20 +308,17 @@ _OUT = [ctypes.c_char_p, ctypes.c_size_t, ctypes.POINTER(ctypes.c_size_t), ctype
 _NUMBER = ctypes.c_uint32
 _ARGUMENTS: Dict[str, List[Any]] = {
     "todrenval_get": [*_IN, _NUMBER, _NUMBER, *_IN, *_OUT],
-    "todrenval_items": [*_IN, _NUMBER, *_OUT],
+    "todrenval_items": [*_IN, _NUMBER, _NUMBER, *_OUT],
     "todrenval_findings": [*_IN, _NUMBER, *_OUT],
-    "todrenval_set_value": [*_IN, _NUMBER, _NUMBER, *_IN, *_IN, *_OUT],
-    "todrenval_set_key": [*_IN, _NUMBER, _NUMBER, *_IN, *_IN, *_OUT],
-    "todrenval_remove_key": [*_IN, _NUMBER, _NUMBER, *_IN, *_OUT],
     "todrenval_edit": [*_IN, _NUMBER, _NUMBER, *_IN, *_OUT],
-    "todrenval_convert": [*_IN, _NUMBER, _NUMBER, ctypes.c_bool, *_OUT],
+    "todrenval_convert": [*_IN, _NUMBER, _NUMBER, _NUMBER, *_OUT],
     "todrenval_write": [*_IN, _NUMBER, _NUMBER, *_IN, *_IN, *_OUT],
     "todrenval_status_text": [ctypes.c_int, *_OUT],
 }
 
 
 def _library() -> ctypes.CDLL:
-    path = os.environ.get("TODRENVAL_LIBRARY") or str(pathlib.Path(__file__).resolve().with_name("libtodrenval.so.1"))
+    path = os.environ.get("TODRENVAL_LIBRARY") or str(pathlib.Path(__file__).resolve().with_name("libtodrenval.so.2"))
     try:
         library = ctypes.CDLL(path)
     except OSError as error:
@@ -335,6 +380,22 @@ def _error(status: int, line: Optional[int]) -> Exception:
     return PropertiesError(status, line)
 
 
+def _error_in(source: bytes, number: int, flags: int, status: int, line: Optional[int]) -> Exception:
+    """Returns the error of a call that read a file with these flags."""
+    if status == Status.NOT_TEXT:
+        in_force = _in_force(source, number)
+        reason = f"Not text of {_DECODED.get(in_force, 'the encoding')}."
+        # If there is a byte 0, the line is that of the first one.
+        if in_force == 1 and b"\0" in source and not source.startswith(codecs.BOM_UTF8):
+            reason = "U+0000. If this is UTF-16, give that as the encoding."
+        return PropertiesError(status, line, reason)
+    error = _error(status, line)
+    if isinstance(error, MalformedEscape) and flags & _READ_COMMENTS:
+        # It is the first one of all, then.
+        error.in_comment = _findings(source, number)[0].in_comment
+    return error
+
+
 def _result(name: str, room: int, *inputs: Union[bytes, int]) -> bytes:
     status, result, line = _answer(name, room, *inputs)
     if status != Status.OK:
@@ -352,15 +413,17 @@ def _bytes(data: Bytes) -> bytes:
         raise TypeError(f"a file is bytes, not {type(data).__name__}; {cure}") from None
 
 
-def _utf_8(text: str, key: Optional[str] = None) -> bytes:
-    """Returns a text in UTF-8. An error names the key whose value it is, if that is known."""
-    if not isinstance(text, str):
-        what = f"the value of {key!r}" if key else "a key, a value or a comment"
-        raise TypeError(f"{what} has to be a str, not {type(text).__name__}")
-    try:
-        return text.encode("utf-8")
-    except UnicodeEncodeError:
-        raise PropertiesError(Status.NOT_UTF_8, None, "A text has a surrogate without its partner.") from None
+def _utf_8(text: str, what: str = "the key", key: Optional[str] = None) -> bytes:
+    """Returns a text in UTF-8. An error says what it is, and names the key that it is, or whose value."""
+    if isinstance(text, str):
+        try:
+            return text.encode("utf-8")
+        except UnicodeEncodeError:
+            pass
+    named = what if what.startswith("a ") else f"{what} {text if key is None else key!r}"
+    if isinstance(text, str):
+        raise PropertiesError(Status.NOT_UTF_8, None, f"{named[0].upper()}{named[1:]} has a surrogate without its partner.")
+    raise TypeError(f"{named} has to be a str, not {type(text).__name__}")
 
 
 def _number(encoding: str) -> int:
@@ -370,42 +433,17 @@ def _number(encoding: str) -> int:
     return number
 
 
-def _source(data: Bytes, encoding: str, errors: str) -> Tuple[bytes, int]:
-    """Returns a file and the number of its encoding. Raises an error with the line if the file isn't text of it."""
+def _source(data: Bytes, encoding: str, errors: str) -> Tuple[bytes, int, int]:
+    """Returns a file, the number of its encoding, and the flag with which bytes that aren't text of it are an error."""
     source, number = _bytes(data), _number(encoding)
-    if errors not in ("strict", "replace"):
+    if errors not in _ERRORS:
         raise ValueError(f"errors are to be 'strict' or 'replace', not {errors!r}")
-    if errors == "strict":
-        _refuse_other_text(source, number)
-    return source, number
+    return source, number, _ERRORS[errors]
 
 
 def _in_force(source: bytes, number: int) -> int:
     """Returns the number of the encoding that a byte order mark names, or else the number that is given."""
     return next((_MARKS[mark] for mark in _MARKS if source.startswith(mark)), number)
-
-
-def _refuse_other_text(source: bytes, number: int) -> None:
-    decoded = _DECODED.get(_in_force(source, number))
-    if decoded is None:
-        return
-    reason = f"Not text of {decoded}."
-    place = -1
-    if decoded == "utf-8" and not source.startswith(codecs.BOM_UTF8):
-        place = source.find(b"\0")
-    if place >= 0:
-        reason = "U+0000. If this is UTF-16, give that as the encoding."
-    elif not (decoded == "utf-8" and source.isascii()):
-        try:
-            source.decode(decoded)
-        except UnicodeDecodeError as error:
-            place = error.start
-    if place >= 0:
-        before = source[:place].decode(decoded, "replace")
-        raise PropertiesError(Status.NOT_UTF_8, len(_LINE_ENDING.findall(before)) + 1, reason)
-
-
-_LINE_ENDING = re.compile(r"\r\n|\r|\n")
 
 
 @contextlib.contextmanager
@@ -422,66 +460,101 @@ def _naming(path: Path) -> Iterator[None]:
         raise OSError(error.errno, error.strerror, os.fspath(path)) from error
 
 
+def _comments(comments: str, *words: str) -> int:
+    """Returns the flag for comments, which is to be that of one of these words."""
+    if comments not in words:
+        raise ValueError(f"comments are to be {' or '.join(map(repr, words))}, not {comments!r}")
+    return _COMMENTS[comments]
+
+
 def _flags(comments: str, ascii_only: bool = False) -> int:
-    if comments not in _COMMENTS:
-        raise ValueError(f"comments are to be 'skip' or 'read', not {comments!r}")
-    return bool(ascii_only) * _ASCII_ONLY + _COMMENTS[comments]
+    return bool(ascii_only) * _ASCII_ONLY + _comments(comments, "skip", "read")
 
 
-def _edited(name: str, more: int, source: bytes, number: int, flags: int, *inputs: bytes) -> bytes:
-    """Returns what a call gives that edits."""
-    status, result, line = _answer(name, len(source) + more, source, number, flags, *inputs)
+def _edited(source: bytes, number: int, flags: int, edits: bytes) -> bytes:
+    """Returns a file after a packed list of edits."""
+    status, result, line = _answer("todrenval_edit", len(source) + len(edits), source, number, flags, edits)
     if status != Status.OK:
-        raise _in_comment(_error(status, line), source, number, flags & _READ_COMMENTS)
+        raise _error_in(source, number, flags, status, line)
     return result
 
 
-def _in_comment(error: Exception, source: bytes, number: int, reads: int = 1) -> Exception:
-    """Sets whether an error is in a comment. If comments were read, it is the first one of all."""
-    if isinstance(error, MalformedEscape) and reads:
-        error.in_comment = _findings(source, number)[0].in_comment
-    return error
-
-
 def _record(kind: int, key: str, value: str) -> bytes:
-    key_bytes, value_bytes = _utf_8(key), _utf_8(value, key)
+    key_bytes, value_bytes = _utf_8(key), _utf_8(value, "the value of", key)
     return struct.pack("<4Q", kind, 0, len(key_bytes), len(value_bytes)) + key_bytes + value_bytes
 
 
-def _items(packed: bytes) -> List[Item]:
-    found: List[Item] = []
+def _records(packed: bytes) -> Iterator[Tuple[int, int, str, str, Tuple[int, ...]]]:
+    """Yields of each record its kind, line, key and value, and its spans, if it has them."""
     place = 0
+    spans: Tuple[int, ...] = ()
     while place < len(packed):
         kind, line, key_length, value_length = struct.unpack_from("<4Q", packed, place)
         place += 32
-        key = packed[place : place + key_length].decode("utf-8")
-        place += key_length
-        value = packed[place : place + value_length].decode("utf-8")
-        place += value_length
-        found.append(Pair(key, value, line) if kind == 1 else Comment(value, line))
-    return found
+        if kind >= 16:
+            spans = struct.unpack_from("<12Q", packed, place)
+            place += 96
+        value_place = place + key_length
+        end = value_place + value_length
+        yield kind % 16, line, packed[place:value_place].decode("utf-8"), packed[value_place:end].decode("utf-8"), spans
+        place = end
 
 
-def items(data: Bytes, *, encoding: str = "utf-8", errors: str = "strict") -> List[Item]:
-    r"""Returns all comments and pairs in order, each with the number of its line.
+def _item(kind: int, line: int, key: str, value: str) -> Item:
+    return Pair(key, value, line) if kind == 1 else Comment(value, line)
 
-    Raises MalformedEscape, which has the items before it, also for one in a comment.
+
+def items(data: Bytes, *, encoding: str = "utf-8", errors: str = "strict", comments: str = "read") -> List[Item]:
+    r"""Returns all comments and pairs in order, each with the number of its line. With comments="raw" the texts of comments
+    are as they stand, and with comments="skip" there are none.
+
+    Raises MalformedEscape, which has the items before it, also for one in a comment that is read.
 
     >>> items(b"# one\na = 1\nb = \\\n    2")
     [Comment(text='one', line=1), Pair(key='a', value='1', line=2), Pair(key='b', value='2', line=3)]
+    >>> items(b"# C:\\users\na = 1", comments="raw")
+    [Comment(text='C:\\users', line=1), Pair(key='a', value='1', line=2)]
     """
-    return _all_items(*_source(data, encoding, errors))
+    source, number, flags = _source(data, encoding, errors)
+    return _items(source, number, flags + _comments(comments, "skip", "read", "raw"))
 
 
-def _all_items(source: bytes, number: int) -> List[Item]:
-    status, packed, line = _answer("todrenval_items", 4 * len(source), source, number)
-    found = _items(packed)
+def _items(source: bytes, number: int, flags: int) -> List[Item]:
+    status, packed, line = _answer("todrenval_items", 4 * len(source), source, number, flags)
+    found = [_item(*record[:4]) for record in _records(packed)]
     if status == Status.OK:
         return found
-    error = _in_comment(_error(status, line), source, number)
+    error = _error_in(source, number, flags, status, line)
     if isinstance(error, MalformedEscape):
         error.items = found
     raise error
+
+
+def groups(
+    data: Bytes, *, encoding: str = "utf-8", errors: str = "strict", comments: str = "raw", raw: bool = False
+) -> List[Group]:
+    r"""Returns the lines of all pairs, comments and blanks in order, each with the places of its parts and with what is wrong
+    in it. Together they are the file, but for a byte order mark. So a linter or an editor can show where something is.
+
+    A malformed escape is no error here. With comments="read" the escapes in comments are resolved, and with raw=True those in
+    keys and values aren't. Raises PropertiesError if the file is UTF-16.
+
+    >>> group = groups(b"# one\nport = \\\n  \\u12")[1]
+    >>> group.item, group.flaw
+    (Pair(key='port', value='\\u12', line=2), Flaw(status=<Status.NOT_ENOUGH_DIGITS: 7>, start=17, line=3, column=3))
+    """
+    source, number, flags = _source(data, encoding, errors)
+    flags += _SPANS + bool(raw) * _RAW + _comments(comments, "read", "raw")
+    status, packed, line = _answer("todrenval_items", 8 * len(source), source, number, flags)
+    if status != Status.OK:
+        raise _error_in(source, number, flags, status, line)
+    return [_group(*record) for record in _records(packed)]
+
+
+def _group(kind: int, line: int, key: str, value: str, spans: Tuple[int, ...]) -> Group:
+    item = None if kind == 5 else _item(kind, line, key, value)
+    flaw = Flaw(_named(Status, spans[7]), *spans[8:11]) if spans[7] else None
+    return Group(item, line, Spans(*spans[:7]), flaw, spans[11] or None)
 
 
 def loads(data: Bytes, *, encoding: str = "utf-8", errors: str = "strict", comments: str = "skip") -> Dict[str, str]:
@@ -492,37 +565,9 @@ def loads(data: Bytes, *, encoding: str = "utf-8", errors: str = "strict", comme
     >>> loads("drink = café".encode("cp1252"), encoding="cp1252")
     {'drink': 'café'}
     """
-    source, number = _source(data, encoding, errors)
-    skips = not _flags(comments)
-    try:
-        found = _all_items(source, number)
-    except MalformedEscape as error:
-        if not (skips and error.in_comment):
-            raise
-        found = _all_items(_emptied(source, number), 1)
+    source, number, flags = _source(data, encoding, errors)
+    found = _items(source, number, flags + _flags(comments))
     return {item.key: item.value for item in found if isinstance(item, Pair)}
-
-
-def _emptied(source: bytes, number: int) -> bytes:
-    """Returns a file in UTF-8 with the same pairs in the same lines, and with no text in comments that have a malformed
-    escape."""
-    converted = _result("todrenval_convert", 2 * len(source), source, number, _TARGETS["utf-8"], 0)
-    parts = re.split(rb"(\r\n|\r|\n)", converted)
-    for finding in _findings(converted, 1):
-        if finding.in_comment:
-            place = 2 * finding.line - 2
-            # A comment that begins on a continuation line has all the lines that are joined.
-            goes_on = not parts[place].lstrip(b" \t\f").startswith((b"#", b"!"))
-            while goes_on and place + 2 < len(parts) and _is_open(parts[place]):
-                parts[place] = b"#"
-                place += 2
-            parts[place] = b"#"
-    return b"".join(parts)
-
-
-def _is_open(line: bytes) -> bool:
-    """Returns whether the next line continues this one: it ends in an odd number of backslashes."""
-    return (len(line) - len(line.rstrip(b"\\"))) % 2 == 1
 
 
 def load(
@@ -573,13 +618,13 @@ def get(
     >>> get(b"port = 80", "host", default="localhost")
     'localhost'
     """
-    source, number = _source(data, encoding, errors)
-    flags = _flags(comments)
+    source, number, flags = _source(data, encoding, errors)
+    flags += _flags(comments)
     status, value, line = _answer("todrenval_get", 4096, source, number, flags, _utf_8(key))
     if status == Status.NO_KEY:
         return default
     if status != Status.OK:
-        raise _in_comment(_error(status, line), source, number, flags)
+        raise _error_in(source, number, flags, status, line)
     return value.decode("utf-8")
 
 
@@ -603,9 +648,9 @@ def set_value(
     >>> set_value(b"drink : tea\n", "food", "crêpe")
     b'drink : tea\nfood : cr\\u00eape\n'
     """
-    texts = _utf_8(key), _utf_8(value, key)
-    source, number = _source(data, encoding, errors)
-    return _edited("todrenval_set_value", 100 + 2 * len(value), source, number, _flags(comments, ascii_only), *texts)
+    packed = _record(4, key, value)
+    source, number, flags = _source(data, encoding, errors)
+    return _edited(source, number, flags + _flags(comments, ascii_only), packed)
 
 
 def set_key(
@@ -623,9 +668,9 @@ def set_key(
     >>> set_key(b"port    = 80\n", "port", "8080")
     b'port=8080\n'
     """
-    texts = _utf_8(key), _utf_8(value, key)
-    source, number = _source(data, encoding, errors)
-    return _edited("todrenval_set_key", 100 + 2 * len(value), source, number, _flags(comments, ascii_only), *texts)
+    packed = _record(2, key, value)
+    source, number, flags = _source(data, encoding, errors)
+    return _edited(source, number, flags + _flags(comments, ascii_only), packed)
 
 
 def remove_key(
@@ -636,9 +681,9 @@ def remove_key(
     >>> remove_key(b"# one\na = 1\nb = 2\n", "a")
     b'# one\nb = 2\n'
     """
-    text = _utf_8(key)
-    source, number = _source(data, encoding, errors)
-    return _edited("todrenval_remove_key", 16, source, number, _flags(comments), text)
+    packed = _record(3, key, "")
+    source, number, flags = _source(data, encoding, errors)
+    return _edited(source, number, flags + _flags(comments), packed)
 
 
 def edit(
@@ -653,8 +698,7 @@ def edit(
     r"""Returns the file after several edits, each made to what the one before it gave. A mapping has the value that each key
     is to have, or None if the key is to be removed. So do tuples.
 
-    It takes time in the number of the edits times the size of the file: 20,000 edits of 20,000 pairs take two seconds. If
-    no layout is to be kept, `dumps` writes any number of pairs quickly.
+    20,000 edits of 20,000 pairs take a tenth of a second.
 
     >>> edit(b"a = 1\nb = 2\n", {"a": "3", "b": None})
     b'a = 3\n'
@@ -663,8 +707,8 @@ def edit(
     """
     pairs: Iterable[Edit] = edits.items() if isinstance(edits, Mapping) else edits
     packed = b"".join(_edit_record(each) for each in pairs)
-    source, number = _source(data, encoding, errors)
-    return _edited("todrenval_edit", len(packed), source, number, _flags(comments, ascii_only), packed)
+    source, number, flags = _source(data, encoding, errors)
+    return _edited(source, number, flags + _flags(comments, ascii_only), packed)
 
 
 def _edit_record(each: Edit) -> bytes:
@@ -702,8 +746,12 @@ def convert(
     target = _TARGETS.get(codecs.lookup(to).name)
     if target is None:
         raise LookupError(f"not an encoding that files are converted to: {to}; use ascii, cp1252 or utf-8")
-    source, number = _source(data, encoding, errors)
-    return _result("todrenval_convert", 2 * len(source) + 16, source, number, target, bool(readable))
+    source, number, flags = _source(data, encoding, errors)
+    flags += bool(readable) * _READABLE
+    status, result, line = _answer("todrenval_convert", 2 * len(source) + 16, source, number, target, flags)
+    if status != Status.OK:
+        raise _error_in(source, number, flags, status, line)
+    return result
 
 
 Line = Union[Item, Tuple[str, str]]
@@ -741,7 +789,7 @@ def dumps(
     if ending not in _ENDINGS:
         raise ValueError(f"an ending is '\\n', '\\r\\n' or '\\r', not {ending!r}")
     flags = bool(ascii_only) * _ASCII_ONLY + bool(readable) * _READABLE + _ENDINGS[ending]
-    texts = [_utf_8(prefix), _utf_8(separator)]
+    texts = [_utf_8(prefix, "a prefix"), _utf_8(separator, "a separator")]
     for text, status in zip(texts, (Status.BAD_PREFIX, Status.BAD_SEPARATOR)):
         if not text:
             raise PropertiesError(status)
@@ -750,7 +798,8 @@ def dumps(
 
 def _line_record(line: Line) -> bytes:
     if isinstance(line, Comment):
-        return _record(0, "", line.text)
+        text = _utf_8(line.text, "a comment")
+        return struct.pack("<4Q", 0, 0, 0, len(text)) + text
     if isinstance(line, Pair) or (type(line) is tuple and len(line) == 2):
         return _record(1, line[0], line[1])
     raise TypeError(f"a line is a Comment, a Pair or a tuple of a key and a value, not {line!r}")
@@ -802,7 +851,13 @@ def findings(data: Bytes, *, encoding: str = "utf-8", errors: str = "strict") ->
     2 Malformed \uxxxx encoding: not enough digits.
     3 repeats the key of line 1
     """
-    return sorted(_findings(*_source(data, encoding, errors)), key=lambda finding: finding.line)
+    source, number, flags = _source(data, encoding, errors)
+    if flags:
+        # todrenval_findings takes none.
+        status, _, line = _answer("todrenval_get", 4096, source, number, flags, b"")
+        if status == Status.NOT_TEXT:
+            raise _error_in(source, number, flags, status, line)
+    return sorted(_findings(source, number), key=lambda finding: finding.line)
 
 
 def _findings(source: bytes, number: int) -> List[Finding]:
@@ -834,10 +889,12 @@ class Document(MutableMapping[str, str]):
     >>> del document["host"]
     >>> bytes(document)
     b'# the web server\nport    = 8080\n'
+    >>> bytes(document | {"port": "81", "user": "jo"})
+    b'# the web server\nport    = 81\nuser = jo\n'
 
-    Threads may share a document. To get, set or delete a key, `bytes`, `copy` and `save` are each one step that no other
-    thread sees half done. `pop`, `setdefault`, `update` and the like take several steps, so hold a lock of your own. As
-    with a dict, a loop over a document raises RuntimeError if another thread adds or deletes a key: loop over a copy.
+    Threads may share a document. To get, set or delete a key, `bytes`, `line`, `copy` and `save` are each one step that no
+    other thread sees half done. `pop`, `setdefault`, `update`, `|=` and the like take several steps, so hold a lock of your
+    own. As with a dict, a loop over a document raises RuntimeError if another thread adds or deletes a key: loop over a copy.
     """
 
     def __init__(
@@ -855,10 +912,13 @@ class Document(MutableMapping[str, str]):
         self._ascii_only = ascii_only
         self._values = loads(self._data, **self._read)
         self._edits: List[Edit] = []
+        # The line of each key, once it was asked for.
+        self._lines: Optional[Dict[str, int]] = None
         self._is_utf_16 = _in_force(self._data, _number(encoding)) > 1
         #: Where `save` writes it. What is given is made absolute here.
         self.path: Optional[Path] = None if path is None else _absolute(path)
-        self._saved = self._data
+        # What the file has, or None if there is none.
+        self._saved: Optional[bytes] = self._data
         # Where the bytes of _saved are, if it is known.
         self._place: Optional[str] = None
         # Held while bytes, edits and values don't belong together.
@@ -873,6 +933,7 @@ class Document(MutableMapping[str, str]):
         with self._lock:
             self._edits.append(SetValue(key, value))
             self._values[key] = value
+            self._lines = None
 
     def __delitem__(self, key: str) -> None:
         with self._lock:
@@ -880,6 +941,7 @@ class Document(MutableMapping[str, str]):
                 self._refuse_utf_16()
             del self._values[key]
             self._edits.append(RemoveKey(key))
+            self._lines = None
 
     def _refuse_utf_16(self) -> None:
         if self._is_utf_16:
@@ -888,8 +950,29 @@ class Document(MutableMapping[str, str]):
     def __iter__(self) -> Iterator[str]:
         return iter(self._values)
 
+    def __reversed__(self) -> Iterator[str]:
+        return reversed(self._values)
+
     def __len__(self) -> int:
         return len(self._values)
+
+    def __or__(self, other: Mapping[str, str]) -> Document:
+        """A copy, in which each key of the other mapping has its value from there."""
+        if not isinstance(other, Mapping):
+            return NotImplemented
+        made = self.copy()
+        made.update(other)
+        return made
+
+    def __ror__(self, other: Mapping[str, str]) -> Dict[str, str]:
+        """A dict, since what comes first isn't a document."""
+        if not isinstance(other, Mapping):
+            return NotImplemented
+        return {**other, **self}
+
+    def __ior__(self, other: Union[Mapping[str, str], Iterable[Tuple[str, str]]]) -> Document:
+        self.update(other)
+        return self
 
     def __repr__(self) -> str:
         return f"{type(self).__name__}({bytes(self)!r})"
@@ -901,6 +984,22 @@ class Document(MutableMapping[str, str]):
                 data = edit(self._data, self._edits, ascii_only=self._ascii_only, **self._read)
                 self._data, self._edits = data, []
             return self._data
+
+    def line(self, key: str) -> int:
+        """Returns the number of the line in which the pair begins that gives a key its value, in what `bytes` returns.
+
+        >>> document = Document(b"# the web server\\nport = http\\n", path="/app.properties")
+        >>> print(f"{document.path}:{document.line('port')}: port is a number, not {document['port']}")
+        /app.properties:2: port is a number, not http
+        """
+        with self._lock:
+            if key not in self._values:
+                raise KeyError(key)
+            if self._lines is None:
+                # What could not be read was refused when the document was made.
+                pairs = items(bytes(self), **{**self._read, "comments": "skip"})
+                self._lines = {pair.key: pair.line for pair in pairs if isinstance(pair, Pair)}
+            return self._lines[key]
 
     def copy(self) -> Document:
         """Returns a document with the same bytes and the same path, which changes on its own."""
@@ -922,17 +1021,21 @@ class Document(MutableMapping[str, str]):
     def save(self) -> None:
         """Writes the file to `path` if the document has changed: whole or not at all, by a new file that is synced and takes
         the place of the old one, with its mode and its owner. Raises PropertiesError if the file has other bytes than `open`
-        read or `save` wrote there last, and FileNotFoundError if it is gone."""
+        read or `save` wrote there last, and FileNotFoundError if it is gone. A file that `open` didn't find is made, unless
+        there is nothing to write."""
         if self.path is None:
             raise ValueError("a document without a path; bytes(document) has its bytes")
         with self._lock:
             data = bytes(self)
-            if data != self._saved:
+            if data != (self._saved or b""):
                 place = os.fspath(self.path)
                 if not _is_regular(place):
                     raise _not_regular(place)
                 with _naming(place):
-                    _replace(place, data, self._saved if place == self._place else None)
+                    if place == self._place:
+                        _replace(place, data, expected=(self._saved, data))
+                    else:
+                        _replace(place, data)
                 self._saved, self._place = data, place
 
     def __enter__(self) -> Document:
@@ -947,26 +1050,41 @@ class Document(MutableMapping[str, str]):
 
 
 def open(  # noqa: A001
-    path: Path, *, encoding: str = "utf-8", errors: str = "strict", ascii_only: bool = True, comments: str = "skip"
+    path: Path,
+    *,
+    encoding: str = "utf-8",
+    errors: str = "strict",
+    ascii_only: bool = True,
+    comments: str = "skip",
+    create: bool = False,
 ) -> Document:
-    """Returns the file at a path as a Document, which a `with` saves at its end if nothing was raised.
+    """Returns the file at a path as a Document, which a `with` saves at its end if nothing was raised. With create=True a file
+    that isn't there is read as an empty one, and made when the document is saved with something in it.
 
     >>> import tempfile
     >>> path = tempfile.mktemp()
-    >>> dump({"port": "80", "host": "a"}, path, separator=" = ")
+    >>> with open(path, create=True) as settings:
+    ...     settings["port"] = "80"
     >>> with open(path) as settings:
     ...     settings["port"] = "8080"
     >>> pathlib.Path(path).read_bytes()
-    b'port = 8080\\nhost = a\\n'
+    b'port=8080\\n'
     >>> os.remove(path)
     """
     place = _absolute(path)
     if not _is_regular(place):
         raise _not_regular(path)
-    data = pathlib.Path(place).read_bytes()
+    data: Optional[bytes] = None
+    try:
+        data = pathlib.Path(place).read_bytes()
+    except FileNotFoundError:
+        # Without its folder the file couldn't be made.
+        if not create or not os.path.isdir(os.path.dirname(os.path.realpath(place))):
+            raise
+    named = {"encoding": encoding, "errors": errors, "comments": comments}
     with _naming(path):
-        document = Document(data, encoding=encoding, errors=errors, ascii_only=ascii_only, comments=comments, path=place)
-    document._place = place
+        document = Document(data or b"", ascii_only=ascii_only, path=place, **named)
+    document._saved, document._place = data, place
     return document
 
 
@@ -988,9 +1106,9 @@ def _not_regular(path: Path) -> OSError:
     return OSError(errno.EINVAL, "Not a regular file", os.fspath(path))
 
 
-def _replace(path: Path, data: bytes, expected: Optional[bytes] = None) -> None:
+def _replace(path: Path, data: bytes, expected: Tuple[Optional[bytes], ...] = ()) -> None:
     """Puts bytes in the place of a file, whole or not at all: into a new file in its folder, which is renamed. Raises an error
-    instead if the file has neither these bytes nor those that are expected."""
+    instead if the file has none of the bytes that are expected, of which None stands for no file."""
     real = os.path.realpath(path)
     folder, name = os.path.split(real)
     # The name may be as long as a name can be.
@@ -1013,8 +1131,9 @@ def _replace(path: Path, data: bytes, expected: Optional[bytes] = None) -> None:
                     os.fchmod(descriptor, stat.S_IMODE(old.st_mode))
                 file.flush()
                 os.fsync(descriptor)
-            if expected is not None and pathlib.Path(real).read_bytes() not in (expected, data):
-                raise PropertiesError(None, None, "The file has changed since it was read.")
+            if expected and not (None in expected and not os.path.exists(real)):
+                if pathlib.Path(real).read_bytes() not in expected:
+                    raise PropertiesError(None, None, "The file has changed since it was read.")
             os.replace(new, real)
         except BaseException:
             os.unlink(new)

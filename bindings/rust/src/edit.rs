@@ -1,0 +1,142 @@
+use crate::error::PropertiesError;
+use crate::options::Options;
+use crate::sys;
+
+/// A change of a file.
+#[derive(Clone, Copy, Debug, PartialEq, Eq, Hash)]
+pub enum Edit<'a> {
+    /// The last pair with the key gets the value, and keeps its indent, the spelling of its key, its separator and its line
+    /// ending. If no pair has the key, one is added at the end, with the separator of the last pair and the last line
+    /// ending.
+    SetValue(&'a str, &'a str),
+    /// The same, but the pair is written anew, as `key=value`. One that is added ends in a line feed.
+    SetKey(&'a str, &'a str),
+    /// The pairs with the key are removed, if there are any.
+    RemoveKey(&'a str),
+}
+
+/// Makes changes to the bytes of a file, one after another, and keeps every other byte.
+///
+/// ```
+/// use todrenval::{edit, Edit, UTF_8};
+///
+/// let file = b"# C:\\users\r\nport    : 80\r\nhost = a\r\n";
+/// let edits = [Edit::SetValue("port", "8080"), Edit::RemoveKey("host"), Edit::SetValue("user", "Jane Doe")];
+/// assert_eq!(edit(file, UTF_8, &edits)?, b"# C:\\users\r\nport    : 8080\r\nuser : Jane Doe\r\n");
+/// # Ok::<(), todrenval::PropertiesError>(())
+/// ```
+///
+/// # Errors
+///
+/// A malformed escape in a pair, or in a comment if the options read these; a file in UTF-16; and bytes that aren't text, if
+/// the options are strict.
+pub fn edit(source: &[u8], options: impl Into<Options>, edits: &[Edit<'_>]) -> Result<Vec<u8>, PropertiesError> {
+    let options = options.into();
+    let mut list = Vec::new();
+    for edit in edits {
+        match *edit {
+            Edit::SetValue(key, value) => sys::push_record(&mut list, sys::SET_VALUE, key, value),
+            Edit::SetKey(key, value) => sys::push_record(&mut list, sys::SET_KEY, key, value),
+            Edit::RemoveKey(key) => sys::push_record(&mut list, sys::REMOVE_KEY, key, ""),
+        }
+    }
+    let flags = options.strict_flag() | options.comments_flag() | options.ascii_flag();
+    let mut edited = Vec::new();
+    given(sys::edit(&mut edited, source, options.encoding.number(), flags, &list))?;
+    Ok(edited)
+}
+
+/// Returns the value of a key in the bytes of a file: that of the last pair with it. Each call reads the whole file; for
+/// several keys, read a map.
+///
+/// ```
+/// use todrenval::{get, UTF_8};
+///
+/// let file = b"# C:\\users\nport = 80\n";
+/// assert_eq!(get(file, UTF_8, "port")?.as_deref(), Some("80"));
+/// assert_eq!(get(file, UTF_8, "prot")?, None);
+/// # Ok::<(), todrenval::PropertiesError>(())
+/// ```
+///
+/// # Errors
+///
+/// A malformed escape in a pair, also after that of the key, or in a comment if the options read these; and bytes that
+/// aren't text, if the options are strict.
+pub fn get(source: &[u8], options: impl Into<Options>, key: &str) -> Result<Option<String>, PropertiesError> {
+    let options = options.into();
+    let flags = options.strict_flag() | options.comments_flag();
+    let mut value = Vec::new();
+    let answer = sys::get(&mut value, source, options.encoding.number(), flags, key.as_bytes());
+    if answer.status == sys::NO_KEY {
+        return Ok(None);
+    }
+    given(answer)?;
+    Ok(Some(sys::text(&value).to_owned()))
+}
+
+/// What [`convert`] converts to.
+#[derive(Clone, Copy, Debug, PartialEq, Eq, PartialOrd, Ord, Hash)]
+#[repr(u32)]
+pub enum Target {
+    /// windows-1252.
+    Windows1252 = 16,
+    /// UTF-8.
+    Utf8 = 17,
+    /// ASCII, which reads the same in ISO 8859-1, windows-1252 and UTF-8.
+    Ascii = 18,
+}
+
+/// How [`convert`] spells characters past U+007F that the target has.
+#[derive(Clone, Copy, Debug, PartialEq, Eq, PartialOrd, Ord, Hash)]
+pub enum Spelling {
+    /// As the file does: an escape stays an escape.
+    Kept,
+    /// As themselves.
+    Readable,
+}
+
+/// Writes the bytes of a file in another encoding, and keeps all else: comments, layout, line endings, and what each text
+/// means. What the target lacks becomes an escape, and a byte order mark is dropped. A malformed escape stays as it is.
+///
+/// ```
+/// use todrenval::{convert, Spelling, Target, UTF_8};
+///
+/// let file = "# Grüße\ndrink : café\n".as_bytes();
+/// let ascii = convert(file, UTF_8, Target::Ascii, Spelling::Kept)?;
+/// assert_eq!(ascii, b"# Gr\\u00fc\\u00dfe\ndrink : caf\\u00e9\n");
+/// assert_eq!(convert(&ascii, UTF_8, Target::Utf8, Spelling::Readable)?, file);
+/// # Ok::<(), todrenval::PropertiesError>(())
+/// ```
+///
+/// # Errors
+///
+/// Bytes that aren't text, if the options are strict; otherwise these become U+FFFD.
+pub fn convert(
+    source: &[u8],
+    options: impl Into<Options>,
+    target: Target,
+    spelling: Spelling,
+) -> Result<Vec<u8>, PropertiesError> {
+    let options = options.into();
+    let readable = match spelling {
+        Spelling::Kept => 0,
+        Spelling::Readable => sys::READABLE,
+    };
+    let flags = options.strict_flag() | readable;
+    let mut converted = Vec::new();
+    given(sys::convert(
+        &mut converted,
+        source,
+        options.encoding.number(),
+        target as u32,
+        flags,
+    ))?;
+    Ok(converted)
+}
+
+pub(crate) fn given(answer: sys::Answer) -> Result<(), PropertiesError> {
+    match answer.status {
+        sys::OK => Ok(()),
+        _ => Err(PropertiesError::of(answer)),
+    }
+}

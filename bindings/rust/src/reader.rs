@@ -1,0 +1,160 @@
+use crate::encoding::{Encoding, WINDOWS_1252};
+use crate::error::PropertiesError;
+use crate::feed::Feed;
+use crate::line::{Line, LineContent};
+use crate::sys;
+use std::collections::HashMap;
+use std::fmt::{self, Debug, Formatter};
+use std::io::Read;
+use std::iter::FusedIterator;
+
+/// What of comments is read.
+#[derive(Clone, Copy, Debug, PartialEq, Eq, PartialOrd, Ord, Hash)]
+pub enum Comments {
+    /// Their texts with the escapes resolved, so that a malformed one is an error.
+    Resolve,
+    /// Their texts as they stand, with backslashes and all. Nothing in them is an error.
+    Raw,
+    /// Nothing: they are passed over, as Java does. Nothing in them is an error.
+    Skip,
+}
+
+impl Comments {
+    pub(crate) fn flags(self) -> u32 {
+        match self {
+            Comments::Resolve => sys::READ_COMMENTS,
+            Comments::Raw => sys::RAW_COMMENTS,
+            Comments::Skip => 0,
+        }
+    }
+}
+
+/// The comments and pairs of a reader, each with the number of its line.
+///
+/// An error is the last item; after it, or after the end of the reader, comes `None`, and nothing more is read. Items
+/// before an error are given first, and so are those before a failed read, as far as no further byte could have changed
+/// them.
+///
+/// The reader is read to its end when the first item is asked for, and then all items are held, packed: some three times
+/// the bytes that were read. A later version may read in parts, with the same items and errors. Until then, a line of a
+/// terminal or a socket is given when the stream has ended.
+///
+/// ```
+/// use todrenval::{LineContent, PropertiesIter, UTF_8};
+///
+/// let input = "# the web server\n\nport = 80\ngreeting = Grüß \\\n    Gott\n".as_bytes();
+/// for line in PropertiesIter::new_with_encoding(input, UTF_8) {
+///     let line = line?;
+///     match line.content() {
+///         LineContent::Comment(text) => println!("{}: a comment: {text}", line.line_number()),
+///         LineContent::KVPair(key, value) => println!("{}: {key} is {value}", line.line_number()),
+///     }
+/// }
+/// # Ok::<(), todrenval::PropertiesError>(())
+/// ```
+pub struct PropertiesIter<R> {
+    feed: Feed<R>,
+}
+
+impl<R: Read> PropertiesIter<R> {
+    /// Reads windows-1252, unless a byte order mark says otherwise.
+    pub fn new(input: R) -> Self {
+        Self::new_with_encoding(input, WINDOWS_1252)
+    }
+
+    /// Reads this encoding, unless a byte order mark says otherwise.
+    pub fn new_with_encoding(input: R, encoding: Encoding) -> Self {
+        PropertiesIter {
+            feed: Feed::new(input, encoding),
+        }
+    }
+
+    /// Says what of comments is given, before the first item is. If nothing is said, it is [`Comments::Resolve`].
+    ///
+    /// ```
+    /// use todrenval::{Comments, PropertiesIter};
+    ///
+    /// let input = &b"# C:\\users\nport = 80\n"[..];
+    /// assert!(PropertiesIter::new(input).next().unwrap().is_err());
+    ///
+    /// let mut pairs = PropertiesIter::new(input).comments(Comments::Skip);
+    /// assert_eq!(pairs.next().unwrap()?.line_number(), 2);
+    /// # Ok::<(), todrenval::PropertiesError>(())
+    /// ```
+    #[must_use]
+    pub fn comments(mut self, comments: Comments) -> Self {
+        self.feed.flags &= sys::STRICT;
+        self.feed.flags |= comments.flags();
+        self
+    }
+
+    /// Says whether bytes that aren't text of the encoding are an error, before the first item is given. If nothing is
+    /// said, they are read as U+FFFD. In UTF-8 without a byte order mark a byte 0 isn't text: UTF-16 looks so.
+    ///
+    /// ```
+    /// use todrenval::{ErrorKind, PropertiesIter, UTF_8};
+    ///
+    /// let error = PropertiesIter::new_with_encoding(&b"a = 1\nb = \xe9\n"[..], UTF_8)
+    ///     .strict(true)
+    ///     .find_map(Result::err)
+    ///     .unwrap();
+    /// assert_eq!((error.kind(), error.line_number()), (ErrorKind::NotText, Some(2)));
+    /// ```
+    #[must_use]
+    pub fn strict(mut self, is_strict: bool) -> Self {
+        self.feed.flags &= !sys::STRICT;
+        self.feed.flags |= if is_strict { sys::STRICT } else { 0 };
+        self
+    }
+
+    /// Calls a function with the key and the value of each pair, in order.
+    ///
+    /// # Errors
+    ///
+    /// The first error ends it. The pairs before it were passed on.
+    pub fn read_into<F: FnMut(String, String)>(&mut self, mut f: F) -> Result<(), PropertiesError> {
+        for line in self {
+            if let LineContent::KVPair(key, value) = line?.content {
+                f(key, value);
+            }
+        }
+        Ok(())
+    }
+}
+
+impl<R: Read> Iterator for PropertiesIter<R> {
+    type Item = Result<Line, PropertiesError>;
+
+    #[inline]
+    fn next(&mut self) -> Option<Self::Item> {
+        self.feed.next()
+    }
+}
+
+impl<R: Read> FusedIterator for PropertiesIter<R> {}
+
+impl<R> Debug for PropertiesIter<R> {
+    fn fmt(&self, f: &mut Formatter<'_>) -> fmt::Result {
+        f.debug_struct("PropertiesIter").finish_non_exhaustive()
+    }
+}
+
+/// Reads the pairs of a reader into a map: the value of a key is that of the last pair with it. It reads windows-1252, unless
+/// a byte order mark says otherwise; for another encoding, use [`PropertiesIter::read_into`].
+///
+/// ```
+/// let map = todrenval::read(&b"port = 80\nport = 8080\n"[..])?;
+/// assert_eq!(map["port"], "8080");
+/// # Ok::<(), todrenval::PropertiesError>(())
+/// ```
+///
+/// # Errors
+///
+/// A malformed escape, also one in a comment, and a failed read.
+pub fn read<R: Read>(input: R) -> Result<HashMap<String, String>, PropertiesError> {
+    let mut map = HashMap::new();
+    PropertiesIter::new(input).read_into(|key, value| {
+        map.insert(key, value);
+    })?;
+    Ok(map)
+}
