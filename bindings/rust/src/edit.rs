@@ -9,7 +9,7 @@ pub enum Edit<'a> {
     /// ending. If no pair has the key, one is added at the end, with the separator of the last pair and the last line
     /// ending.
     SetValue(&'a str, &'a str),
-    /// The same, but the pair is written anew, as `key=value`. One that is added ends in a line feed.
+    /// The same, but the whole pair becomes `key=value`. One that is added ends in a line feed.
     SetKey(&'a str, &'a str),
     /// The pairs with the key are removed, if there are any.
     RemoveKey(&'a str),
