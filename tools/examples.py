@@ -21,7 +21,7 @@ use byte_blocks::{Byte, Either, LineEndings, find};
 use counted_io::{Counted, CountedRead, CountedWrite, ScriptedReader, ScriptedSink, SinkFault, Tail, send};
 use java_properties::{
     Call, Cause, Comments, ContentRef, Document, Edit, Encoding, GroupKind, LineContent, LineEnding, PropertiesError, PropertiesIter,
-    PropertiesWriter, SourceOptions, Spelling, View, convert, edit_all, edit_with, first_malformed_escape, key_lines, key_lines_of, laws, map_of, malformed_escapes, malformed_escapes_of, read, read_lines, read_sorted, read_source, remove_key, run_calls,
+    PropertiesWriter, SourceOptions, Spelling, View, convert, edit_all, edit_with, key_lines, laws, map_of, malformed_escapes, read, read_lines, read_sorted, read_source, remove_key, run_calls,
     set_key, set_value, value_of, value_with, write, write_sorted, write_source,
 };
 use properties_text::encoding::TextBuffer;

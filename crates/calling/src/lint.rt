@@ -10,8 +10,7 @@ use std::rt::Files;
 /// What is wrong with a file of this name: the first malformed escape of each line, and each repeated key.
 pub fn lint(alloc: Global, name: &str, source: &[u8]) -> Result<Vec<String>, PropertiesError> {
     let mut messages = Vec::new(alloc);
-    let mut input = source;
-    for escape in &malformed_escapes(alloc, &mut input, Encoding::UTF_8)? {
+    for escape in &malformed_escapes(alloc, source, Encoding::UTF_8)? {
         let (number, kind) = (escape.line_number, escape.kind);
         let place = if escape.in_comment {
             " (in a comment)"
@@ -20,8 +19,7 @@ pub fn lint(alloc: Global, name: &str, source: &[u8]) -> Result<Vec<String>, Pro
         };
         messages.push(format!(in alloc; "{name}:{number}: {kind}{place}")?)?;
     }
-    let mut input = source;
-    for key in &key_lines(alloc, &mut input, Encoding::UTF_8)? {
+    for key in &key_lines(alloc, source, Encoding::UTF_8)? {
         let (number, first) = (key.line_number, key.first_line_number);
         if first != number {
             let message = format!(in alloc; "{name}:{number}: this key is in line {first} too")?;

@@ -1,8 +1,9 @@
--- How the keys of a whole input are found, logical line after logical line.
+-- How the keys of a source are found, logical line after logical line.
 use Rattle.std.proofs.Common.{◌≡◌, ◌≢◌, ℕ, true, false, List, [], ◌∷◌, ◌++◌, refl, sym, ap, ap₂, ◌∙◌, inl, inr, subst, append-nil, if◌then◌else◌}
 use Rattle.std.specs.Prelude.{Option, Some, None, Ok, Err, bytes_eq, cond}
 use Rattle.std.specs.Option.{unwrap_or}
 use Rattle.std.specs.Map.{update}
+use Rattle.std.specs.Borrow.{Bor}
 use Rattle.std.specs.BTreeMap.{BTreeMap, UpdatesBy, get_by_text}
 use Rattle.std.specs.Cmp.Lexicographic.{slice_cmp}
 use Rattle.std.specs.Ordering.{nat_cmp}
@@ -12,7 +13,6 @@ use Rattle.std.specs.declared.string.String.{String}
 use Rattle.std.proofs.lemmas.Bool.{cases_Bool}
 use Rattle.std.proofs.lemmas.List.{map-append}
 use Rattle.std.proofs.lemmas.Slice.Eq.{bytes_eq-Decides}
-use Rattle.counted_io.specs.Streams.{Reader}
 use Rattle.properties_format.specs.Encoding.{Encoding}
 use Rattle.properties_format.specs.Lines.{end, Line, HasGroups, joined, first_number}
 use Rattle.properties_format.specs.Computed.Lines.{groups_in}
@@ -23,6 +23,7 @@ use Rattle.properties_format.specs.Computed.Items.{outcome_of}
 use Rattle.properties_format.specs.Computed.Found.{found_in}
 use Rattle.properties_format.specs.Computed.Body.{outcome_key}
 use Rattle.properties_format.specs.ItemsToCome.{ReaderState, start}
+use Rattle.properties_format.proofs.Groups.Input.{groups_in-meets}
 use Rattle.properties_format.proofs.Found.{found-in_groups, found-only, found_in-append}
 use Rattle.properties_format.proofs.Changed.Maps.{other-test}
 use Rattle.properties_lines.specs.LineJoiner.{LineState, JoinsNext}
@@ -36,10 +37,12 @@ use Rattle.properties_items.specs.BorrowedItems.{found_content, FindsIn, IsNoIte
 use Rattle.properties_items.specs.declared.found.Found as found
 use Rattle.properties_items.proofs.FoundItems.{found-item}
 use Rattle.properties_items.proofs.TextMaps.Values.{at_chars-sorted, at_chars-updated}
-use Rattle.java_properties.specs.Findings.{KeyPlace, keys_from, HasNoKey, HasFirstNumber, KeyEntry, AreFirstsOf, AreKeyLines, key_line_entry, key_line_entries, FindsAllKeys}
+use Rattle.java_properties.specs.Findings.{KeyPlace, keys_from, HasNoKey, HasFirstNumber, KeyEntry, AreFirstsOf, AreKeyLines, key_line_entry, key_line_entries, HasKeys}
 use Rattle.java_properties.specs.Private.LineByLine.{number_at, KeepsFirst, AddsKeyLine, AddsIfKey, PushesKey, Collected}
 use Rattle.properties_items.specs.declared.findings.KeyLine as code
-use Rattle.java_properties.proofs.MalformedEscapes.{collected-start, collected-next, collected-lines, collected-groups}
+use Rattle.java_properties.proofs.MalformedEscapes.{collected-start, collected-next}
+use Rattle.java_properties.proofs.SliceReads.{slice_reader, slice_of, collected-slice}
+use Rattle.java_properties.proofs.SourceFindings.{slice-groups}
 
 -- ---- the keys, computed
 
@@ -288,25 +291,30 @@ keys_in-push gs g =
     ∙ ap (λ v. keys_in gs ++ v) (same-from (first_number g) (outcome_of (joined g)) [])
 
 -- These keys were found in the groups that came, and under each the number of its first line is kept.
-pub record FoundKeys {R Z : Type 0} (reader : Reader R) (e : Encoding) (from : R) (found : List code.KeyLine) (firsts : List (String Z × ℕ)) (state : ReaderState) (to : R) : Type 0 where
+pub record FoundKeys {Z : Type 0} (e : Encoding) (source : List ℕ) (found : List code.KeyLine) (firsts : List (String Z × ℕ)) (state : ReaderState)
+    (left : List ℕ) : Type 0 where
   pub groups : List (List Line)
-  pub collected : Collected reader e from groups state to
+  pub collected : Collected slice_reader e (slice_of source) groups state (slice_of left)
   pub entries : key_line_entries found ≡ key_entries (keys_in groups)
   pub kept : (key : List ℕ) → number_at firsts key ≡ first_place (keys_in groups) key
 
-module _ {R Z : Type 0} {reader : Reader R} where
-  pub keys-start : (e : Encoding) (from : R) (found : List code.KeyLine) (firsts : List (String Z × ℕ)) (state : ReaderState)
-      → found ≡ [] → firsts ≡ [] → state ≡ start e → FoundKeys reader e from found firsts state from
-  keys-start e from found firsts state h i k = rw (h, i, k) (record { groups = []; collected = collected-start e from; entries = refl; kept = λ key. refl })
+module _ {Z : Type 0} {e : Encoding} {source : List ℕ} where
+  pub keys-start : (found : List code.KeyLine) (firsts : List (String Z × ℕ)) (state : ReaderState) → found ≡ [] → firsts ≡ [] → state ≡ start e
+      → FoundKeys e source found firsts state source
+  keys-start found firsts state h i k =
+      rw (h, i, k) (record { groups = []; collected = collected-start e (slice_of source); entries = refl; kept = λ key. refl })
 
   -- a logical line came
-  pub keys-next : {e : Encoding} {from to next : R} {old found : List code.KeyLine} {firsts firsts' : List (String Z × ℕ)} {s : ReaderState}
-      → (number : ℕ) (new : LineState) → FoundKeys reader e from old firsts s to → (n : JoinsNext reader s to number new next)
-      → PushesKey number (chars new.line) old firsts (Ok tt) found firsts' → FoundKeys reader e from found firsts' new.state next
-  keys-next {e} {from} {next = next} {old} {found} {firsts} {firsts'} number new h n a = by (outcome_key (outcome_of (chars new.line))) refl
+  pub keys-next : {to next : Bor (List ℕ)} {old found : List code.KeyLine} {firsts firsts' : List (String Z × ℕ)} {s : ReaderState}
+      → (number : ℕ) (new : LineState) → FoundKeys e source old firsts s to.now → (n : JoinsNext slice_reader s to number new next)
+      → PushesKey number (chars new.line) old firsts (Ok tt) found firsts' → FoundKeys e source found firsts' new.state next.now
+  keys-next {next = next} {old} {found} {firsts} {firsts'} number new h n a = by (outcome_key (outcome_of (chars new.line))) refl
     where
       g : List Line
       g = n.group.first ∷ n.group.others
+
+      later : Collected slice_reader e (slice_of source) (h.groups ++ g ∷ []) new.state (slice_of next.now)
+      later = collected-slice refl (collected-next number new (collected-slice refl h.collected) n)
 
       came : keys_in (h.groups ++ g ∷ []) ≡ keys_in h.groups ++ key_before number (outcome_key (outcome_of (chars new.line))) []
       came =
@@ -314,20 +322,20 @@ module _ {R Z : Type 0} {reader : Reader R} where
           ∙ ap₂ (λ m v. keys_in h.groups ++ key_before m (outcome_key (outcome_of v)) []) (sym n.group.number) (sym n.group.text)
 
       -- without a key
-      skipped : outcome_key (outcome_of (chars new.line)) ≡ None → (found ≡ old) × (firsts' ≡ firsts) → FoundKeys reader e from found firsts' new.state next
+      skipped : outcome_key (outcome_of (chars new.line)) ≡ None → (found ≡ old) × (firsts' ≡ firsts) → FoundKeys e source found firsts' new.state next.now
       skipped none kept =
           let same : keys_in (h.groups ++ g ∷ []) ≡ keys_in h.groups =
           came ∙ ap (λ o. keys_in h.groups ++ key_before number o []) none ∙ append-nil (keys_in h.groups) in
           rw (kept.0, kept.1) (record {
             groups = h.groups ++ g ∷ [];
-            collected = collected-next number new h.collected n;
+            collected = later;
             entries = h.entries ∙ sym (ap key_entries same);
             kept = λ q. h.kept q ∙ sym (ap (λ v. first_place v q) same);
           })
 
       -- with this key
       added : (key : List ℕ) → outcome_key (outcome_of (chars new.line)) ≡ Some key → AddsKeyLine number key old found firsts firsts'
-          → FoundKeys reader e from found firsts' new.state next
+          → FoundKeys e source found firsts' new.state next.now
       added key told adds =
           let keys = keys_in h.groups in
           let k = place number key in
@@ -336,7 +344,7 @@ module _ {R Z : Type 0} {reader : Reader R} where
           let says : key_line_entry adds.line ≡ entry_of keys k = cc (adds.says.0, adds.says.1, first) in
           record {
             groups = h.groups ++ g ∷ [];
-            collected = collected-next number new h.collected n;
+            collected = later;
             entries =
                 ap key_line_entries adds.added
                 ∙ map-append key_line_entry old (adds.line ∷ [])
@@ -350,24 +358,17 @@ module _ {R Z : Type 0} {reader : Reader R} where
                 ∙ sym (ap (λ v. first_place v q) same);
           }
 
-      by : (o : Option (List ℕ)) → outcome_key (outcome_of (chars new.line)) ≡ o → FoundKeys reader e from found firsts' new.state next
+      by : (o : Option (List ℕ)) → outcome_key (outcome_of (chars new.line)) ≡ o → FoundKeys e source found firsts' new.state next.now
       by None told = skipped told (subst (λ o. AddsIfKey number o old found firsts firsts') told a)
       by (Some key) told = added key told (subst (λ o. AddsIfKey number o old found firsts firsts') told a)
 
   -- no more came
-  pub keys-all : {e : Encoding} {from to next : R} {found : List code.KeyLine} {firsts : List (String Z × ℕ)} {s : ReaderState}
-      → FoundKeys reader e from found firsts s to → s.is_done ≡ true → next ≡ to → FindsAllKeys reader e from found next
+  pub keys-all : {left : List ℕ} {found : List code.KeyLine} {firsts : List (String Z × ℕ)} {s : ReaderState} → FoundKeys e source found firsts s left
+      → s.is_done ≡ true → HasKeys e source found
   unfolding key_lines_of
-  keys-all {e} {found = found} h d same =
-      let bytes = h.collected.bytes in
-      let groups : h.groups ≡ groups_in e bytes end = collected-groups h.collected d in
-      let is : key_line_entries found ≡ key_lines_of e bytes = h.entries ∙ ap (λ v. key_entries (keys_in v)) groups in
-      rw same (record {
-        bytes = bytes;
-        read = h.collected.read;
-        ended = h.collected.ended d;
-        has = record {
-          are = subst (AreKeyLines e bytes) (sym h.entries) (groups-key_lines (collected-lines h.collected d));
-          only = λ others k. key_lines_of-only e bytes others k ∙ sym is;
-        };
-      })
+  keys-all {found = found} h done =
+      let is : key_line_entries found ≡ key_lines_of e source = h.entries ∙ ap (λ v. key_entries (keys_in v)) (slice-groups h.collected done) in
+      record {
+        are = subst (AreKeyLines e source) (sym is) (groups-key_lines (groups_in-meets e source end));
+        only = λ others k. key_lines_of-only e source others k ∙ sym is;
+      }

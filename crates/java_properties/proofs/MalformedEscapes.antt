@@ -1,12 +1,13 @@
--- How the malformed escapes of a whole input are found, logical line after logical line.
-use Rattle.std.proofs.Common.{◌≡◌, ℕ, ◌+◌, true, false, List, [], ◌∷◌, ◌++◌, refl, sym, ap, ap₂, ◌∙◌, inl, inr, subst, append_assoc, append-nil}
+-- The groups of an input as they come, and the malformed escapes of their logical lines.
+use Rattle.std.proofs.Common.{◌≡◌, ℕ, true, false, List, [], ◌∷◌, ◌++◌, refl, sym, ap, ap₂, ◌∙◌, inl, inr, subst, append_assoc, append-nil}
 use Rattle.std.specs.Prelude.{◌⊎◌, Option, Some, None, Result, Ok, Err}
 use Rattle.std.proofs.lemmas.List.{map-append}
 use Rattle.std.specs.Str.{chars}
-use Rattle.counted_io.specs.Streams.{Reader, has_ended}
+use Rattle.std.specs.declared.io.Error.{Error}
+use Rattle.counted_io.specs.Streams.{Reader, HasRead, HasFailed}
 use Rattle.counted_io.proofs.Streams.{read-none, read-more, failed-more}
 use Rattle.properties_format.specs.Encoding.{Encoding}
-use Rattle.properties_format.specs.Lines.{InputEnd, end, fault, Line, line_endings, numbered_lines, IsGroups, HasGroups, AreWhole, IsWhole, IsUnfinished, lines_in, joined, first_number}
+use Rattle.properties_format.specs.Lines.{InputEnd, end, Line, numbered_lines, IsGroups, HasGroups, AreWhole, IsWhole, IsUnfinished, lines_in, joined, first_number}
 use Rattle.properties_format.specs.Computed.Encoding.{decoded_of}
 use Rattle.properties_format.specs.Computed.Lines.{lines_of, groups_of, groups_in}
 use Rattle.properties_format.specs.Escapes.{means}
@@ -15,20 +16,17 @@ use Rattle.properties_format.specs.Computed.Escapes.{meaning_of}
 use Rattle.properties_format.specs.Computed.Split.{split_of}
 use Rattle.properties_format.proofs.Escapes.Laws.{meaning_of-plain}
 use Rattle.properties_format.proofs.Split.Unique.{split_of-meets, split_of-only}
-use Rattle.properties_format.specs.Items.{Outcome, ignored, given, broken, Entry, read_fault}
-use Rattle.properties_format.specs.Computed.Items.{comment_outcome, outcome_of, pair_outcome, split_outcome, followed, entries_of}
-use Rattle.properties_format.specs.ItemsToCome.{ReaderState, IsLazyItems, start}
-use Rattle.properties_format.specs.Computed.ItemsToCome.{items_to_come, natural_to_come, last_to_come, text_to_come}
-use Rattle.properties_format.specs.Found as format
-use Rattle.properties_format.specs.Found.{escapes_from, AreMalformedEscapes, AreFound}
+use Rattle.properties_format.specs.Computed.Items.{comment_outcome, outcome_of, pair_outcome, split_outcome}
+use Rattle.properties_format.specs.ItemsToCome.{ReaderState, PassesAll, start}
+use Rattle.properties_format.specs.Computed.ItemsToCome.{natural_to_come}
+use Rattle.properties_format.specs.Found.{escapes_from}
 use Rattle.properties_format.specs.Computed.Found.{escapes_in}
 use Rattle.properties_format.proofs.Groups.Meets.{groups_of-meets}
 use Rattle.properties_format.proofs.Groups.Input.{groups-of_lines, groups_in-only}
-use Rattle.properties_format.proofs.Found.{found-in_groups}
 use Rattle.properties_format.proofs.ItemsToCome.Lines.{natural-done}
-use Rattle.properties_format.proofs.MalformedEscapes.{malformed_escapes_of-meets, malformed_escapes_of-only, escapes_in-append, escapes_in-groups, natural-start, fault-last, cut-line, malformed_escapes_of}
+use Rattle.properties_format.proofs.MalformedEscapes.{escapes_in-append, natural-start}
 use Rattle.properties_lines.specs.LineReader.{Passes}
-use Rattle.properties_lines.specs.LineJoiner.{LineState, JoinsNext, JoinsError, JoinsFault, JoinsTooMany, JoinsNoRoom}
+use Rattle.properties_lines.specs.LineJoiner.{LineState, JoinsNext, JoinsError}
 use Rattle.properties_lines.specs.declared.error.LineError.{LineError}
 use Rattle.properties_lines.proofs.LineJoiner.{passes-start, passes-on, some-come, all-on}
 use Rattle.properties_text.specs.Escaping.{holds_backslash, Checks}
@@ -40,16 +38,11 @@ use Rattle.properties_text.specs.declared.parse.Span.{Span}
 use Rattle.properties_text.proofs.Texts.Resolving.{holds-part, no_backslash}
 use Rattle.properties_text.specs.declared.escape.Malformed as escape
 use Rattle.properties_items.specs.Errors.{IsBareError, IsLineError}
-use Rattle.java_properties.specs.Findings.{escape_record, escape_records, FindsAll, FailsToFind, StopsFinding, BeginsEscapes, FindsFirst, CompletesNone, FindsFirstMalformed}
-use Rattle.java_properties.specs.Private.LineByLine.{ChecksLine, Collected, Found, FindsNextEscape}
+use Rattle.java_properties.specs.Findings.{escape_record, escape_records}
+use Rattle.java_properties.specs.Private.LineByLine.{ChecksLine, Collected}
 use Rattle.properties_items.specs.declared.error.ErrorKind.TheVariants as kind
 use Rattle.properties_items.specs.declared.error.PropertiesError.{PropertiesError}
 use Rattle.properties_items.specs.declared.findings.MalformedEscape.{MalformedEscape}
-
--- Whatever was found before, no more was found.
-abbrev pub FindsNoMore : {R : Type 0} → Reader R → ReaderState → R → ReaderState → R → Type 0
-FindsNoMore {R} reader old from new to =
-    (e : Encoding) (begin : R) (found : List MalformedEscape) → Found reader e begin found old from → Found reader e begin found new to
 
 -- ---- groups
 
@@ -116,40 +109,6 @@ found-push gs g number x old new h i j k =
     ∙ ap₂ (λ v w. v ++ escape_records w) h (ap₂ (λ v w. escapes_from v w (outcome_of w) []) i j)
     ∙ sym (ap escape_records (escapes_in-append gs (g ∷ [])) ∙ map-append escape_record (escapes_in gs) (escapes_in (g ∷ [])))
 
--- the bytes with these groups have this escape first
-begins : (e : Encoding) (bytes : List ℕ) (gs : List (List Line)) (x : format.MalformedEscape) (xs : List format.MalformedEscape)
-    → HasGroups e bytes end gs → escapes_in gs ≡ x ∷ xs → BeginsEscapes e bytes x
-begins e bytes gs x xs h k =
-    let same : malformed_escapes_of e bytes ≡ x ∷ xs = sym (escapes_in-groups e bytes gs h) ∙ k in
-    record {
-      others = xs;
-      are = subst (AreMalformedEscapes e bytes) same (malformed_escapes_of-meets e bytes);
-      only = λ all are. malformed_escapes_of-only e bytes all are ∙ same;
-    }
-
--- ---- groups before a failed read
-
-none-from : (number : ℕ) (x : List ℕ) (outcome : Outcome) (rest : List Entry) (escapes : List format.MalformedEscape) (n : ℕ)
-    → followed number outcome rest ≡ read_fault n ∷ [] → (rest ≡ read_fault n ∷ [] → escapes ≡ []) → escapes_from number x outcome escapes ≡ []
-none-from number x ignored rest escapes n h k = k h
-none-from number x (given content) rest escapes n h k = absurd (cc)
-none-from number x (broken kind) rest escapes n h k = absurd (cc)
-
--- If only the failed read is left to come, no escape of theirs is malformed.
-none-before : (m : ℕ) (gs : List (List Line)) (n : ℕ) → entries_of m fault gs ≡ read_fault n ∷ [] → escapes_in gs ≡ []
-none-before m [] n h = refl
-none-before m (g ∷ gs) n h =
-    none-from (first_number g) (joined g) (outcome_of (joined g)) (entries_of m fault gs) (escapes_in gs) n h (none-before m gs n)
-
-items-groups : (s : ReaderState) (d : List ℕ) → s.is_done ≡ false
-    → items_to_come s d fault ≡ entries_of (s.passed + line_endings (lines_of (text_to_come s d))) fault (groups_of (natural_to_come s d fault) fault)
-unfolding items_to_come natural_to_come
-items-groups s d h = rw h refl
-
-pub records-none : (escapes : List format.MalformedEscape) → [] ≡ escape_records escapes → escapes ≡ []
-records-none [] h = refl
-records-none (x ∷ xs) h = absurd (cc)
-
 -- ---- a logical line
 
 -- what its parts say of it
@@ -197,6 +156,18 @@ plain-none number x none = by (split_of x) (split_of-meets x)
 
 -- ---- the reading
 
+-- A read failed.
+pub record ReadFails {R : Type 0} (reader : Reader R) (from to : R) : Type 0 where
+  pub bytes : List ℕ
+  pub cause : Error
+  pub failed : HasFailed reader from bytes cause to
+
+-- There was no number for another line after those that were read, or memory ran out.
+pub record StopsFinding {R : Type 0} (reader : Reader R) (e : Encoding) (from : R) (error : PropertiesError) (to : R) : Type 0 where
+  pub bytes : List ℕ
+  pub read : HasRead reader from bytes to
+  pub is : PassesAll (start e) bytes ⊎ IsBareError kind.Memory error
+
 module _ {R : Type 0} {reader : Reader R} (e : Encoding) (from : R) where
   pub collected-start : Collected reader e from [] (start e) from
   collected-start = record {
@@ -207,9 +178,6 @@ module _ {R : Type 0} {reader : Reader R} (e : Encoding) (from : R) where
     grouped = whole-groups [] tt;
     ended = λ d. absurd (cc);
   }
-
-  pub found-start : (found : List MalformedEscape) (state : ReaderState) → found ≡ [] → state ≡ start e → Found reader e from found state from
-  found-start found state h k = rw (h, k) (record { groups = []; collected = collected-start; escapes = refl })
 
 module _ {R : Type 0} {reader : Reader R} {e : Encoding} {from to : R} {s : ReaderState} where
   -- one group more came
@@ -226,15 +194,6 @@ module _ {R : Type 0} {reader : Reader R} {e : Encoding} {from to : R} {s : Read
         grouped = groups-next gs n.group.first n.group.others new.state (h.whole n.live) n.group.ends;
         ended = n.ended;
       }
-
-  pub found-next : {next : R} {old : List MalformedEscape} (number : ℕ) (new : LineState) (found : List MalformedEscape)
-      → Found reader e from old s to → (n : JoinsNext reader s to number new next)
-      → found ≡ old ++ escape_records (escapes_from number (chars new.line) (outcome_of (chars new.line)) []) → Found reader e from found new.state next
-  found-next {old = old} number new found h n k = record {
-    groups = h.groups ++ (n.group.first ∷ n.group.others) ∷ [];
-    collected = collected-next number new h.collected n;
-    escapes = found-push h.groups (n.group.first ∷ n.group.others) number (chars new.line) old found h.escapes n.group.number n.group.text k;
-  }
 
   -- others are to come: these groups come before theirs
   pub collected-on : {gs : List (List Line)} (h : Collected reader e from gs s to) → s.is_done ≡ false → (d : List ℕ) (ending : InputEnd)
@@ -264,101 +223,11 @@ module _ {R : Type 0} {reader : Reader R} {e : Encoding} {from to : R} {s : Read
   pub collected-groups : {gs : List (List Line)} (h : Collected reader e from gs s to) → s.is_done ≡ true → gs ≡ groups_in e h.bytes end
   collected-groups {gs = gs} h d = groups_in-only e h.bytes end gs (collected-lines h d)
 
-  pub found-all : {next : R} {found : List MalformedEscape} → Found reader e from found s to → s.is_done ≡ true → next ≡ to → FindsAll reader e from found next
-  found-all h d same =
-      let bytes = h.collected.bytes in
-      rw same (record {
-        bytes = bytes;
-        read = h.collected.read;
-        ended = h.collected.ended d;
-        has = record {
-          escapes = malformed_escapes_of e bytes;
-          are = malformed_escapes_of-meets e bytes;
-          only = malformed_escapes_of-only e bytes;
-          is = h.escapes ∙ ap escape_records (escapes_in-groups e bytes h.groups (collected-lines h.collected d));
-        };
-      })
-
-  -- one escape came: it is the first one
-  found-first : {escape : MalformedEscape} → Found reader e from (escape ∷ []) s to → FindsFirst reader e from escape to
-  found-first {escape} h = by (escapes_in h.groups) refl
-    where
-      bytes : List ℕ
-      bytes = h.collected.bytes
-
-      at : (x : format.MalformedEscape) (xs : List format.MalformedEscape) → escapes_in h.groups ≡ x ∷ xs → Passes (start e) bytes (lines_in h.groups) s
-          → ((d : List ℕ) → BeginsEscapes e (bytes ++ d) x) ⊎ (has_ended reader to ≡ true) × BeginsEscapes e bytes x
-      at x xs k (Passes.going_on live reads) = inl (λ d.
-          let later = groups_of (natural_to_come s d end) end in
-          begins e (bytes ++ d) (h.groups ++ later) x (xs ++ escapes_in later) (collected-on h.collected live d end)
-          (escapes_in-append h.groups later ∙ ap (λ v. v ++ escapes_in later) k))
-      at x xs k (Passes.at_last done gives) = inr (h.collected.ended done, begins e bytes h.groups x xs (collected-lines h.collected done) k)
-
-      by : (all : List format.MalformedEscape) → escapes_in h.groups ≡ all → FindsFirst reader e from escape to
-      by [] k = let none : escape ∷ [] ≡ [] = h.escapes ∙ ap escape_records k in absurd (cc)
-      by (x ∷ xs) k =
-          let one : escape ∷ [] ≡ escape_record x ∷ escape_records xs = h.escapes ∙ ap escape_records k in
-          record { bytes = bytes; escape = x; read = h.collected.read; begins = at x xs k h.collected.passes; is = cc }
-
-  -- a read failed
-  collected-fails : {next : R} {gs : List (List Line)} {why : LineError} {error : PropertiesError} → Collected reader e from gs s to → s.is_done ≡ false
-      → JoinsFault reader (λ bytes ending entries. items_to_come s bytes ending ≡ entries) to why next → IsLineError why error
-      → FailsToFind reader e from error next
-  collected-fails {gs = gs} h live f says = record {
-    bytes = h.bytes ++ f.bytes;
-    cause = f.error;
-    number = f.number;
-    failed = failed-more h.read f.failed;
-    is = rw f.is at says;
-    cut = cut-line e (h.bytes ++ f.bytes) f.number (by-passes h.passes);
-  }
-    where
-      by-passes : Passes (start e) h.bytes (lines_in gs) s → last_to_come (start e) (h.bytes ++ f.bytes) fault ≡ read_fault f.number ∷ []
-      by-passes (Passes.going_on g reads) = (reads.gives f.bytes fault).last ∙ fault-last s f.bytes f.number f.items
-      by-passes (Passes.at_last g gives) = absurd (cc)
-
-  -- there was no number for another line, or no memory
-  collected-stops : {next : R} {gs : List (List Line)} {t : ReaderState} {why : LineError} {error : PropertiesError} → Collected reader e from gs s to
-      → s.is_done ≡ false
-      → JoinsTooMany reader (λ bytes. IsLazyItems s to bytes next) s to why t next ⊎ JoinsNoRoom reader (λ bytes. IsLazyItems s to bytes next) to why next
-      → IsLineError why error → StopsFinding reader e from error next
-  collected-stops h live (inl f) says =
-      record { bytes = h.bytes ++ f.bytes; read = read-more h.read f.read; is = inl (rw f.is at says, all-on (some-come h.passes live) f.passes) }
-  collected-stops h live (inr f) says = record { bytes = h.bytes ++ f.bytes; read = read-more h.read f.read; is = inr (rw f.is at says) }
-
   -- no line came
   pub collected-error : {next : R} {gs : List (List Line)} {t : ReaderState} {why : LineError} {error : PropertiesError} → Collected reader e from gs s to
       → s.is_done ≡ false → JoinsError reader s to why t next → IsLineError why error
-      → FailsToFind reader e from error next ⊎ StopsFinding reader e from error next
-  collected-error h live (inl f) says = inl (collected-fails h live f says)
-  collected-error h live (inr f) says = inr (collected-stops h live f says)
-
-  -- if no escape was found before, none came
-  pub found-stops : {next : R} {found : List MalformedEscape} {t : ReaderState} {why : LineError} {error : PropertiesError} → Found reader e from found s to
-      → s.is_done ≡ false → JoinsError reader s to why t next → IsLineError why error
-      → ((fails : FailsToFind reader e from error next) × (found ≡ [] → CompletesNone e fails.bytes)) ⊎ StopsFinding reader e from error next
-  unfolding collected-fails
-  found-stops h live (inl f) says =
-      let later = groups_of (natural_to_come s f.bytes fault) fault in
-      inl (
-        collected-fails h.collected live f says,
-        λ none. subst (AreFound escapes_from e (h.collected.bytes ++ f.bytes) fault) (
-            escapes_in-append h.groups later
-            ∙ ap₂ (λ v w. v ++ w) (records-none (escapes_in h.groups) (sym none ∙ h.escapes))
-            (none-before _ later f.number (sym (items-groups s f.bytes live) ∙ f.items)))
-            (found-in_groups escapes_from (collected-on h.collected live f.bytes fault)),
-      )
-  found-stops h live (inr f) says = inr (collected-stops h.collected live f says)
-
-  -- there was no memory for what is found
-  pub collected-lost : {next : R} {gs : List (List Line)} {error : PropertiesError} (number : ℕ) (new : LineState) → Collected reader e from gs s to
-      → JoinsNext reader s to number new next → IsBareError kind.Memory error → StopsFinding reader e from error next
-  collected-lost number new h n is = record { bytes = h.bytes ++ n.bytes; read = read-more h.read n.read; is = inr is }
-
--- the search for the next one, where none was found before
-pub first-found : {R : Type 0} {reader : Reader R} {e : Encoding} {from : R} {s : ReaderState} (t : ReaderState) (to : R)
-    (result : Result (Option MalformedEscape) PropertiesError) → Found reader e from [] s from → FindsNextEscape reader s from result t to
-    → FindsFirstMalformed reader e from result to
-first-found {e = e} {from} t to (Ok (Some escape)) h n = found-first (n e from [] h)
-first-found {e = e} {from} t to (Ok None) h n = n e from [] h
-first-found {e = e} {from} t to (Err error) h n = elim (n e from [] h) [ inl f ↦ inl (record { fails = f.0; none = f.1 refl }) | inr f ↦ inr f ]
+      → ReadFails reader from next ⊎ StopsFinding reader e from error next
+  collected-error h live (inl f) says = inl (record { bytes = h.bytes ++ f.bytes; cause = f.error; failed = failed-more h.read f.failed })
+  collected-error h live (inr (inl f)) says =
+      inr (record { bytes = h.bytes ++ f.bytes; read = read-more h.read f.read; is = inl (all-on (some-come h.passes live) f.passes) })
+  collected-error h live (inr (inr f)) says = inr (record { bytes = h.bytes ++ f.bytes; read = read-more h.read f.read; is = inr (rw f.is at says) })

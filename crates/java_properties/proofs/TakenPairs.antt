@@ -44,9 +44,9 @@ use Rattle.properties_editing.specs.declared.source.Comments.{Comments}
 use Rattle.properties_editing.specs.declared.source.Comments.TheVariants.{Read, PassedOver}
 use Rattle.java_properties.specs.Findings.{IsSourceError}
 use Rattle.java_properties.specs.Private.LineByLine.{Collected, TakesPairs, values_after}
-use Rattle.java_properties.proofs.MalformedEscapes.{collected-start, collected-next, collected-on, collected-groups, collected-error}
-use Rattle.java_properties.proofs.SliceReads.{collected-slice, slice_of, slice_reader, slice-read, slice-whole}
-use Rattle.java_properties.proofs.SourceFindings.{slice-error}
+use Rattle.java_properties.proofs.MalformedEscapes.{collected-start, collected-next, collected-on}
+use Rattle.java_properties.proofs.SliceReads.{collected-slice, slice_of, slice_reader, slice-read}
+use Rattle.java_properties.proofs.SourceFindings.{slice-stopped, slice-groups}
 
 -- ---- the malformed escapes that are read
 
@@ -76,7 +76,8 @@ faults-append : (comments : Comments) (gs hs : List (List Line)) → faults_in c
 faults-append comments gs hs = found_in-append (faults_from comments) (from-append comments) gs hs
 
 -- A sound line has none,
-from-sound : (comments : Comments) (number : ℕ) (x : List ℕ) (o : Outcome) → IsSound o ⊎ (passes_over comments x ≡ true) → faults_from comments number x o [] ≡ []
+from-sound : (comments : Comments) (number : ℕ) (x : List ℕ) (o : Outcome) → IsSound o ⊎ (passes_over comments x ≡ true)
+    → faults_from comments number x o [] ≡ []
 from-sound comments number x ignored h = refl
 from-sound comments number x (given content) h = refl
 from-sound comments number x (broken how) (inl h) = absurd h
@@ -110,7 +111,8 @@ abbrev AreOfPairs : List Fault → List MalformedEscape → Type 0
 AreOfPairs [] escapes = AreInComments escapes
 AreOfPairs (f ∷ fs) escapes = IsFirstInPair f.0 f.1 escapes
 
-comment-next : (m : MalformedEscape) (fs : List Fault) (escapes : List MalformedEscape) → m.in_comment ≡ true → AreOfPairs fs escapes → AreOfPairs fs (m ∷ escapes)
+comment-next : (m : MalformedEscape) (fs : List Fault) (escapes : List MalformedEscape) → m.in_comment ≡ true → AreOfPairs fs escapes
+    → AreOfPairs fs (m ∷ escapes)
 comment-next m [] escapes c h = (c, h)
 comment-next m (f ∷ fs) escapes c h = inr (c, h)
 
@@ -214,7 +216,7 @@ came-first {e} {from} {to} {gs} {s} c = by-passes c.passes
         let later = groups_of (natural_to_come s to.now end) end in
         (later, groups_in-only e (c.bytes ++ to.now) end (gs ++ later) (collected-on c live to.now end) ∙ ap (λ v. groups_in e v end) (sym (slice-read c.read)))
     by-passes (Passes.at_last done gives) =
-        ([], append-nil gs ∙ collected-groups c done ∙ ap (λ v. groups_in e v end) (slice-whole c.read (c.ended done)))
+        ([], append-nil gs ∙ slice-groups c done)
 
 module _ {T : Type 0} {Has : T → (List ℕ → Option (List ℕ)) → Type 0} {comments : Comments} {e : Encoding} {from : List ℕ} where
   -- before the first group
@@ -232,16 +234,21 @@ module _ {T : Type 0} {Has : T → (List ℕ → Option (List ℕ)) → Type 0} 
       record {
         groups = h.groups ++ g ∷ [];
         collected = collected-slice refl (collected-next number new (collected-slice refl h.collected) n);
-        none = faults-append comments h.groups (g ∷ []) ∙ ap₂ (λ v w. v ++ w) h.none (from-sound comments (first_number g) (joined g) (outcome_of (joined g)) (rw text at sound));
+        none =
+            faults-append comments h.groups (g ∷ [])
+            ∙ ap₂ (λ v w. v ++ w) h.none (from-sound comments (first_number g) (joined g) (outcome_of (joined g)) (rw text at sound));
         has = subst (Has later) (values-push h.groups g) (rw text at (takes (value_in (pairs_in h.groups)) h.has));
       }
 
   -- no more came
-  pub taken-all : {to : List ℕ} {taker : T} {s : ReaderState} → HasTaken Has comments e from taker s to → s.is_done ≡ true → TakesPairs Has comments e from (Ok taker)
+  pub taken-all : {to : List ℕ} {taker : T} {s : ReaderState} → HasTaken Has comments e from taker s to → s.is_done ≡ true
+      → TakesPairs Has comments e from (Ok taker)
   taken-all h done =
-      let c = h.collected in
-      let is : h.groups ≡ groups_in e from end = collected-groups c done ∙ ap (λ v. groups_in e v end) (slice-whole c.read (c.ended done)) in
-      (value_in (pairs_of e from), subst (λ v. Has _ (value_in (pairs_in v))) is h.has, source-value e from comments (ap (faults_in comments) (sym is) ∙ h.none))
+      let is : h.groups ≡ groups_in e from end = slice-groups h.collected done in (
+        value_in (pairs_of e from),
+        subst (λ v. Has _ (value_in (pairs_in v))) is h.has,
+        source-value e from comments (ap (faults_in comments) (sym is) ∙ h.none),
+      )
 
   -- one came that says nothing of a key
   pub taken-none : {to next : Bor (List ℕ)} {old : T} {s : ReaderState} (number : ℕ) (new : LineState)
@@ -292,5 +299,5 @@ module _ {T : Type 0} {Has : T → (List ℕ → Option (List ℕ)) → Type 0} 
   pub taken-error : {to next : Bor (List ℕ)} {taker : T} {s t : ReaderState} {why : LineError} (error : PropertiesError) → length from + 1 < 2 ^ 64
       → HasTaken Has comments e from taker s to.now → s.is_done ≡ false → JoinsError slice_reader s to why t next → IsLineError why error
       → IsSourceError comments e from error
-  taken-error {next = next} error small h live f says =
-      source-memory e from comments _ (slice-error e (slice_of from) next _ small (collected-error (collected-slice refl h.collected) live f says))
+  taken-error error small h live f says =
+      source-memory e from comments error (slice-stopped error small h.collected live f says)

@@ -1,14 +1,11 @@
--- What is found in an input: malformed escapes and the lines of keys, and the reader afterwards; and in a source.
-use Rattle.std.specs.Prelude.{◌≡◌, ◌⊎◌, ℕ, true, List, [], ◌∷◌, ◌++◌, map, Option, Some, None, Result, Ok, Err, ◌≢◌}
-use Rattle.std.specs.declared.io.Error.{Error}
+-- What is found in a source: malformed escapes, the lines of keys, and the values of keys.
+use Rattle.std.specs.Prelude.{◌≡◌, ◌⊎◌, ℕ, List, [], ◌∷◌, ◌++◌, map, Option, Result, Ok, Err, ◌≢◌}
 use Rattle.std.specs.declared.vec.Vec.{Vec}
-use Rattle.counted_io.specs.Streams.{Reader, HasRead, HasFailed, has_ended}
 use Rattle.properties_format.specs.Encoding.{Encoding}
-use Rattle.properties_format.specs.Lines.{fault, end}
-use Rattle.properties_format.specs.Found.{AreFound, escapes_from, AreMalformedEscapes, IsCutLine}
+use Rattle.properties_format.specs.Lines.{end}
+use Rattle.properties_format.specs.Found.{AreFound, AreMalformedEscapes}
 use Rattle.properties_format.specs.Found as format
-use Rattle.properties_format.specs.ItemsToCome.{start, PassesAll}
-use Rattle.properties_items.specs.Errors.{IsBareError, IsStreamError, malformed_kind, IsMalformed}
+use Rattle.properties_items.specs.Errors.{IsBareError, malformed_kind, IsMalformed}
 use Rattle.properties_items.specs.declared.error.ErrorKind.TheVariants as kind
 use Rattle.properties_items.specs.declared.error.PropertiesError.{PropertiesError}
 use Rattle.properties_items.specs.declared.findings.MalformedEscape.{MalformedEscape}
@@ -28,7 +25,7 @@ use Rattle.properties_editing.specs.declared.source.Comments.{Comments}
 use Rattle.properties_editing.specs.declared.source.Comments.TheVariants.{Read, PassedOver}
 use Rattle.properties_editing.specs.declared.source.SourceOptions.{SourceOptions}
 
--- ---- The malformed escapes of an input, all of them or the first one.
+-- ---- The malformed escapes of a source.
 
 -- an escape of the format, as the code represents it
 abbrev pub escape_record : format.MalformedEscape → MalformedEscape
@@ -44,67 +41,12 @@ pub record HasMalformed (e : Encoding) (source : List ℕ) (found : List Malform
   pub only : (others : List format.MalformedEscape) → AreMalformedEscapes e source others → others ≡ escapes
   pub is : found ≡ escape_records escapes
 
--- The reader was read to its end, and these are the malformed escapes of its bytes.
-pub record FindsAll {R : Type 0} (reader : Reader R) (e : Encoding) (from : R) (found : List MalformedEscape) (to : R) : Type 0 where
-  pub bytes : List ℕ
-  pub read : HasRead reader from bytes to
-  pub ended : has_ended reader to ≡ true
-  pub has : HasMalformed e bytes found
+-- The result of finding them. It fails only if memory runs out.
+abbrev pub FindsMalformedIn : {Z : Type 0} → Encoding → List ℕ → Result (Vec MalformedEscape Z) PropertiesError → Type 0
+FindsMalformedIn e source (Ok found) = HasMalformed e source found.items
+FindsMalformedIn e source (Err error) = IsBareError kind.Memory error
 
--- A read failed in the line with this number, with the reader's own error.
-pub record FailsToFind {R : Type 0} (reader : Reader R) (e : Encoding) (from : R) (error : PropertiesError) (to : R) : Type 0 where
-  pub bytes : List ℕ
-  pub cause : Error
-  pub number : ℕ
-  pub failed : HasFailed reader from bytes cause to
-  pub is : IsStreamError (Some number) cause error
-  pub cut : IsCutLine e bytes number
-
--- There was no number for another line after those that were read, or memory ran out.
-pub record StopsFinding {R : Type 0} (reader : Reader R) (e : Encoding) (from : R) (error : PropertiesError) (to : R) : Type 0 where
-  pub bytes : List ℕ
-  pub read : HasRead reader from bytes to
-  pub is : IsBareError kind.TooManyLines error × PassesAll (start e) bytes ⊎ IsBareError kind.Memory error
-
--- The result of searching for malformed escapes. Ok is returned only at the reader's own end.
-abbrev pub FindsMalformed : {R Z : Type 0} → Reader R → Encoding → R → Result (Vec MalformedEscape Z) PropertiesError → R → Type 0
-FindsMalformed reader e from (Ok found) to = FindsAll reader e from found.items to
-FindsMalformed reader e from (Err error) to = FailsToFind reader e from error to ⊎ StopsFinding reader e from error to
-
--- ---- the first one
-
--- The malformed escapes of these bytes begin with this one, and no other list of them is right.
-pub record BeginsEscapes (e : Encoding) (bytes : List ℕ) (escape : format.MalformedEscape) : Type 0 where
-  pub others : List format.MalformedEscape
-  pub are : AreMalformedEscapes e bytes (escape ∷ others)
-  pub only : (all : List format.MalformedEscape) → AreMalformedEscapes e bytes all → all ≡ escape ∷ others
-
--- This is the first malformed escape of the bytes that were read, whatever comes after them; or of the whole input, if
--- the reader is at its end.
-pub record FindsFirst {R : Type 0} (reader : Reader R) (e : Encoding) (from : R) (found : MalformedEscape) (to : R) : Type 0 where
-  pub bytes : List ℕ
-  pub escape : format.MalformedEscape
-  pub read : HasRead reader from bytes to
-  pub begins : ((d : List ℕ) → BeginsEscapes e (bytes ++ d) escape) ⊎ (has_ended reader to ≡ true) × BeginsEscapes e bytes escape
-  pub is : found ≡ escape_record escape
-
--- The logical lines that end within these bytes have no malformed escape.
-abbrev pub CompletesNone : Encoding → List ℕ → Type 0
-CompletesNone e bytes = AreFound escapes_from e bytes fault []
-
--- A read failed, and no malformed escape came before.
-pub record FailsBeforeFirst {R : Type 0} (reader : Reader R) (e : Encoding) (from : R) (error : PropertiesError) (to : R) : Type 0 where
-  pub fails : FailsToFind reader e from error to
-  pub none : CompletesNone e fails.bytes
-
--- The result of searching for the first malformed escape. None is returned only at the reader's own end, and if there
--- is none.
-abbrev pub FindsFirstMalformed : {R : Type 0} → Reader R → Encoding → R → Result (Option MalformedEscape) PropertiesError → R → Type 0
-FindsFirstMalformed reader e from (Ok (Some escape)) to = FindsFirst reader e from escape to
-FindsFirstMalformed reader e from (Ok None) to = FindsAll reader e from [] to
-FindsFirstMalformed reader e from (Err error) to = FailsBeforeFirst reader e from error to ⊎ StopsFinding reader e from error to
-
--- ---- The keys of an input, each with its line and the line where the key comes first.
+-- ---- The keys of a source, each with its line and the line where the key comes first.
 -- Source: java.util.Properties of Java SE 7, load.
 
 -- the key of a pair, and the number of the pair's first line
@@ -169,24 +111,7 @@ pub record HasKeys (e : Encoding) (source : List ℕ) (found : List code.KeyLine
   pub are : AreKeyLines e source (key_line_entries found)
   pub only : (others : List KeyEntry) → AreKeyLines e source others → others ≡ key_line_entries found
 
--- The reader was read to its end, and these are the keys of its bytes.
-pub record FindsAllKeys {R : Type 0} (reader : Reader R) (e : Encoding) (from : R) (found : List code.KeyLine) (to : R) : Type 0 where
-  pub bytes : List ℕ
-  pub read : HasRead reader from bytes to
-  pub ended : has_ended reader to ≡ true
-  pub has : HasKeys e bytes found
-
--- The result of finding the keys. Ok is returned only at the reader's own end.
-abbrev pub FindsKeys : {R Z : Type 0} → Reader R → Encoding → R → Result (Vec code.KeyLine Z) PropertiesError → R → Type 0
-FindsKeys reader e from (Ok found) to = FindsAllKeys reader e from found.items to
-FindsKeys reader e from (Err error) to = FailsToFind reader e from error to ⊎ StopsFinding reader e from error to
-
--- ---- The malformed escapes and the keys of a source. Finding them fails only if memory runs out.
-
-abbrev pub FindsMalformedIn : {Z : Type 0} → Encoding → List ℕ → Result (Vec MalformedEscape Z) PropertiesError → Type 0
-FindsMalformedIn e source (Ok found) = HasMalformed e source found.items
-FindsMalformedIn e source (Err error) = IsBareError kind.Memory error
-
+-- The result of finding them. It fails only if memory runs out.
 abbrev pub FindsKeysIn : {Z : Type 0} → Encoding → List ℕ → Result (Vec code.KeyLine Z) PropertiesError → Type 0
 FindsKeysIn e source (Ok found) = HasKeys e source found.items
 FindsKeysIn e source (Err error) = IsBareError kind.Memory error

@@ -16,11 +16,10 @@ mod keys;
 mod lines;
 mod lookup;
 mod read_into;
-mod source_findings;
 
 use crate::iter::items::ItemReader;
 use counted_io::CountedRead;
-pub use escapes::{first_malformed_escape, malformed_escapes};
+pub use escapes::malformed_escapes;
 pub use keys::key_lines;
 pub use lines::{Stopped, read_lines};
 pub use lookup::{map_of, value_of, value_with};
@@ -29,7 +28,6 @@ use properties_items::error::PropertiesError;
 use properties_items::found::Found;
 use properties_items::line::Line;
 use properties_text::encoding::Encoding;
-pub use source_findings::{key_lines_of, malformed_escapes_of};
 use std::alloc::Global;
 use std::marker::Model;
 

@@ -28,8 +28,7 @@ mod writer;
 pub use converting::convert;
 pub use copy::CopyError;
 pub use iter::{
-    PropertiesIter, Stopped, first_malformed_escape, key_lines, key_lines_of, malformed_escapes,
-    malformed_escapes_of, map_of, read_lines, value_of, value_with,
+    PropertiesIter, Stopped, key_lines, malformed_escapes, map_of, read_lines, value_of, value_with,
 };
 pub use maps::{read, read_sorted, write, write_sorted};
 pub use properties_editing::{

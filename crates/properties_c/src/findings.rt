@@ -10,8 +10,7 @@ ghost use Rattle.properties_c.specs.Private.Results.{found_bytes, kind_of_findin
 
 use crate::numbers::push_number;
 use java_properties::{
-    Encoding, ErrorKind, KeyLine, MalformedEscape, PropertiesError, key_lines_of,
-    malformed_escapes_of,
+    Encoding, ErrorKind, KeyLine, MalformedEscape, PropertiesError, key_lines, malformed_escapes,
 };
 use std::alloc::{AllocError, Global};
 
@@ -27,8 +26,8 @@ pub fn findings_in(
 ) -> Result<Vec<u8>, PropertiesError>
     ensures { FindsAll (encoding_of encoding) source.now result }
 {
-    let escapes = malformed_escapes_of(alloc, source, encoding)?;
-    let keys = key_lines_of(alloc, source, encoding)?;
+    let escapes = malformed_escapes(alloc, source, encoding)?;
+    let keys = key_lines(alloc, source, encoding)?;
     let mut bytes = Vec::new(alloc);
     push_escapes(&mut bytes, &escapes)?;
     push_repeats(&mut bytes, &keys)?;

@@ -10,14 +10,13 @@ use Rattle.properties_format.specs.Items.{broken, comment, pair, ignored, given}
 use Rattle.properties_format.specs.Found.{escapes_from}
 use Rattle.properties_format.specs.ItemsToCome.{ReaderState, start}
 use Rattle.properties_format.specs.Computed.Items.{outcome_of}
-use Rattle.properties_format.specs.Computed.Found.{escapes_in}
 use Rattle.properties_format.specs.Computed.Body.{outcome_key}
 use Rattle.properties_lines.specs.LineReader.{Passes}
 use Rattle.properties_text.specs.Escaping.{malformed_in}
 use Rattle.properties_text.specs.declared.escape.Malformed.{Malformed}
 use Rattle.properties_items.specs.Errors.{IsBareError}
 use Rattle.properties_items.specs.Texts.{characters}
-use Rattle.java_properties.specs.Findings.{escape_records, FindsAll, FailsToFind, StopsFinding, CompletesNone, IsSourceError}
+use Rattle.java_properties.specs.Findings.{escape_records, IsSourceError}
 use Rattle.properties_editing.specs.Documents.{HasValueFor}
 use Rattle.properties_editing.specs.declared.source.Comments.{Comments}
 use Rattle.properties_items.specs.declared.error.ErrorKind.TheVariants as kind
@@ -84,23 +83,6 @@ pub record Collected {R : Type 0} (reader : Reader R) (e : Encoding) (from : R) 
   pub whole : state.is_done ≡ false → AreWhole groups
   pub grouped : IsGroups (lines_in groups) end groups
   pub ended : state.is_done ≡ true → has_ended reader to ≡ true
-
--- and these escapes were found in them
-pub record Found {R : Type 0} (reader : Reader R) (e : Encoding) (from : R) (found : List MalformedEscape) (state : ReaderState) (to : R) : Type 0 where
-  pub groups : List (List Line)
-  pub collected : Collected reader e from groups state to
-  pub escapes : found ≡ escape_records (escapes_in groups)
-
--- The next malformed escape, after any others that were found before; or those were all; or no line came, and if none
--- were found before, none came.
-abbrev pub FindsNextEscape : {R : Type 0} → Reader R → ReaderState → R → Result (Option MalformedEscape) PropertiesError → ReaderState → R → Type 0
-FindsNextEscape {R} reader old from (Ok (Some escape)) new to =
-    (e : Encoding) (begin : R) (found : List MalformedEscape) → Found reader e begin found old from → Found reader e begin (found ++ escape ∷ []) new to
-FindsNextEscape {R} reader old from (Ok None) new to =
-    (e : Encoding) (begin : R) (found : List MalformedEscape) → Found reader e begin found old from → FindsAll reader e begin found to
-FindsNextEscape {R} reader old from (Err error) new to =
-    (e : Encoding) (begin : R) (found : List MalformedEscape) → Found reader e begin found old from
-    → ((fails : FailsToFind reader e begin error to) × (found ≡ [] → CompletesNone e fails.bytes)) ⊎ StopsFinding reader e begin error to
 
 -- ---- What is built for a logical line that is copied.
 

@@ -1,17 +1,13 @@
-// Finds the malformed escapes of an input.
+// Finds the malformed escapes of a source.
 
-ghost use Rattle.std.specs.Prelude.{◌≡◌, ◌<◌, None, IfOk, OnSome};
 ghost use Rattle.std.specs.Str.{chars};
-ghost use Rattle.counted_io.specs.Streams.{IsSameReader};
 ghost use Rattle.properties_text.specs.Encoding.{encoding_of};
 ghost use Rattle.properties_text.specs.Parsing.{bytes_in, IsSpan};
 ghost use Rattle.properties_text.specs.Escaping.{Checks};
 ghost use Rattle.properties_text.specs.declared.encoding.line_encoding.LineEncoding.TheVariants.{Utf8};
-ghost use Rattle.properties_lines.specs.LineReader.{lines_left};
-ghost use Rattle.java_properties.specs.Findings.{FindsFirstMalformed, FindsMalformed};
-ghost use Rattle.java_properties.specs.Private.LineByLine.{ChecksLine, FindsLineEscape, FindsNextEscape};
+ghost use Rattle.java_properties.specs.Findings.{FindsMalformedIn};
+ghost use Rattle.java_properties.specs.Private.LineByLine.{ChecksLine, FindsLineEscape};
 
-use counted_io::CountedRead;
 use properties_items::error::{PropertiesError, make};
 use properties_items::findings::MalformedEscape;
 use properties_lines::continuation::is_comment;
@@ -21,81 +17,37 @@ use properties_text::escape::{Malformed, check_escapes};
 use properties_text::parse::{ParsedSpans, Span, parse_spans};
 use std::alloc::Global;
 
-/// Reads an input to its end and returns the first malformed escape of each logical line that has one, in order.
+/// Returns the first malformed escape of each logical line of a source that has one, in order.
 ///
-/// It fails if the reader fails, if there are too many lines to number, or if memory runs out. A byte order mark at the
-/// front overrides the encoding.
+/// It fails only if memory runs out. A byte order mark at the front overrides the encoding.
 ///
 /// ```text
-/// let mut input: &[u8] = b"# C:\\users\na = \\u00e9\nb = \\u12";
-/// for escape in &malformed_escapes(alloc, &mut input, Encoding::UTF_8)? {
-///     println!(rt; "{}: {}", escape.line_number, escape.kind)?; // of lines 1 and 3
+/// for escape in &malformed_escapes(alloc, b"# C:\\users\na = \\u12", Encoding::UTF_8)? {
+///     println!(rt; "{}: {}", escape.line_number, escape.kind)?; // of lines 1 and 2
 /// }
 /// ```
-pub fn malformed_escapes<R: CountedRead>(
+pub fn malformed_escapes(
     alloc: Global,
-    input: &mut R,
+    source: &[u8],
     encoding: Encoding,
 ) -> Result<Vec<MalformedEscape>, PropertiesError>
-    ensures finds { FindsMalformed R.CountedRead (encoding_of encoding) input.old result input.new }
-    ensures same_reader { IsSameReader R.CountedRead input.old input.new }
+    ensures { FindsMalformedIn (encoding_of encoding) source.now result }
 {
+    let mut input = source;
     let mut lines = LineJoiner::new(alloc, encoding);
     let mut escapes = Vec::new(alloc);
-    while let Some(escape) = next_malformed(&mut lines, input)? {
-        escapes.push(escape)?;
-    }
-    Ok(escapes)
-}
-
-/// Reads an input up to its first malformed escape and returns it, or `None` if the whole input has none.
-///
-/// It is the first one that [`malformed_escapes`] would return, whatever comes after the lines that were read: nothing
-/// is read once its logical line is known. It fails if the reader fails before that, if there are too many lines to
-/// number, or if memory runs out. A byte order mark at the front overrides the encoding.
-///
-/// ```text
-/// let mut input: &[u8] = b"# greetings\na = \\u12\nb = \\uzzzz";
-/// match first_malformed_escape(alloc, &mut input, Encoding::UTF_8)? {
-///     Some(escape) => println!(rt; "{}: {}", escape.line_number, escape.kind)?, // of line 2
-///     None => println!(rt; "all escapes are well-formed")?,
-/// }
-/// ```
-pub fn first_malformed_escape<R: CountedRead>(
-    alloc: Global,
-    input: &mut R,
-    encoding: Encoding,
-) -> Result<Option<MalformedEscape>, PropertiesError>
-    ensures finds { FindsFirstMalformed R.CountedRead (encoding_of encoding) input.old result input.new }
-    ensures same_reader { IsSameReader R.CountedRead input.old input.new }
-{
-    let mut lines = LineJoiner::new(alloc, encoding);
-    next_malformed(&mut lines, input)
-}
-
-// Goes on to the next logical line that has a malformed escape and returns the first one. Returns `None` at the end.
-#[inline(always)]
-fn next_malformed<R: CountedRead>(
-    lines: &mut LineJoiner,
-    input: &mut R,
-) -> Result<Option<MalformedEscape>, PropertiesError>
-    requires { lines.old.error ≡ None }
-    ensures finds { FindsNextEscape R.CountedRead lines.old.at.state input.old result lines.new.at.state input.new }
-    ensures error { lines.new.error ≡ None }
-    ensures nearer { IfOk result (λ o. OnSome o (lines_left lines.new.at.state < lines_left lines.old.at.state)) }
-    ensures same_reader { IsSameReader R.CountedRead input.old input.new }
-{
-    while let Some(number) = lines.next_text(input) {
+    while let Some(number) = lines.next_text(&mut input) {
         // A line without a backslash has no escape.
         if !lines.has_backslash() {
             continue;
         }
-        if let Some(escape) = malformed_in(number, lines.line()) {
-            return Ok(Some(escape));
-        }
+        let Some(escape) = malformed_in(number, lines.line()) else {
+            continue;
+        };
+        escapes.push(escape)?;
     }
     lines.finish()?;
-    Ok(None)
+    Ok(escapes)
 }
 
 // Returns the first malformed escape of a logical line that begins in the line with this number, if it has one.

@@ -1,16 +1,14 @@
-// The keys of an input, each with its line number.
+// The keys of a source, each with its line number.
 
 ghost use Rattle.std.specs.Prelude.{IfOk, OnOk};
 ghost use Rattle.std.specs.Str.{chars};
 ghost use Rattle.std.specs.String.{string_cmp};
 ghost use Rattle.std.specs.BTreeMap.{IsOrdered};
-ghost use Rattle.counted_io.specs.Streams.{IsSameReader};
 ghost use Rattle.properties_text.specs.Encoding.{encoding_of};
 ghost use Rattle.properties_items.specs.Texts.{characters};
-ghost use Rattle.java_properties.specs.Findings.{FindsKeys};
+ghost use Rattle.java_properties.specs.Findings.{FindsKeysIn};
 ghost use Rattle.java_properties.specs.Private.LineByLine.{AddsKeyLine, FindsLineKey, KeepsFirst, PushesKey};
 
-use counted_io::CountedRead;
 use properties_items::error::{ErrorKind, PropertiesError, make};
 use properties_items::findings::KeyLine;
 use properties_items::found::{find_escaped, item_key};
@@ -20,28 +18,26 @@ use properties_text::escape::UnescapeError;
 use std::alloc::{AllocError, Global};
 use std::collections::BTreeMap;
 
-/// Reads an input to its end and returns the key of each pair, in order. Pairs with a malformed escape are left out.
+/// Returns the key of each pair of a source, in order. Pairs with a malformed escape are left out.
 ///
-/// It fails if the reader fails, if there are too many lines to number, or if memory runs out. A byte order mark at the
-/// front overrides the encoding.
+/// It fails only if memory runs out. A byte order mark at the front overrides the encoding.
 ///
 /// ```text
-/// let mut input: &[u8] = b"# the front door\nport = 80\nhost = a\nport = 81";
-/// let keys = key_lines(alloc, &mut input, Encoding::UTF_8)?;
-/// // They are `port` in line 2, `host` in line 3, and `port` in line 4, which line 2 has first.
+/// let keys = key_lines(alloc, b"port = 80\nhost = a\nport = 81", Encoding::UTF_8)?;
+/// // They are `port` in line 1, `host` in line 2, and `port` in line 3, which line 1 has first.
 /// ```
-pub fn key_lines<R: CountedRead>(
+pub fn key_lines(
     alloc: Global,
-    input: &mut R,
+    source: &[u8],
     encoding: Encoding,
 ) -> Result<Vec<KeyLine>, PropertiesError>
-    ensures finds { FindsKeys R.CountedRead (encoding_of encoding) input.old result input.new }
-    ensures same_reader { IsSameReader R.CountedRead input.old input.new }
+    ensures { FindsKeysIn (encoding_of encoding) source.now result }
 {
+    let mut input = source;
     let mut lines = LineJoiner::new(alloc, encoding);
     let mut keys = Vec::new(alloc);
     let mut firsts = BTreeMap::new(alloc);
-    while let Some(number) = lines.next_text(input) {
+    while let Some(number) = lines.next_text(&mut input) {
         push_key(alloc, &mut keys, &mut firsts, number, lines.line())?;
     }
     lines.finish()?;
@@ -57,7 +53,8 @@ fn push_key(
     line: &str,
 ) -> Result<(), PropertiesError>
     requires { IsOrdered string_cmp firsts.old }
-    ensures pushes { PushesKey line_number (chars line.now) keys.old.items firsts.old.entries result keys.new.items firsts.new.entries }
+    ensures pushes { PushesKey line_number (chars line.now) keys.old.items firsts.old.entries result
+        keys.new.items firsts.new.entries }
     ensures ordered { IsOrdered string_cmp firsts.new }
 {
     match key_in(alloc, line_number, line)? {
@@ -86,7 +83,8 @@ fn add_key(
     key: String,
 ) -> Result<(), AllocError>
     requires { IsOrdered string_cmp firsts.old }
-    ensures adds { OnOk result (AddsKeyLine line_number (characters key) keys.old.items keys.new.items firsts.old.entries firsts.new.entries) }
+    ensures adds { OnOk result (AddsKeyLine line_number (characters key) keys.old.items keys.new.items
+        firsts.old.entries firsts.new.entries) }
     ensures ordered { IsOrdered string_cmp firsts.new }
 {
     let first_line_number = keep_first(firsts, line_number, &key)?;
@@ -105,7 +103,8 @@ fn keep_first(
     key: &String,
 ) -> Result<usize, AllocError>
     requires { IsOrdered string_cmp firsts.old }
-    ensures keeps { IfOk result (KeepsFirst line_number (characters key.now) firsts.old.entries firsts.new.entries) }
+    ensures keeps { IfOk result
+        (KeepsFirst line_number (characters key.now) firsts.old.entries firsts.new.entries) }
     ensures ordered { IsOrdered string_cmp firsts.new }
 {
     if let Some(first) = firsts.get(key.as_str()) {

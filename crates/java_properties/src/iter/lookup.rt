@@ -100,7 +100,8 @@ trait PairTaker: Drop {
 
     // Takes a pair.
     fn take(&mut self, alloc: Global, key: &str, value: &str) -> Result<(), AllocError>
-        ensures { OnOk result ((first : Self) (values : List ℕ → Option (List ℕ)) → has first self.old values
+        ensures { OnOk result ((first : Self) (values : List ℕ → Option (List ℕ))
+            → has first self.old values
             → has first self.new (update bytes_eq values (chars key.now) (Some (chars value.now)))) };
 }
 
@@ -112,7 +113,8 @@ struct Sought<'a> {
 }
 
 impl PairTaker for Sought<'_> {
-    ghost has = { λ first now values. IsUtf8 first.key.now × (now.key ≡ first.key) × (option_map characters now.value ≡ values (chars first.key.now)) };
+    ghost has = { λ first now values. IsUtf8 first.key.now × (now.key ≡ first.key)
+        × (option_map characters now.value ≡ values (chars first.key.now)) };
 
     #[inline(always)]
     fn take(&mut self, alloc: Global, key: &str, value: &str) -> Result<(), AllocError> {
@@ -125,7 +127,8 @@ impl PairTaker for Sought<'_> {
 }
 
 impl PairTaker for BTreeMap<String, String> {
-    ghost has = { λ first now values. IsOrdered string_cmp now × ((key : List ℕ) → value_at now.entries key ≡ values key) };
+    ghost has = { λ first now values. IsOrdered string_cmp now
+        × ((key : List ℕ) → value_at now.entries key ≡ values key) };
 
     fn take(&mut self, alloc: Global, key: &str, value: &str) -> Result<(), AllocError> {
         let key = String::from_str(alloc, key)?;
@@ -143,7 +146,8 @@ fn take_pairs<T: PairTaker>(
     mut taker: T,
 ) -> Result<T, PropertiesError>
     requires { T.has taker taker (λ key. None) }
-    ensures { TakesPairs (T.has taker) options.comments (encoding_of options.encoding) source.now result }
+    ensures { TakesPairs (T.has taker)
+        options.comments (encoding_of options.encoding) source.now result }
 {
     let mut input = source;
     let mut lines = LineJoiner::new(alloc, options.encoding);
@@ -178,8 +182,9 @@ fn take_found<T: PairTaker>(
     line: &str,
 ) -> Result<(), AllocError>
     requires { IsFoundIn line.now found.now }
-    ensures { OnOk result ((first : T) (values : List ℕ → Option (List ℕ)) → T.has first taker.old values
-        → T.has first taker.new (values_after (outcome_pair (given (found_content line.now found.now.content))) values)) }
+    ensures { let pair = outcome_pair (given (found_content line.now found.now.content)) in
+        OnOk result ((first : T) (values : List ℕ → Option (List ℕ)) → T.has first taker.old values
+        → T.has first taker.new (values_after pair values)) }
 {
     match pair_texts(found, line) {
         None => Ok(()),

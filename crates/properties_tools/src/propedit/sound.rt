@@ -6,7 +6,7 @@ ghost use Rattle.properties_tools.specs.Propedit.Sources.{is_in_utf_16, first_in
 
 use crate::propedit::error::Failure;
 use crate::propedit::ill_formed::{Flaw, first_flawed_line, has_byte_order_mark};
-use java_properties::{Encoding, MalformedEscape, malformed_escapes_of};
+use java_properties::{Encoding, MalformedEscape, malformed_escapes};
 use properties_text::encoding::byte_order_mark::encoding_in_force;
 use std::alloc::Global;
 
@@ -16,7 +16,7 @@ pub fn refuse_unsound(alloc: Global, source: &[u8], encoding: Encoding) -> Resul
     ensures { RefusesUnsound (encoding_of encoding) source.now result }
 {
     refuse_bytes(source, encoding)?;
-    let escapes = malformed_escapes_of(alloc, source, encoding)?;
+    let escapes = malformed_escapes(alloc, source, encoding)?;
     match first_in_pair(&escapes) {
         Some(escape) => Err(Failure::Malformed(escape)),
         None => Ok(()),

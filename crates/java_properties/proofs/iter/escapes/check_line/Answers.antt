@@ -7,14 +7,16 @@ returns-in-None c = blank-checked c.args.line.now c.in-None.ensures.meets
 
 pub returns-in-Some-Comment : goal.returns-in-Some-Comment
 returns-in-Some-Comment c =
-    comment-checked c.args.line.now c.in-Some-Comment.text c.check_part.result (rw c.in-Some-Comment.field-0-is at c.in-Some-Comment.ensures.meets) c.check_part.ensures
+    let split = rw c.in-Some-Comment.field-0-is at c.in-Some-Comment.ensures.meets in
+    comment-checked c.args.line.now c.in-Some-Comment.text c.check_part.result split c.check_part.ensures
 
 pub returns-in_err-check_part-in-Some-KVPair : goal.returns-in_err-check_part-in-Some-KVPair
 returns-in_err-check_part-in-Some-KVPair c =
     let error = err_from_is_err_and c.from_residual.result c.from_residual.ensures.1 in
     let at = rw c.in-Some-KVPair.field-0-is at c.in-Some-KVPair.ensures.meets in
     rw (error.1, error.2)
-    (key-checked c.args.line.now c.in-Some-KVPair.key c.in-Some-KVPair.value at c.in_err-check_part-in-Some-KVPair.field-0.0 c.in_err-check_part-in-Some-KVPair.ensures)
+    (key-checked c.args.line.now c.in-Some-KVPair.key c.in-Some-KVPair.value at c.in_err-check_part-in-Some-KVPair.field-0.0
+    c.in_err-check_part-in-Some-KVPair.ensures)
 
 pub returns-in_ok-check_part-in-Some-KVPair : goal.returns-in_ok-check_part-in-Some-KVPair
 returns-in_ok-check_part-in-Some-KVPair c =

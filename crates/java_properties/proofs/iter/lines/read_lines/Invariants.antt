@@ -8,7 +8,8 @@ use Rattle.java_properties.proofs.iter.lines.read_lines.Given as goal
 
 abbrev pub invariant-loop-item : goal.invariant-loop-item
 invariant-loop-item g l = record {
-  collected : (bytes : List ℕ) × Collected (reader g.R.Read g.R.CountedRead) (encoding_of l.fn.encoding) l.fn.input bytes (entries_in l.lines.items) l.items.state l.input;
+  collected : (bytes : List ℕ)
+      × Collected (reader g.R.Read g.R.CountedRead) (encoding_of l.fn.encoding) l.fn.input bytes (entries_in l.lines.items) l.items.state l.input;
   same_reader : IsSameReader (reader g.R.Read g.R.CountedRead) l.fn.input l.input;
 }
 

@@ -15,12 +15,16 @@ use Rattle.java_properties.proofs.iter.lookup.take_pairs.Goals.{After-take_found
 
 pub loop-number-init : goal.loop-number-init
 loop-number-init g c =
-    record { taken = taken-start c.args.taker _ (ap (λ v. let w : LineState = v in w.state) c.new-lines.ensures.at) c.requires; error = c.new-lines.ensures.error }
+    let is = ap (λ v. let w : LineState = v in w.state) c.new-lines.ensures.at in
+    record { taken = taken-start c.args.taker _ is c.requires; error = c.new-lines.ensures.error }
 
 pub loop-number-preserved-then-are_passed_over : goal.loop-number-preserved-then-are_passed_over
 loop-number-preserved-then-are_passed_over g c =
     let passed = rw c.line-line.ensures at (sym c.are_passed_over.ensures ∙ c.if-are_passed_over.true) in
-    record { taken = taken-passed c.in-Some.number c.next_text.new.self.at c.loop-number.invariant.taken c.in-Some.ensures.joins.0 passed; error = c.in-Some.ensures.joins.2 }
+    record {
+      taken = taken-passed c.in-Some.number c.next_text.new.self.at c.loop-number.invariant.taken c.in-Some.ensures.joins.0 passed;
+      error = c.in-Some.ensures.joins.2;
+    }
 
 pub returns-in-Err : goal.returns-in-Err
 returns-in-Err g c =
@@ -36,7 +40,10 @@ loop-number-preserved-in_default-found g c =
       | else-has_backslash w ↦ rw w.found-is w.find_plain-found.ensures
     ] in
     let blank = rw c.line-line.ensures at (plain-blank c.line-line.result.now c.in-Some.number c.if-has_backslash.found found c.in_default-found.not-Some) in
-    record { taken = taken-blank c.in-Some.number c.next_text.new.self.at c.loop-number.invariant.taken c.in-Some.ensures.joins.0 blank; error = c.in-Some.ensures.joins.2 }
+    record {
+      taken = taken-blank c.in-Some.number c.next_text.new.self.at c.loop-number.invariant.taken c.in-Some.ensures.joins.0 blank;
+      error = c.in-Some.ensures.joins.2;
+    }
 
 -- the item that was found in the line
 found-in : (g : Over) (c : After-take_found g) → IsFoundIn c.next_text.new.self.at.line c.in-Some-found.found
@@ -55,31 +62,46 @@ returns-in_err-take_found g c =
 
 -- It was taken if it is a pair.
 item-taken : (g : Over) (c : After-take_found g)
-    → ((values : List ℕ → Option (List ℕ)) → g.T.PairTaker.has c.args.taker c.loop-number.taker values
-    → g.T.PairTaker.has c.args.taker c.take_found.new.taker (values_after (outcome_pair (given (found_content c.line-line.result.now c.in-Some-found.found.content))) values))
+    → (let pair = outcome_pair (given (found_content c.line-line.result.now c.in-Some-found.found.content)) in
+    (values : List ℕ → Option (List ℕ)) → g.T.PairTaker.has c.args.taker c.loop-number.taker values
+    → g.T.PairTaker.has c.args.taker c.take_found.new.taker (values_after pair values))
     → HasTaken (g.T.PairTaker.has c.args.taker) c.args.options.comments (encoding_of c.args.options.encoding) c.args.source.now c.take_found.new.taker
     c.next_text.new.self.at.state c.next_text.new.reader.now
 item-taken g c takes =
-    let P : List ℕ → (List ℕ → Option (List ℕ)) → Type 0 =
-    λ x values. g.T.PairTaker.has c.args.taker c.take_found.new.taker (values_after (outcome_pair (given (found_content x c.in-Some-found.found.content))) values) in
-    taken-item c.in-Some.number c.next_text.new.self.at c.take_found.new.taker c.in-Some-found.found c.loop-number.invariant.taken c.in-Some.ensures.joins.0 (found-in g c)
+    let P : List ℕ → (List ℕ → Option (List ℕ)) → Type 0 = λ x values.
+    let pair = outcome_pair (given (found_content x c.in-Some-found.found.content)) in
+    g.T.PairTaker.has c.args.taker c.take_found.new.taker (values_after pair values) in
+    let came = c.in-Some.ensures.joins.0 in
+    taken-item c.in-Some.number c.next_text.new.self.at c.take_found.new.taker c.in-Some-found.found c.loop-number.invariant.taken came (found-in g c)
     (λ values has. subst (λ x. P x values) c.line-line.ensures (takes values has))
 
 pub loop-number-preserved-in_ok-take_found : goal.loop-number-preserved-in_ok-take_found
 loop-number-preserved-in_ok-take_found g c =
-    record { taken = item-taken g (goal.at.loop-number-preserved-in_ok-take_found g c).After-take_found (c.in_ok-take_found.ensures c.args.taker); error = c.in-Some.ensures.joins.2 }
+    record {
+      taken = item-taken g (goal.at.loop-number-preserved-in_ok-take_found g c).After-take_found (c.in_ok-take_found.ensures c.args.taker);
+      error = c.in-Some.ensures.joins.2;
+    }
 
 pub loop-number-preserved-in_ok-take_found-2 : goal.loop-number-preserved-in_ok-take_found-2
 loop-number-preserved-in_ok-take_found-2 g c =
-    record { taken = item-taken g (goal.at.loop-number-preserved-in_ok-take_found-2 g c).After-take_found (c.in_ok-take_found.ensures c.args.taker); error = c.in-Some.ensures.joins.2 }
+    record {
+      taken = item-taken g (goal.at.loop-number-preserved-in_ok-take_found-2 g c).After-take_found (c.in_ok-take_found.ensures c.args.taker);
+      error = c.in-Some.ensures.joins.2;
+    }
 
 pub loop-number-preserved-in_ok-take_found-3 : goal.loop-number-preserved-in_ok-take_found-3
 loop-number-preserved-in_ok-take_found-3 g c =
-    record { taken = item-taken g (goal.at.loop-number-preserved-in_ok-take_found-3 g c).After-take_found (c.in_ok-take_found.ensures c.args.taker); error = c.in-Some.ensures.joins.2 }
+    record {
+      taken = item-taken g (goal.at.loop-number-preserved-in_ok-take_found-3 g c).After-take_found (c.in_ok-take_found.ensures c.args.taker);
+      error = c.in-Some.ensures.joins.2;
+    }
 
 pub loop-number-preserved : goal.loop-number-preserved
 loop-number-preserved g c =
-    record { taken = item-taken g (goal.at.loop-number-preserved g c).After-take_found (c.in_ok-take_found.ensures c.args.taker); error = c.in-Some.ensures.joins.2 }
+    record {
+      taken = item-taken g (goal.at.loop-number-preserved g c).After-take_found (c.in_ok-take_found.ensures c.args.taker);
+      error = c.in-Some.ensures.joins.2;
+    }
 
 pub returns-in_err-finish : goal.returns-in_err-finish
 returns-in_err-finish g c =
