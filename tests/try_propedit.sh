@@ -83,9 +83,9 @@ leaves_nothing() {
 run --help
 gives 0 "$(cat ../output)\n" ''
 cp ../output ../usage
-for words in 'Usage: propedit COMMAND [OPTION ..] [ARGUMENT ..]' '  get KEY ..  ' '  list [PREFIX]  ' '  check [FILE ..]  ' \
-    '  set KEY VALUE  ' '  remove KEY  ' '  convert ENCODING  ' '  help [COMMAND]  ' '-f, --file FILE' '-i, --in-place FILE' '--create' '-e, --encoding NAME' \
-    '-d, --default VALUE' '-z, --null' '-v, --values' '-a, --ascii' '-x, --existing' '-q, --quiet' '-v, --verbose' '-r, --readable' '-h, --help' '-V, --version' 'utf-8 (default)' iso-8859-1 \
+for words in 'Usage: propedit COMMAND [OPTION ..] [ARGUMENT ..]' '  get KEY ..  ' '  list [PREFIX]  ' '  check [FILE ..]  ' '  diff OLD NEW  ' \
+    '  set KEY VALUE  ' '  remove KEY  ' '  merge FILE  ' '  convert ENCODING  ' '  help [COMMAND]  ' '-f, --file FILE' '-i, --in-place FILE' '--create' '-e, --encoding NAME' \
+    '-d, --default VALUE' '-z, --null' '-v, --values' '-a, --ascii' '-x, --existing' '--known' '--pairs' '-q, --quiet' '-v, --verbose' '-r, --readable' '-h, --help' '-V, --version' 'utf-8 (default)' iso-8859-1 \
     'Options come before or after the command, but before its first argument' "comes after '--'" 'standard input' \
     'Status: 0'; do
     grep -qF -- "$words" ../usage || fail "the usage lacks: $words"
@@ -95,9 +95,9 @@ is "$(awk 'length > 80' ../usage)" ''
 run -h
 gives 0 "$(cat ../usage)\n" ''
 run --version
-gives 0 'propedit 1.16.0\n' ''
+gives 0 'propedit 1.17.0\n' ''
 run -V
-gives 0 'propedit 1.16.0\n' ''
+gives 0 'propedit 1.17.0\n' ''
 run -f nowhere --help get
 gives 0 "$(cat ../usage)\n" ''
 run help
@@ -108,7 +108,7 @@ while read -r name options; do
     gives 0 "$(sed 's/\\/&&/g' ../output)\n" ''
     cp ../output ../page
     is "$(grep -o '^  \(-.,\|   \) --[a-z-]*' ../page | sed 's/.*--//' | tr '\n' ' ')" "$options help version "
-    is "$(grep -c "^  propedit $name" ../page) $(grep -c "^Usage: propedit $name " ../page) $(grep -c '^Status: 0 .*error\.$' ../page)" '2 1 1'
+    is "$(grep -c "^  \(printf .* | \)\?propedit $name" ../page) $(grep -c "^Usage: propedit $name " ../page) $(grep -c '^Status: 0 .*error\.$' ../page)" '2 1 1'
     is "$(awk 'length > 80' ../page)" ''
     for words in "$name --help" "$name -h" "-f nowhere $name --help a" "help -- $name"; do
         run $words
@@ -117,9 +117,11 @@ while read -r name options; do
 done <<'end'
 get file encoding default null
 list file encoding null values
-check file encoding ascii quiet
+check file encoding ascii pairs quiet
+diff encoding
 set file in-place create encoding ascii existing verbose
 remove file in-place create encoding ascii existing verbose
+merge file in-place create encoding null ascii existing known verbose
 convert file in-place encoding readable
 end
 run help help
@@ -128,7 +130,7 @@ is "$(head -n 3 ../output)" $'Prints the commands, or the page of one of them\n\
 run help remove
 is "$(tail -n 2 ../output)" $'Status: 0 done; 1 no pair has a KEY, and -x is given; 2 an error.\nThe option -a requires a \'set\'.'
 run get -V
-gives 0 'propedit 1.16.0\n' ''
+gives 0 'propedit 1.17.0\n' ''
 
 # Each option, short and long.
 
@@ -334,16 +336,16 @@ given 'a = 1\n# C:\\users\nb = \\u12\na = 2\nc = \xff\n\xfe = d\n\\u0061 = 3\n'
 run check
 gives 1 'standard input:2: Malformed \\uxxxx encoding: not hex. (in a comment, which Java and propedit pass over)
 standard input:3: Malformed \\uxxxx encoding: not enough digits.
-standard input:4: repeats the key of line 1
+standard input:4: repeats the key \x27a\x27 of line 1
 standard input:5: not UTF-8; if it is in windows-1252 or Latin-1, -e windows-1252 reads it
 standard input:6: not UTF-8
-standard input:7: repeats the key of line 1
+standard input:7: repeats the key \x27a\x27 of line 1
 ' ''
 run -f app.properties -e windows-1252 check
 gives 1 'app.properties:2: Malformed \\uxxxx encoding: not hex. (in a comment, which Java and propedit pass over)
 app.properties:3: Malformed \\uxxxx encoding: not enough digits.
-app.properties:4: repeats the key of line 1
-app.properties:7: repeats the key of line 1
+app.properties:4: repeats the key \x27a\x27 of line 1
+app.properties:7: repeats the key \x27a\x27 of line 1
 ' ''
 given '\xe9=1\n\xe8=1\n'
 run -f app.properties check
@@ -351,17 +353,17 @@ gives 1 'app.properties:1: not UTF-8; if it is in windows-1252 or Latin-1, -e wi
 printf 'a=1\na=2\n' >one.properties
 printf 'b=1\n' >two.properties
 run check one.properties two.properties app.properties
-gives 1 'one.properties:2: repeats the key of line 1\napp.properties:1: not UTF-8; if it is in windows-1252 or Latin-1, -e windows-1252 reads it\napp.properties:2: not UTF-8\n' ''
+gives 1 'one.properties:2: repeats the key \x27a\x27 of line 1\napp.properties:1: not UTF-8; if it is in windows-1252 or Latin-1, -e windows-1252 reads it\napp.properties:2: not UTF-8\n' ''
 run check two.properties two.properties two.properties
 gives 0 '' ''
 run -e latin1 check app.properties one.properties
-gives 1 'one.properties:2: repeats the key of line 1\n' ''
+gives 1 'one.properties:2: repeats the key \x27a\x27 of line 1\n' ''
 run check one.properties nowhere two.properties
-gives 2 'one.properties:2: repeats the key of line 1\n' 'propedit: nowhere: No such file or directory (os error 2)\n'
+gives 2 'one.properties:2: repeats the key \x27a\x27 of line 1\n' 'propedit: nowhere: No such file or directory (os error 2)\n'
 printf '# \xc3\xa9\nb=1\n' >two.properties
 for option in -a --ascii; do
     run $option check one.properties two.properties app.properties
-    gives 1 'one.properties:2: repeats the key of line 1
+    gives 1 'one.properties:2: repeats the key \x27a\x27 of line 1
 two.properties:1: has a non-ASCII character
 app.properties:1: not UTF-8; if it is in windows-1252 or Latin-1, -e windows-1252 reads it
 app.properties:2: not UTF-8
@@ -391,7 +393,65 @@ gives 0 '' ''
 run -i two.properties convert ascii
 run -a check two.properties
 gives 0 '' ''
+# With --pairs, malformed escapes in comments are left out, of each file.
+printf '# C:\\users\na=\\u12\n' >one.properties
+printf '! C:\\users\nb=1\n' >two.properties
+run check --pairs two.properties
+gives 0 '' ''
+run --pairs check two.properties one.properties
+gives 1 'one.properties:2: Malformed \\uxxxx encoding: not enough digits.\n' ''
+run check --pairs -q two.properties two.properties
+gives 0 '' ''
+run check --pairs -q two.properties one.properties
+gives 1 '' ''
+run check -q two.properties
+gives 1 '' ''
 rm one.properties two.properties
+
+# diff
+
+printf '# c\nport = 80\nhost=a\npath=b\nport = 81\n' >old.properties
+printf 'port: 8080\r\nname = x\\ty\r\nhost = \\u0061\r\n' >new.properties
+differs='old.properties:5: -port=81\nnew.properties:1: +port=8080\nold.properties:4: -path=b\nnew.properties:2: +name=x\\ty\n'
+run diff old.properties new.properties
+gives 1 "$differs" ''
+run diff -- old.properties new.properties
+gives 1 "$differs" ''
+run diff old.properties old.properties
+gives 0 '' ''
+cp new.properties ../input
+run diff old.properties -
+gives 1 "${differs//new.properties/standard input}" ''
+run diff - new.properties
+gives 0 '' ''
+# What the new file has is input of other commands.
+command='sed | propedit'
+is "$(../propedit diff old.properties new.properties | sed -n 's/^[^+]*: +//p' | ../propedit -v list)" $'port=8080\nname=x\ty'
+run diff nowhere gone
+gives 2 '' 'propedit: nowhere: No such file or directory (os error 2)\n'
+run diff old.properties gone
+gives 2 '' 'propedit: gone: No such file or directory (os error 2)\n'
+run diff gone -
+gives 2 '' 'propedit: gone: No such file or directory (os error 2)\n'
+mkdir folder
+run diff old.properties folder
+gives 2 '' 'propedit: folder: Is a directory (os error 21)\n'
+rmdir folder
+printf 'a=\xe9\n' >one.properties
+printf 'a=\\u12\n' >two.properties
+run diff one.properties two.properties
+gives 2 '' 'propedit: one.properties:1: not UTF-8; if it is in windows-1252 or Latin-1, -e windows-1252 reads it\n'
+run -e latin1 diff one.properties two.properties
+gives 2 '' 'propedit: two.properties:1: Malformed \\uxxxx encoding: not enough digits.\n'
+printf 'a=\\u00e9\n' >two.properties
+run -e latin1 diff one.properties two.properties
+gives 0 '' ''
+command='propedit diff >two.properties'
+../propedit diff one.properties two.properties >>two.properties 2>../errors
+is "$? $(cat ../errors)" '2 propedit: two.properties: is also standard output'
+is_refused "'diff' requires two files: OLD NEW" 'Usage: propedit diff [OPTION ..] OLD NEW' diff old.properties
+is_refused "one file of 'diff' at most is standard input, '-'; './-' names a file" 'Usage: propedit diff [OPTION ..] OLD NEW' diff - -
+rm old.properties new.properties one.properties two.properties
 
 # set and remove
 
@@ -644,6 +704,66 @@ else
     echo 'try_propedit.sh: no JDK: Java reads nothing' >&2
 fi
 
+# merge
+
+given 'host : a\r\n# end'
+printf 'port = 1\nhost = b\nport = 2\n' >other.properties
+run merge other.properties
+gives 0 'host : b\r\n# end\r\nport : 2\r\n' ''
+run -f other.properties merge app.properties
+gives 0 'port = 1\nhost = a\nport = 2\n' ''
+run -f other.properties merge -
+gives 0 'port = 1\nhost = a\nport = 2\n' ''
+run -x -i app.properties merge other.properties
+gives 1 '' "propedit: app.properties: no pair has the key 'port'\n"
+holds app.properties 'host : a\r\n# end'
+run --known -vi app.properties merge other.properties
+gives 0 '' 'app.properties: 1 pair changed, 0 added, 0 removed\n'
+holds app.properties 'host : b\r\n# end'
+run merge -vi app.properties other.properties
+gives 0 '' 'app.properties: 0 pairs changed, 1 added, 0 removed\n'
+run merge -vi app.properties app.properties
+gives 0 '' 'app.properties: unchanged\n'
+run merge --create -i new.properties other.properties
+gives 0 '' ''
+holds new.properties 'port=2\nhost=b\n'
+rm new.properties
+run merge -- -.properties
+gives 2 '' 'propedit: -.properties: No such file or directory (os error 2)\n'
+run merge -i nowhere .
+gives 2 '' 'propedit: .: Is a directory (os error 21)\n'
+run merge -i nowhere other.properties
+gives 2 '' 'propedit: nowhere: No such file or directory (os error 2)\n'
+printf 'a = \\u12\n' >other.properties
+run merge -i nowhere other.properties
+gives 2 '' 'propedit: other.properties:1: Malformed \\uxxxx encoding: not enough digits.\n'
+# What list prints is merged, and the values that a shell has.
+given '\xc3\xa9 = \\u0041\\\n  \\tb\na = 1\n'
+printf '' >other.properties
+command='propedit list -vz | propedit merge -z -'
+../propedit list -vz -f app.properties | ../propedit -zi other.properties merge - >../output 2>../errors
+status=$?
+gives 0 '' ''
+holds other.properties 'é=A\\tb\na=1\n'
+secret=$' C:\\tmp\n=#\'" '
+command='printf .. | propedit merge -z -'
+printf 'pass\0%s\0' "$secret" | ../propedit merge -z -i other.properties - >../output 2>../errors
+status=$?
+gives 0 '' ''
+run -f other.properties get pass
+is "$(cat ../output; echo .)" "$secret"$'\n.'
+printf 'a\0' >../input
+run merge -zi other.properties -
+gives 2 '' 'propedit: standard input: the last key has no value; with -z, keys and values come by turns\n'
+printf 'a\0001' >../input
+run merge -zi other.properties -
+gives 2 '' 'propedit: standard input: the last text has no zero byte after it; with -z, merge reads what list -v -z prints\n'
+printf 'a\0\351\0' >../input
+run -e latin1 merge -zi other.properties -
+gives 2 '' 'propedit: standard input: not UTF-8; the texts that merge -z reads are in UTF-8\n'
+rm other.properties
+leaves_nothing
+
 # Conversions
 
 given '# caf\xe9\n k\xe9y : \x80 \\\\u00e9 \\\xe9\\\n   \\\\u3042\r\n\r'
@@ -835,8 +955,10 @@ edits='Usage: propedit set [OPTION ..] KEY VALUE [set KEY VALUE | remove KEY] ..
 all='Usage: propedit get [OPTION ..] KEY ..
        propedit list [OPTION ..] [PREFIX]
        propedit check [OPTION ..] [FILE ..]
+       propedit diff [OPTION ..] OLD NEW
        propedit set [OPTION ..] KEY VALUE [set KEY VALUE | remove KEY] ..
        propedit remove [OPTION ..] KEY [set KEY VALUE | remove KEY] ..
+       propedit merge [OPTION ..] FILE
        propedit convert [OPTION ..] ENCODING
        propedit help [COMMAND]'
 shape() {
@@ -938,6 +1060,11 @@ is_refused "'set port=8080' requires a VALUE; did you mean 'set port 8080'?" "$(
 for words in remove 'remove --' 'set a 1 remove'; do
     is_refused "'remove' requires a KEY" "$(shape remove)" $words
 done
+is_refused "'merge' requires a FILE" 'Usage: propedit merge [OPTION ..] FILE' merge -x
+is_refused "'merge -' reads standard input; '-f FILE' or '-i FILE' names the file to change" \
+    'Usage: propedit merge [OPTION ..] FILE' merge -z -
+is_refused "the option '-x' cannot be used with '--known'" 'Usage: propedit merge [OPTION ..] FILE' merge -x --known a
+
 # KEY and VALUE that both look like NAME=TEXT are refused, unless -- comes before them.
 for words in 'a=1 b=2' 'a=1 b=2 c=3' 'a=1 b=2 set c 3' 'a=x b==x'; do
     set -- $words
@@ -1043,7 +1170,7 @@ run -i $'no\twhere' set a 1
 gives 2 '' 'propedit: no\\u{9}where: No such file or directory (os error 2)\n'
 printf 'a\na\n' >$'two\nlines'
 run check $'two\nlines'
-gives 1 'two\\u{a}lines:2: repeats the key of line 1\n' ''
+gives 1 'two\\u{a}lines:2: repeats the key \x27a\x27 of line 1\n' ''
 touch $'two\nlines.propedit'
 run -i $'two\nlines' set b 1
 gives 2 '' 'propedit: two\\u{a}lines: two\\u{a}lines.propedit exists: another run is at work, or was killed; if none is, remove it\n'
@@ -1054,7 +1181,7 @@ is_refused "the argument '\xe9' is not UTF-8" "$all" -e $'\xe9' check app.proper
 # A check of files goes on after such a name. The name - is that of standard input.
 given 'a = 1\na = 2\n'
 run check app.properties $'a\n\xe9' -
-gives 2 'app.properties:2: repeats the key of line 1\nstandard input:2: repeats the key of line 1\n' \
+gives 2 'app.properties:2: repeats the key \x27a\x27 of line 1\nstandard input:2: repeats the key \x27a\x27 of line 1\n' \
     'propedit: a\\u{a}\\xe9: this name is not UTF-8\n'
 
 # Files that can't be read, and standard streams that fail
@@ -1097,7 +1224,7 @@ given 'a = 1\n'
 ln -s app.properties link.properties
 for name in app.properties link.properties; do
     for line in "-f $name get a" "-f $name list" "-f $name check" "-f $name set a 2" "-f $name convert ascii" "check $name" \
-        "-i $name set a 2" "--create -i $name set b 2"; do
+        "-i $name set a 2" "--create -i $name set b 2" "-f nowhere merge $name" "-zi nowhere merge $name"; do
         command="propedit $line >>app.properties"
         ../propedit $line >>app.properties 2>../errors
         is "$? $(cat ../errors)" "2 propedit: $name: is also standard output"

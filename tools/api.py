@@ -1,6 +1,6 @@
 #!/usr/bin/env python3
 """Writes docs/API.md from the sources: the public names of each crate that programs call, with their signatures and the first
-sentence of the doc comment of each, and those of the inner crates.
+sentence of the doc comment of each, and by names alone those of `properties_tools`.
 
     tools/api.py            writes the page
     tools/api.py --check    compares it, and ends with 1 where it is not what the sources say
@@ -17,24 +17,13 @@ sys.dont_write_bytecode = True
 from wrap import WIDTH, wrapped
 
 TOP = pathlib.Path(__file__).resolve().parent.parent
-FOR_CALLERS = ["java_properties", "counted_io", "properties_tools"]
-INNER = ["propedit_arguments", "properties_items", "properties_editing", "properties_text", "properties_lines", "byte_blocks", "single_lines"]
+FOR_CALLERS = ["java_properties", "counted_io"]
+INNER = ["properties_tools"]
 ABOUT = {
     "java_properties": "The library. The functions of the module `laws` do nothing when they run; their contracts are laws.",
     "counted_io": "Readers and writers that count their I/O errors. `Counted` makes one of any reader or writer.",
-    "properties_tools": "What the programs `propfilter` and `propedit` do, over any streams.",
-    "propedit_arguments": "What the arguments of `propedit` ask for, and what is printed if they ask for nothing.",
-    "properties_items": "What reader, writer and editor share. `java_properties` re-exports the types that its callers need.",
-    "properties_editing": "The editor. `java_properties` re-exports all of it but for its laws, which its own `laws` re-exports.",
-    "properties_text": "Calls for a single line, in the modules `encoding`, `escape`, `parse` and others.",
-    "properties_lines": "The natural and the logical lines of a reader.",
-    "byte_blocks": "Classes of bytes, and searches for them, sixteen bytes at once.",
-    "single_lines": "Characters and lines one at a time; only tests call it.",
+    "properties_tools": "What the programs `propfilter` and `propedit` do, over any streams: the names of each module, and in brackets the functions of a type. What each does stands beside it in the source. [CALLING](CALLING.md) shows `filter`.",
 }
-INSIDE = (
-    "For maintainers: the names of each module, and in brackets the functions of a type. What each does stands beside it in the "
-    "source, with its contract. What the library re-exports is shown above."
-)
 ITEM = re.compile(r"^(    )?pub (const fn|fn|struct|enum|trait|const|mod|use)\b")
 IMPL = re.compile(r"impl(?:<.*?>)? (?:(?P<of>[\w:]+(?:<.*>)?) for )?(?P<type>&.*?\w+|\w+)")
 DEFINED = re.compile(r"^(?:pub(?:\(\w+\))? )?(?:struct|enum|trait) (\w+)", re.M)
@@ -266,7 +255,7 @@ def section(crate, shown):
 
 
 def index(crate, shown):
-    """The section of an inner crate: the names of each module, with those of a type's functions, without what is shown."""
+    """The section of a crate by names alone: those of each module, with those of a type's functions, without what is shown."""
     items, blocks, _, _ = entries(crate)
     modules = {}
     for name, module, path in sorted(items, key=lambda item: (item[1], item[0].lower())):
@@ -277,15 +266,15 @@ def index(crate, shown):
             functions = re.findall(r"^    (?:const )?fn (\w+)", "\n".join(inner), re.M)
             modules.setdefault(module, []).append(f"`{name}`" + (f" ({', '.join(functions)})" if functions else ""))
     listed = [f"- {f'`{module}`' if module else 'at the root'}: {', '.join(names)}" for module, names in modules.items()]
-    return ["", f"### `{crate}`", "", ABOUT[crate]] + ([""] if listed else []) + listed
+    return ["", f"## `{crate}`", "", ABOUT[crate]] + ([""] if listed else []) + listed
 
 
 def page():
     out = [
         "# Public names",
         "",
-        "For callers who look for a name. First come the crates that programs call, and the library before the others; then, by",
-        "names alone, those that these use. What `properties_c` exports to programs in C is in [C](C.md).",
+        "For callers who look for a name: the library, and then the streams that it reads and writes. What `properties_c` exports to",
+        "programs in C is in [C](C.md).",
         "",
         "`tools/api.py` makes this page from the sources, and `tools/api.py --check` compares it with them. With a name comes the",
         "first sentence of its doc comment, and behind a type or below it what it implements; `..` stands for private fields.",
@@ -294,7 +283,6 @@ def page():
     shown = set()
     for crate in FOR_CALLERS:
         out += section(crate, shown)
-    out += ["", "## Inner crates", "", INSIDE]
     for crate in INNER:
         out += index(crate, shown)
     return wrapped("\n".join(out) + "\n")

@@ -31,7 +31,7 @@ def rows(kind):
 def words_after(row):
     """What comes after a command. Dots end a word that may come again, EDIT stands for a command that edits, and TOPIC for
     one that help is asked on."""
-    words = row["words"].strip("[]").replace("COMMAND", "TOPIC")
+    words = row["words"].strip("[]").replace("COMMAND", "TOPIC").replace("OLD NEW", "FILE FILE")
     if row["is_edit"]:
         return words + " EDIT"
     return words.replace(" ..", "..")

@@ -32,11 +32,12 @@ use properties_tools::arguments::words;
 use properties_tools::filter::{filter, filter_ascii};
 use properties_tools::messages::{Escaped, print_error, print_line};
 use properties_tools::propedit::answers::{answer_to, name};
-use properties_tools::propedit::request::{Allowed, Change, Check, Command, Conversion, Edits, FileChange, Missing, Request, Source, Terminator, Job};
+use properties_tools::propedit::request::{AbsentKeys, Allowed, Change, Check, Command, Conversion, Edits, FileChange, Form, Missing, Request, Source, Terminator, Job};
 use properties_tools::propedit::error::{Failure, print_failure};
 use properties_tools::propedit::hint::{possible_files, print_reading, refused_file};
 use properties_tools::propedit::in_place::{Target, edit_file};
 use properties_tools::propedit::ill_formed::ill_formed_lines;
+use properties_tools::propedit::merge::edits_of;
 use properties_tools::propedit::same_file::refuse_output;
 use properties_tools::propedit::{self, change::change, check::report, exit_status, get::get, list::list, pairs::list_values, replacement};
 use properties_tools::propfilter;
@@ -64,7 +65,7 @@ GIVEN = {
     "sink": f"let mut sink = {SINK};",
     "arguments": "let arguments: &[String] = &[];",
     "words": "let words: Vec<String> = Vec::new(alloc);",
-    "job": "let job = Job { encoding: Encoding::UTF_8, source: Source::StandardInput, command: Command::Check(Check { allowed: Allowed::All, quiet: false }) };",
+    "job": "let job = Job { encoding: Encoding::UTF_8, source: Source::StandardInput, command: Command::Check(Check { allowed: Allowed::All, pairs_only: false, quiet: false }) };",
     "Target": 'std::fs::write(&rt, "app.properties", b"port = 80".as_slice())?;',
     "File": 'std::fs::write(&rt, "app.properties", b"port = 80".as_slice())?;',
     "map": "let map: HashMap<String, String> = HashMap::new(alloc);",
@@ -87,7 +88,7 @@ GIVEN = {
 }
 EDITED_FILE = (
     'let file = FileChange { path: String::from_str(alloc, "my.properties")?, encoding: Encoding::UTF_8, '
-    "change: Change::Edits(Edits { list: Vec::new(alloc), ascii_only: false, existing: false }), missing: Missing::Refuse, verbose: false };"
+    "change: Change::Edits(Edits { list: Vec::new(alloc), ascii_only: false, latin_1: false, absent: AbsentKeys::Added }), missing: Missing::Refuse, verbose: false };"
 )
 
 

@@ -5,9 +5,11 @@ _propedit_after() {
     case $1 in
     get) wanted='KEY..' own='-f --file -e --encoding -d --default -z --null -h --help -V --version' ;;
     list) wanted='PREFIX' own='-f --file -e --encoding -z --null -v --values -h --help -V --version' ;;
-    check) wanted='FILE..' own='-f --file -e --encoding -a --ascii -q --quiet -h --help -V --version' ;;
+    check) wanted='FILE..' own='-f --file -e --encoding -a --ascii --pairs -q --quiet -h --help -V --version' ;;
+    diff) wanted='FILE FILE' own='-e --encoding -h --help -V --version' ;;
     set) wanted='KEY VALUE EDIT' own='-f --file -i --in-place --create -e --encoding -a --ascii -x --existing -v --verbose -h --help -V --version' ;;
     remove) wanted='KEY EDIT' own='-f --file -i --in-place --create -e --encoding -a --ascii -x --existing -v --verbose -h --help -V --version' ;;
+    merge) wanted='FILE' own='-f --file -i --in-place --create -e --encoding -z --null -a --ascii -x --existing --known -v --verbose -h --help -V --version' ;;
     convert) wanted='ENCODING' own='-f --file -i --in-place -e --encoding -r --readable -h --help -V --version' ;;
     help) wanted='TOPIC' own='-h --help -V --version' ;;
     *) wanted= own= ;;
@@ -35,7 +37,7 @@ _propedit_keys() {
 
 _propedit() {
     # Options may come before the first word after a command: then it is `open`. At its front, `--` is dropped.
-    local wanted=COMMAND own='-f --file -i --in-place --create -e --encoding -d --default -z --null -v --values -a --ascii -x --existing -q --quiet --verbose -r --readable -h --help -V --version' open=1 front=
+    local wanted=COMMAND own='-f --file -i --in-place --create -e --encoding -d --default -z --null -v --values -a --ascii -x --existing --known --pairs -q --quiet --verbose -r --readable -h --help -V --version' open=1 front=
     local option= file= encoding= word before words=() at=-1
     # Bash splits words at equals signs and colons too. Here they are whole again, up to the cursor.
     local line=${COMP_LINE:0:COMP_POINT}
@@ -96,7 +98,7 @@ _propedit() {
     *) [ -z "$open" ] || hidden=(-X '-*') ;;
     esac
     case ${wanted%% *} in
-    COMMAND | TOPIC) choices='get list check set remove convert help' ;;
+    COMMAND | TOPIC) choices='get list check diff set remove merge convert help' ;;
     EDIT) choices='set remove' ;;
     ENCODING) choices='utf-8 iso-8859-1 windows-1252 ascii' ;;
     KEY | KEY.. | PREFIX)

@@ -9,13 +9,13 @@ const CHECK: &[Row] = &[
         "check",
         b"a=1\nb=2\na=3",
         1,
-        b"standard input:3: repeats the key of line 1\n",
+        b"standard input:3: repeats the key 'a' of line 1\n",
     ),
     (
         "-f -- check",
         b"a=1\na=2",
         1,
-        b"--:2: repeats the key of line 1\n",
+        b"--:2: repeats the key 'a' of line 1\n",
     ),
     (
         "check",
@@ -33,16 +33,16 @@ const CHECK: &[Row] = &[
         b"x:1: Malformed \\uxxxx encoding: not hex. \
           (in a comment, which Java and propedit pass over)\n\
           x:3: not UTF-8; if it is in windows-1252 or Latin-1, -e windows-1252 reads it\n\
-          x:3: repeats the key of line 2\n\
+          x:3: repeats the key 'a' of line 2\n\
           x:4: Malformed \\uxxxx encoding: not enough digits.\n\
-          x:6: repeats the key of line 2\n",
+          x:6: repeats the key 'a' of line 2\n",
     ),
     // U+FFFD itself is a character as any other where all lines are UTF-8.
     (
         "check",
         b"\xef\xbf\xbd=1\n\xef\xbf\xbd=2",
         1,
-        b"standard input:2: repeats the key of line 1\n",
+        b"standard input:2: repeats the key '\xef\xbf\xbd' of line 1\n",
     ),
     // A byte order mark overrides the option. Two keys are U+FFFD, and may be different bytes.
     (
@@ -69,7 +69,25 @@ const CHECK: &[Row] = &[
         b"k\0\nk\0\n\0",
         1,
         b"x:1: U+0000; if this is UTF-16, -e utf-16le or -e utf-16be reads it\n\
-          x:2: repeats the key of line 1\n",
+          x:2: repeats the key 'k\\u{0}' of line 1\n",
+    ),
+    // Of several keys each is named, with the line in which it came first. An escape spells no other key.
+    (
+        "check",
+        b"a=1\nb\\ c=2\na:3\n\\u0061=4\n\n=5\nb\\u0020c=6\na=7\n: 8",
+        1,
+        b"standard input:3: repeats the key 'a' of line 1\n\
+          standard input:4: repeats the key 'a' of line 1\n\
+          standard input:7: repeats the key 'b c' of line 2\n\
+          standard input:8: repeats the key 'a' of line 1\n\
+          standard input:9: repeats the key '' of line 6\n",
+    ),
+    // A control character in its name is printed as an escape.
+    (
+        "check",
+        b"a\\nb\\u001b\xc3\xa9=1\na\\nb\\u001b\\u00e9=2",
+        1,
+        b"standard input:2: repeats the key 'a\\u{a}b\\u{1b}\xc3\xa9' of line 1\n",
     ),
     // After a byte order mark it is a character like any other, and so it is in windows-1252.
     ("check", b"\xef\xbb\xbfa=\0\n", 0, b""),
@@ -81,7 +99,7 @@ const CHECK: &[Row] = &[
         b"a\0\n\0\x1e\xdc\n\0a\0\n\0\0",
         1,
         b"standard input:2: not UTF-16\n\
-          standard input:3: repeats the key of line 1\n\
+          standard input:3: repeats the key 'a' of line 1\n\
           standard input:4: not UTF-16\n",
     ),
     // Lines that aren't ASCII, in pairs, comments and continuations, among the other findings. A line that is ill-formed
@@ -99,7 +117,7 @@ const CHECK: &[Row] = &[
           (in a comment, which Java and propedit pass over)\n\
           standard input:4: not UTF-8; if it is in windows-1252 or Latin-1, -e windows-1252 reads it\n\
           standard input:5: has a non-ASCII character\n\
-          standard input:5: repeats the key of line 1\n",
+          standard input:5: repeats the key 'a' of line 1\n",
     ),
     (
         "-e windows-1252 -a check",
@@ -113,7 +131,7 @@ const CHECK: &[Row] = &[
         b"a=1\r\n# \xc3\xa9\r\na=\xe2\x82\xac\r\n",
         1,
         b"standard input:2: looks like UTF-8; without -e it is read as UTF-8\n\
-          standard input:3: repeats the key of line 1\n",
+          standard input:3: repeats the key 'a' of line 1\n",
     ),
     ("-e windows-1252 check", b"# \xc3\xa9\n# \xc3\n", 0, b""),
     // Bytes that Java reads as other characters, once for each line.
@@ -124,7 +142,7 @@ const CHECK: &[Row] = &[
         b"standard input:1: byte 80 is '\\u20ac' in windows-1252 and U+0080 to Java\n\
           standard input:3: byte 80 is '\\u20ac' in windows-1252 and U+0080 to Java\n\
           standard input:3: byte 9F is '\\u0178' in windows-1252 and U+009F to Java\n\
-          standard input:4: repeats the key of line 2\n",
+          standard input:4: repeats the key 'a' of line 2\n",
     ),
     ("-e L1 check", b"a=\xe9\x81", 0, b""),
     ("-e CP1252 check", b"a=\x80", 0, b""),
@@ -170,6 +188,33 @@ const QUIET: &[Row] = &[
     ("check -qa", b"# \xc3\xa9", 1, b""),
     ("check -q -e utf-16le", b"a\0\x1e\xdc", 1, b""),
 ];
+
+// What is wrong in pairs alone. A malformed escape in a comment is left out, and nothing else is.
+const PAIRS: &[Row] = &[
+    ("--pairs check", b"# C:\\users\n! \\u12\na=1", 0, b""),
+    ("check -q --pairs", b"# C:\\users\na=1", 0, b""),
+    ("check -q --pairs", b"# C:\\users\na=\\u12", 1, b""),
+    (
+        "-f x check --pairs",
+        b"# C:\\users\na=1\n# \xe9\nb=\\u12\n  # \\u\na=4\nc=#\\u\n",
+        1,
+        b"x:3: not UTF-8; if it is in windows-1252 or Latin-1, -e windows-1252 reads it\n\
+          x:4: Malformed \\uxxxx encoding: not enough digits.\n\
+          x:6: repeats the key 'a' of line 2\n\
+          x:7: Malformed \\uxxxx encoding: not enough digits.\n",
+    ),
+    (
+        "check --pairs --ascii",
+        b"# \xc3\xa9 C:\\users\n",
+        1,
+        b"standard input:1: has a non-ASCII character\n",
+    ),
+];
+
+#[test]
+fn a_check_of_pairs_passes_over_comments(rt: HostRuntime) -> Result<(), Fail> {
+    check_runs(&rt, Program::Propedit, PAIRS)
+}
 
 #[test]
 fn a_quiet_check_prints_nothing(rt: HostRuntime) -> Result<(), Fail> {

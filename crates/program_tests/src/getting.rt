@@ -60,6 +60,19 @@ const GET_SEVERAL: &[Row] = &[
         1,
         b"1\n",
     ),
+    (
+        "-d - get j a i b a h c g",
+        b"a=1\nb=2\nc=3\na=4\ng=5\nh=6\ni=7\nb=8",
+        0,
+        b"-\n4\n7\n8\n4\n6\n3\n5\n",
+    ),
+    // Keys of one length that end alike.
+    (
+        "get cb ab cb eb",
+        b"ab=1\ncb=2\ndb=3\nab=4\ncb=",
+        1,
+        b"\n4\n\n",
+    ),
     // Comments are passed over.
     ("get k a", b"# C:\\users\n\\u006b=1\na=2", 0, b"1\n2\n"),
 ];

@@ -29,7 +29,7 @@ const PLACES: &[Placed] = &[
         "check",
         b"a=1\na",
         1,
-        b"x:2: repeats the key of line 1\n",
+        b"x:2: repeats the key 'a' of line 1\n",
     ),
     ("-f x", "set a 2", b"a=1", 0, b"a=2"),
     ("-fx", "remove a", b"a=1", 0, b""),
@@ -60,11 +60,18 @@ const PLACES: &[Placed] = &[
     ("--ascii", "check x", b"", 3, b""),
     ("-q", "check", b"a=1\na=2", 1, b""),
     ("--quiet", "check x", b"", 3, b""),
+    ("--pairs", "check", b"# C:\\users\na=1", 0, b""),
+    ("--pairs -q", "check x", b"", 3, b""),
     ("-qaf x", "check", b"a=\xc3\xa9", 1, b""),
     ("-x", "set a 2", b"a=1", 0, b"a=2"),
     ("--existing", "set a 2 remove b", b"a=1\nb", 0, b"a=2\n"),
     ("-x", "remove a", b"a=1", 0, b""),
     ("--existing", "remove a remove b", b"a=1\nb", 0, b""),
+    ("-f x", "merge y", b"", 3, b""),
+    ("-i x", "merge -", b"", 3, b""),
+    ("--create -vzi x", "merge y", b"", 3, b""),
+    ("-xae l1", "merge -- -y", b"", 3, b""),
+    ("--known --null", "merge y", b"", 3, b""),
     ("-r", "convert utf-8", b"a=\\u00e9", 0, b"a=\xc3\xa9"),
     (
         "--readable",
@@ -73,7 +80,7 @@ const PLACES: &[Placed] = &[
         0,
         b"a=\xc3\xa9",
     ),
-    ("-V", "get a", b"", 0, b"propedit 1.16.0\n"),
+    ("-V", "get a", b"", 0, b"propedit 1.17.0\n"),
 ];
 
 #[test]
@@ -167,7 +174,7 @@ const PAGE: &[u8] = b"Prints the value of each key\n\n\
     \x20 -f, --file FILE       Reads FILE instead of standard input\n\
     \x20 -e, --encoding NAME   utf-8 (default), iso-8859-1, windows-1252, utf-16le/be\n\
     \x20 -d, --default VALUE   What get prints if no pair has a KEY, with status 0\n\
-    \x20 -z, --null            Ends each text of get and list with a zero byte\n\
+    \x20 -z, --null            A zero byte ends each text of get, list and merge's FILE\n\
     \x20 -h, --help            Prints this\n\
     \x20 -V, --version         Prints the version\n\n\
     Examples:\n\

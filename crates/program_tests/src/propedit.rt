@@ -177,6 +177,7 @@ const FILES: &[Row] = &[
     ("check x y x", b"a=1", 3, b""),
     ("check -- -x", b"a=1", 3, b""),
     ("check - -- --", b"a=1", 3, b""),
+    ("diff x -e", b"a=1", 3, b""),
     ("-i x remove a", b"a=1", 3, b""),
     ("--in-place=x --create set a 2", b"a=1", 3, b""),
     ("-i x convert utf-8", b"a=1", 3, b""),
@@ -189,8 +190,8 @@ fn files_are_asked_for(rt: HostRuntime) -> Result<(), Fail> {
 }
 
 const THE_VERSION: &[Row] = &[
-    ("--version", b"", 0, b"propedit 1.16.0\n"),
-    ("-i x -V", b"", 0, b"propedit 1.16.0\n"),
+    ("--version", b"", 0, b"propedit 1.17.0\n"),
+    ("-i x -V", b"", 0, b"propedit 1.17.0\n"),
 ];
 
 #[test]

@@ -111,6 +111,39 @@ const OTHER_WORDS: &[Refusal] = &[
         "convert utf-8 x",
         "unexpected 'x': 'convert' takes one argument; '-f FILE' names a file",
     ),
+    ("merge", "'merge' requires a FILE"),
+    ("merge -z --", "'merge' requires a FILE"),
+    (
+        "merge a b",
+        "unexpected 'b': 'merge' takes one argument; '-f FILE' names a file",
+    ),
+    (
+        "import a",
+        "unknown command 'import'; did you mean 'merge'?",
+    ),
+    // Standard input can't be both.
+    (
+        "merge -",
+        "'merge -' reads standard input; '-f FILE' or '-i FILE' names the file to change",
+    ),
+    (
+        "-zf - merge -- -",
+        "'merge -' reads standard input; '-f FILE' or '-i FILE' names the file to change",
+    ),
+    (
+        "merge --create a",
+        "the option '--create' requires '-i FILE'",
+    ),
+    ("merge -v a", "the option '-v' requires '-i FILE'"),
+    ("diff", "'diff' requires two files: OLD NEW"),
+    ("diff -- a", "'diff' requires two files: OLD NEW"),
+    ("diff a b c", "unexpected 'c': 'diff' takes two arguments"),
+    (
+        "diff - -- -",
+        "one file of 'diff' at most is standard input, '-'; './-' names a file",
+    ),
+    ("dif a b", "unknown command 'dif'; did you mean 'diff'?"),
+    ("cmp a b", "unknown command 'cmp'; did you mean 'diff'?"),
 ];
 
 #[test]
@@ -421,6 +454,16 @@ const OTHER_OPTIONS: &[Filled] = &[
         "--in-place",
         "check'; a file that begins with a dash comes after '--'; '-f FILE' reads a file",
     ),
+    (
+        "merge -q a",
+        "-q",
+        "merge'; a file that begins with a dash comes after '--'",
+    ),
+    (
+        "diff -f a b",
+        "-f",
+        "diff'; a file that begins with a dash comes after '--'",
+    ),
     ("convert -a utf-8", "-a", "convert'"),
     ("convert -7", "-7", "convert'"),
     ("help -f x", "-f", "help'"),
@@ -455,6 +498,9 @@ const LATE_OPTIONS: &[Filled] = &[
     ("convert utf-8 --help", "--help", "convert"),
     ("list a --file=x", "--file=x", "list"),
     ("convert ascii -ix", "-ix", "convert"),
+    ("merge a --known", "--known", "merge"),
+    ("diff a -e latin1 b", "-e", "diff"),
+    ("diff a b -elatin1", "-elatin1", "diff"),
 ];
 
 #[test]
@@ -545,9 +591,14 @@ const USELESS_OPTIONS: &[Filled] = &[
     ("-x get a", "-x", "get"),
     ("set -f x -i x a 1", "-f FILE", "-i FILE"),
     ("check -f x y", "-f FILE", "check FILE .."),
+    ("-f x diff a b", "-f FILE", "diff"),
+    ("-v diff a b", "-v", "diff"),
     ("-z help", "-z", "help"),
     ("-i x help get", "-i FILE", "help"),
     ("-x --create -i a set k v", "-x", "--create"),
+    ("-x merge --known a", "-x", "--known"),
+    ("--known --create -i a merge b", "--known", "--create"),
+    ("--known set a 1", "--known", "set"),
     ("-r get a", "-r", "get"),
     ("-r list", "-r", "list"),
     ("-r check", "-r", "check"),
@@ -582,8 +633,10 @@ fn commands_that_read_name_the_option_for_a_file(rt: HostRuntime) -> Result<(), 
 const COMMANDS: &str = "get [OPTION ..] KEY ..\n       \
     propedit list [OPTION ..] [PREFIX]\n       \
     propedit check [OPTION ..] [FILE ..]\n       \
+    propedit diff [OPTION ..] OLD NEW\n       \
     propedit set [OPTION ..] KEY VALUE [set KEY VALUE | remove KEY] ..\n       \
     propedit remove [OPTION ..] KEY [set KEY VALUE | remove KEY] ..\n       \
+    propedit merge [OPTION ..] FILE\n       \
     propedit convert [OPTION ..] ENCODING\n       \
     propedit help [COMMAND]";
 

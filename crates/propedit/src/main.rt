@@ -1,7 +1,8 @@
-//! Reads, checks, edits and converts properties files.
+//! Reads, checks, compares, edits and converts properties files.
 #![tactic(auto)]
 
-use counted_io::{Counted, CountedWrite};
+use counted_io::{Counted, CountedRead, CountedWrite};
+use java_properties::{Edit, Encoding, read_source};
 use propedit_arguments::mistake::Mistake;
 use propedit_arguments::parse::explain_mistake;
 use propedit_arguments::{
@@ -9,10 +10,15 @@ use propedit_arguments::{
 };
 use properties_tools::arguments::words;
 use properties_tools::propedit::answers::name;
+use properties_tools::propedit::diff::run_diff;
 use properties_tools::propedit::error::Failure;
 use properties_tools::propedit::hint::{possible_files, print_reading, refused_file};
 use properties_tools::propedit::in_place::edit_file;
-use properties_tools::propedit::request::{CheckedFiles, Command, Job, Request, Source};
+use properties_tools::propedit::merge::edits_of;
+use properties_tools::propedit::request::{
+    Change, CheckedFiles, Command, Comparison, FileChange, Form, Job, Merge, Request, Source,
+    Target,
+};
 use properties_tools::propedit::same_file::{INPUT, refuse_output};
 use properties_tools::propedit::{exit_status, print_out_of_memory, run};
 use std::alloc::{AllocError, Global};
@@ -45,8 +51,73 @@ fn status<E: CountedWrite>(rt: &HostRuntime, errors: &mut E) -> io::Result<u8> {
         Ok(Request::Job(job)) => Ok(do_job(rt, alloc, &job, &mut output, errors)),
         Ok(Request::CheckFiles(files)) => Ok(check_files(rt, alloc, files, &mut output, errors)),
         Ok(Request::EditFile(file)) => Ok(edit_file(rt, alloc, &file, errors)),
+        Ok(Request::Merge(asked)) => Ok(merge(rt, alloc, asked, &mut output, errors)),
+        Ok(Request::Diff(sources)) => Ok(compare(rt, alloc, &sources, &mut output, errors)),
         Err(error) => Ok(explain(alloc, error, &mut output, errors)),
     }
+}
+
+// Reads the pairs of a file, and then sets them in a source.
+fn merge<W: CountedWrite, E: CountedWrite>(
+    rt: &HostRuntime,
+    alloc: Global,
+    asked: Merge,
+    output: &mut W,
+    errors: &mut E,
+) -> u8 {
+    let Merge {
+        pairs,
+        form,
+        encoding,
+        mut edits,
+        target,
+    } = asked;
+    match edits_in(rt, alloc, &pairs, encoding, form) {
+        Ok(list) => edits.list = list,
+        Err(failure) => return exit_status(alloc, errors, name(&pairs), Err(failure)),
+    }
+    let change = Change::Edits(edits);
+    match target {
+        Target::Printed(source) => {
+            let job = Job {
+                encoding,
+                source,
+                command: Command::Change(change),
+            };
+            do_job(rt, alloc, &job, output, errors)
+        }
+        Target::InPlace(path, missing, verbose) => {
+            let file = FileChange {
+                path,
+                encoding,
+                change,
+                missing,
+                verbose,
+            };
+            edit_file(rt, alloc, &file, errors)
+        }
+    }
+}
+
+// Returns the edits that set the pairs of a file.
+fn edits_in(
+    rt: &HostRuntime,
+    alloc: Global,
+    pairs: &Source,
+    encoding: Encoding,
+    form: Form,
+) -> Result<Vec<Edit>, Failure> {
+    refuse_output(rt, file_of(pairs))?;
+    let bytes = match pairs {
+        Source::StandardInput | Source::Dash => {
+            read_source(alloc, &mut Counted::new(rt.stdin()), encoding)?
+        }
+        Source::File(path) => {
+            let file = File::open(rt, path.as_str())?;
+            read_source(alloc, &mut Counted::new(file), encoding)?
+        }
+    };
+    edits_of(alloc, &bytes, encoding, form)
 }
 
 // Checks files, of which some have names that are not UTF-8. No other command takes such a word.
@@ -187,5 +258,57 @@ fn check_file<W: CountedWrite, E: CountedWrite>(
     match marked {
         Some(name) => explain_name(alloc, name, errors),
         None => do_job(rt, alloc, job, output, errors),
+    }
+}
+
+// Opens the old source, and compares it with the new one.
+fn compare<W: CountedWrite, E: CountedWrite>(
+    rt: &HostRuntime,
+    alloc: Global,
+    sources: &Comparison,
+    output: &mut W,
+    errors: &mut E,
+) -> u8 {
+    match opened(rt, &sources.old) {
+        Ok(Some(file)) => {
+            let mut old = Counted::new(file);
+            compare_with(rt, alloc, sources, &mut old, output, errors)
+        }
+        Ok(None) => {
+            let mut old = Counted::new(rt.stdin());
+            compare_with(rt, alloc, sources, &mut old, output, errors)
+        }
+        Err(error) => exit_status(alloc, errors, name(&sources.old), Err(Failure::from(error))),
+    }
+}
+
+// Opens the new source, and compares the old one with it.
+fn compare_with<R: CountedRead, W: CountedWrite, E: CountedWrite>(
+    rt: &HostRuntime,
+    alloc: Global,
+    sources: &Comparison,
+    old: &mut R,
+    output: &mut W,
+    errors: &mut E,
+) -> u8 {
+    match opened(rt, &sources.new) {
+        Ok(Some(file)) => {
+            let mut new = Counted::new(file);
+            run_diff(alloc, sources, old, &mut new, output, errors)
+        }
+        Ok(None) => {
+            let mut new = Counted::new(rt.stdin());
+            run_diff(alloc, sources, old, &mut new, output, errors)
+        }
+        Err(error) => exit_status(alloc, errors, name(&sources.new), Err(Failure::from(error))),
+    }
+}
+
+// Opens the file that the bytes come from, unless what is printed would go there. There is none for standard input.
+fn opened(rt: &HostRuntime, source: &Source) -> io::Result<Option<File>> {
+    refuse_output(rt, file_of(source))?;
+    match source {
+        Source::StandardInput | Source::Dash => Ok(None),
+        Source::File(path) => Ok(Some(File::open(rt, path.as_str())?)),
     }
 }

@@ -3,7 +3,7 @@
 use java_properties::Repertoire;
 use std::fmt;
 
-const VERSION: &str = "1.16.0";
+const VERSION: &str = "1.17.0";
 
 /// A command.
 #[derive(Clone, Copy, Debug, PartialEq, Eq)]
@@ -11,8 +11,10 @@ pub enum CommandName {
     Get,
     List,
     Check,
+    Diff,
     Set,
     Remove,
+    Merge,
     Convert,
     Help,
 }
@@ -47,6 +49,8 @@ pub enum OptionName {
     Values,
     Ascii,
     Existing,
+    Known,
+    Pairs,
     Quiet,
     Verbose,
     Readable,
@@ -107,12 +111,24 @@ pub const COMMANDS: &[CommandRow] = &[
             OptionName::File,
             OptionName::Encoding,
             OptionName::Ascii,
+            OptionName::Pairs,
             OptionName::Quiet,
         ],
         other_names: &["lint", "validate", "verify"],
         examples: "propedit check app.properties\n  \
             propedit check -a -- *.properties",
         statuses: "0 nothing was found; 1 something was; 2 an error",
+    },
+    CommandRow {
+        command: CommandName::Diff,
+        name: "diff",
+        words: "OLD NEW",
+        help: "Prints which values differ between two files",
+        options: &[OptionName::Encoding],
+        other_names: &["compare", "cmp"],
+        examples: "propedit diff old.properties new.properties\n  \
+            propedit diff -e latin1 - \"$file\" < old.properties",
+        statuses: "0 nothing differs; 1 something does; 2 an error",
     },
     CommandRow {
         command: CommandName::Set,
@@ -136,6 +152,27 @@ pub const COMMANDS: &[CommandRow] = &[
             propedit remove port set server.port 8080 < app.properties",
         statuses: "0 done; 1 no pair has a KEY, and -x is given; 2 an error.\n\
             The option -a requires a 'set'",
+    },
+    CommandRow {
+        command: CommandName::Merge,
+        name: "merge",
+        words: "FILE",
+        help: "Sets each pair of FILE; '-' is standard input",
+        options: &[
+            OptionName::File,
+            OptionName::InPlace,
+            OptionName::Create,
+            OptionName::Encoding,
+            OptionName::Null,
+            OptionName::Ascii,
+            OptionName::Existing,
+            OptionName::Known,
+            OptionName::Verbose,
+        ],
+        other_names: &["import", "apply", "overlay", "join"],
+        examples: "propedit merge -i app.properties other.properties\n  \
+            printf 'pass\\0%s\\0' \"$pass\" | propedit merge -z -i app.properties -",
+        statuses: "0 done; 1 no pair has a key of FILE, and -x is given; 2 an error",
     },
     CommandRow {
         command: CommandName::Convert,
@@ -188,7 +225,7 @@ const OPTIONS: &[OptionRow] = &[
         short: Some('i'),
         long: "in-place",
         value: "FILE",
-        help: "Changes FILE in place (set, remove and convert)",
+        help: "Changes FILE in place (set, remove, merge and convert)",
     },
     OptionRow {
         option: OptionName::Create,
@@ -216,7 +253,7 @@ const OPTIONS: &[OptionRow] = &[
         short: Some('z'),
         long: "null",
         value: "",
-        help: "Ends each text of get and list with a zero byte",
+        help: "A zero byte ends each text of get, list and merge's FILE",
     },
     OptionRow {
         option: OptionName::Values,
@@ -230,7 +267,7 @@ const OPTIONS: &[OptionRow] = &[
         short: Some('a'),
         long: "ascii",
         value: "",
-        help: "Has set write only ASCII, and check report all else",
+        help: "Has edits write only ASCII, and check report all else",
     },
     OptionRow {
         option: OptionName::Existing,
@@ -238,6 +275,20 @@ const OPTIONS: &[OptionRow] = &[
         long: "existing",
         value: "",
         help: "Refuses edits of a KEY that no pair has, with status 1",
+    },
+    OptionRow {
+        option: OptionName::Known,
+        short: None,
+        long: "known",
+        value: "",
+        help: "Has merge leave out keys that no pair has",
+    },
+    OptionRow {
+        option: OptionName::Pairs,
+        short: None,
+        long: "pairs",
+        value: "",
+        help: "Has check pass over bad escapes in comments",
     },
     OptionRow {
         option: OptionName::Quiet,
@@ -276,13 +327,13 @@ const OPTIONS: &[OptionRow] = &[
     },
 ];
 
-const ABOUT: &str = "Reads, checks, edits and converts Java properties files";
+const ABOUT: &str = "Reads, checks, compares, edits and converts Java properties files";
 
 const NOTES: &str = "Options come before or after the command, but before its first argument.\n\
     A first argument that begins with a dash comes after '--', as in 'get -- -Xmx'.\n\
     A byte order mark overrides -e, which also takes other labels, such as latin1.\n\
     Reads standard input and prints on standard output, unless -f or -i is given.\n\
-    Status: 0 done or found, 1 not found or check found something, 2 an error.\n";
+    Status: 0 done or found, 1 not found, or found by check or diff, 2 an error.\n";
 
 /// Returns the row of the command of this name.
 pub fn command_named(name: &str) -> Option<&'static CommandRow> {
@@ -408,8 +459,16 @@ impl CommandRow {
         match self.command {
             CommandName::Get | CommandName::Set | CommandName::Remove => Some("key"),
             CommandName::List => Some("prefix"),
-            CommandName::Check => Some("file"),
+            CommandName::Check | CommandName::Diff | CommandName::Merge => Some("file"),
             CommandName::Convert | CommandName::Help => None,
+        }
+    }
+
+    /// Returns how many arguments it takes, in words, if it takes a few at most.
+    pub(crate) fn arguments(&self) -> &'static str {
+        match self.command {
+            CommandName::Diff => "two arguments",
+            _ => "one argument",
         }
     }
 

@@ -1,8 +1,8 @@
 // Why words ask for nothing.
 
 use crate::command_line::{
-    CommandRow, OptionName, TypedOption, Usage, allowed, command_meant, command_named, name_in,
-    option_in, option_meant,
+    CommandName, CommandRow, OptionName, TypedOption, Usage, allowed, command_meant, command_named,
+    name_in, option_in, option_meant,
 };
 use properties_tools::messages::Escaped;
 use std::alloc::{AllocError, AllocFailed};
@@ -87,8 +87,14 @@ pub enum Mistake<'a> {
     AsciiEncoding(&'a str, &'static CommandRow),
     /// No conversion is to this encoding.
     NoTarget(&'a str, &'static CommandRow),
-    /// This command requires an encoding to convert to.
+    /// This command requires an encoding to convert to, or a file of pairs.
     NoWord(&'static CommandRow),
+    /// Standard input is to be both what is changed, and what has the pairs of this command.
+    InputTwice(&'static CommandRow),
+    /// This command requires two files.
+    FewFiles(&'static CommandRow),
+    /// Both files of this command are standard input.
+    OneInput(&'static CommandRow),
     /// After the argument of this command comes what looks like an option.
     OptionAfter(&'a str, &'static CommandRow),
     /// This command has no use for this word.
@@ -133,6 +139,9 @@ impl Mistake<'_> {
             | Mistake::AsciiEncoding(_, row)
             | Mistake::NoTarget(_, row)
             | Mistake::NoWord(row)
+            | Mistake::InputTwice(row)
+            | Mistake::FewFiles(row)
+            | Mistake::OneInput(row)
             | Mistake::OptionAfter(_, row)
             | Mistake::Surplus(_, row) => Usage::Of(row),
             Mistake::NoKey(name) => usage_of(name),
@@ -245,7 +254,18 @@ impl fmt::Display for Mistake<'_> {
             Mistake::NoEncoding(label, _) => show_unknown_encoding(f, label),
             Mistake::AsciiEncoding(label, _) => show_ascii_encoding(f, label),
             Mistake::NoTarget(word, _) => show_no_target(f, word),
-            Mistake::NoWord(row) => { write!(f, "'{}' requires an ENCODING: {TARGETS}", row.name) }
+            Mistake::NoWord(row) => show_no_word(f, row),
+            Mistake::InputTwice(row) => write!(
+                f,
+                "'{} -' reads standard input; '-f FILE' or '-i FILE' names the file to change",
+                row.name
+            ),
+            Mistake::FewFiles(row) => write!(f, "'{}' requires two files: {}", row.name, row.words),
+            Mistake::OneInput(row) => write!(
+                f,
+                "one file of '{}' at most is standard input, '-'; './-' names a file",
+                row.name
+            ),
             Mistake::OptionAfter(word, row) => {
                 write!(
                     f,
@@ -368,9 +388,10 @@ fn show_surplus<W: fmt::Write>(
 ) -> fmt::Result {
     write!(
         f,
-        "unexpected '{}': '{}' takes one argument",
+        "unexpected '{}': '{}' takes {}",
         Escaped(word),
-        row.name
+        row.name,
+        row.arguments()
     )?;
     if row.options.contains(&OptionName::File) {
         f.write_str("; '-f FILE' names a file")?;
@@ -460,6 +481,14 @@ fn show_argument<W: fmt::Write>(f: &mut fmt::Formatter<W>, text: &str) -> fmt::R
         write!(f, "\"{}\"", Escaped(text))
     } else {
         write!(f, "{}", Escaped(text))
+    }
+}
+
+// Prints that a command has no argument, and what it may be.
+fn show_no_word<W: fmt::Write>(f: &mut fmt::Formatter<W>, row: &'static CommandRow) -> fmt::Result {
+    match row.command {
+        CommandName::Convert => write!(f, "'{}' requires an ENCODING: {TARGETS}", row.name),
+        _ => write!(f, "'{}' requires a {}", row.name, row.words),
     }
 }
 

@@ -5,8 +5,10 @@ use crate::command_line::{
 };
 use crate::mistake::{Mistake, NoRequest, means_ascii};
 use java_properties::{Encoding, Spelling};
-use properties_tools::propedit::request::{Command, Job, Missing, Request, Source, Terminator};
-use std::alloc::Global;
+use properties_tools::propedit::request::{
+    AbsentKeys, Command, Form, Job, Missing, Request, Source, Target, Terminator,
+};
+use std::alloc::{AllocError, Global};
 
 /// The FILE that is standard input.
 pub const STANDARD_INPUT: &str = "-";
@@ -42,6 +44,14 @@ pub fn options_in<'a>(
 // Returns whether a word is an option where one may stand: it begins with a dash, and is neither `-` nor `--`.
 fn is_option(word: &str) -> bool {
     word.starts_with('-') && word != "-" && word != "--"
+}
+
+/// Returns the source that a FILE names.
+pub fn source_named(alloc: Global, path: &str) -> Result<Source, AllocError> {
+    match path {
+        STANDARD_INPUT => Ok(Source::Dash),
+        _ => Ok(Source::File(String::from_str(alloc, path)?)),
+    }
 }
 
 impl<'a> Options<'a> {
@@ -179,6 +189,8 @@ impl<'a> Options<'a> {
         self.refuse_alone(OptionName::Create, command)?;
         self.refuse_alone(OptionName::Verbose, command)?;
         self.refuse_both(OptionName::Existing, OptionName::Create, command)?;
+        self.refuse_both(OptionName::Existing, OptionName::Known, command)?;
+        self.refuse_both(OptionName::Known, OptionName::Create, command)?;
         match self.find(OptionName::InPlace) {
             Some(given) if given.value == STANDARD_INPUT => {
                 Err(Mistake::NoFileInPlace(given.option, command))
@@ -277,22 +289,59 @@ impl<'a> Options<'a> {
         }
     }
 
-    /// Returns the request for a command over the source that the options name.
+    /// Returns what is done with edits of a key that no pair of the source has. With `-x` they are refused, and with
+    /// `--known` they are left out.
+    pub fn absent(&self) -> AbsentKeys {
+        if self.has(OptionName::Existing) {
+            AbsentKeys::Refused
+        } else if self.has(OptionName::Known) {
+            AbsentKeys::LeftOut
+        } else {
+            AbsentKeys::Added
+        }
+    }
+
+    /// Returns how the pairs of a merge are written. With `-z` they are texts.
+    pub fn form(&self) -> Form {
+        if self.has(OptionName::Null) {
+            Form::Texts
+        } else {
+            Form::Properties
+        }
+    }
+
+    /// Returns the source that the options name.
+    pub fn source(&self, alloc: Global) -> Result<Source, AllocError> {
+        match self.value(OptionName::File) {
+            None => Ok(Source::StandardInput),
+            Some(path) => source_named(alloc, path),
+        }
+    }
+
+    /// Returns the request for a command over that source.
     pub fn job(
         &self,
         alloc: Global,
         row: &'static CommandRow,
         command: Command,
     ) -> Result<Request, Mistake<'a>> {
-        let source = match self.value(OptionName::File) {
-            None => Source::StandardInput,
-            Some(STANDARD_INPUT) => Source::Dash,
-            Some(path) => Source::File(String::from_str(alloc, path)?),
-        };
+        let source = self.source(alloc)?;
         Ok(Request::Job(Job {
             encoding: self.encoding(row)?,
             source,
             command,
         }))
+    }
+
+    /// Returns where the changed source of a merge goes.
+    pub fn target(&self, alloc: Global) -> Result<Target, AllocError> {
+        match self.value(OptionName::InPlace) {
+            Some(path) => Ok(Target::InPlace(
+                String::from_str(alloc, path)?,
+                self.missing(),
+                self.has(OptionName::Verbose),
+            )),
+            None => Ok(Target::Printed(self.source(alloc)?)),
+        }
     }
 }

@@ -9,11 +9,12 @@ use crate::command_line::{
 };
 use crate::edits::edits_in;
 use crate::mistake::{Hint, Mistake, NoRequest};
-use crate::options::{Options, options_in};
+use crate::options::{Options, STANDARD_INPUT, options_in, source_named};
 use counted_io::CountedWrite;
 use java_properties::Edit;
 use properties_tools::propedit::request::{
-    Allowed, Change, Check, CheckedFiles, Command, Conversion, Edits, FileChange, Request,
+    Allowed, Change, Check, CheckedFiles, Command, Comparison, Conversion, Edits, FileChange,
+    Merge, Request, Source, Target,
 };
 use properties_tools::propedit::{print_out_of_memory, print_text, print_usage_error};
 use std::alloc::{AllocError, Global};
@@ -49,9 +50,11 @@ pub fn asked_for<'a>(alloc: Global, words: &'a [String]) -> Result<Request, NoRe
         CommandName::Get => Ok(get(alloc, row, &options, rest)?),
         CommandName::List => Ok(list(alloc, row, &options, rest)?),
         CommandName::Check => Ok(check(alloc, row, &options, rest)?),
+        CommandName::Diff => Ok(diff(alloc, row, &options, rest)?),
         CommandName::Set | CommandName::Remove => {
             Ok(edit(alloc, row, &options, edits_in(alloc, row.name, rest)?)?)
         }
+        CommandName::Merge => Ok(merge(alloc, row, &options, rest)?),
         CommandName::Convert => Ok(convert(alloc, row, &options, rest)?),
         CommandName::Help => Err(help(row, &options, rest)),
     }
@@ -246,6 +249,7 @@ fn check<'a>(
         } else {
             Allowed::All
         },
+        pairs_only: options.has(OptionName::Pairs),
         quiet: options.has(OptionName::Quiet),
     };
     if paths.is_empty() {
@@ -259,6 +263,36 @@ fn check<'a>(
     }))
 }
 
+fn diff<'a>(
+    alloc: Global,
+    row: &'static CommandRow,
+    options: &Options<'a>,
+    words: &'a [String],
+) -> Result<Request, Mistake<'a>> {
+    let (before, after) = around_dashes(words);
+    let mut given = before.iter().chain(after);
+    let (Some(old), Some(new)) = (given.next(), given.next()) else {
+        return Err(Mistake::FewFiles(row));
+    };
+    if let Some(surplus) = given.next() {
+        let late = [new, surplus]
+            .into_iter()
+            .find(|word| is_option_of(word.as_str(), row));
+        return Err(match late {
+            Some(word) => Mistake::OptionAfter(word.as_str(), row),
+            None => Mistake::Surplus(surplus.as_str(), row),
+        });
+    }
+    if old.as_str() == STANDARD_INPUT && new.as_str() == STANDARD_INPUT {
+        return Err(Mistake::OneInput(row));
+    }
+    Ok(Request::Diff(Comparison {
+        encoding: options.encoding(row)?,
+        old: source_named(alloc, old.as_str())?,
+        new: source_named(alloc, new.as_str())?,
+    }))
+}
+
 fn edit<'a>(
     alloc: Global,
     row: &'static CommandRow,
@@ -268,19 +302,53 @@ fn edit<'a>(
     if !list.iter().any(sets_value) {
         options.refuse_for_set(row)?;
     }
-    let edits = Edits {
+    change(
+        alloc,
+        row,
+        options,
+        Change::Edits(edits_with(options, list)),
+    )
+}
+
+// Returns edits that are made as the options say.
+fn edits_with(options: &Options<'_>, list: Vec<Edit>) -> Edits {
+    Edits {
         list,
         ascii_only: options.has(OptionName::Ascii),
         latin_1: options.is_latin_1(),
-        existing: options.has(OptionName::Existing),
-    };
-    change(alloc, row, options, Change::Edits(edits))
+        absent: options.absent(),
+    }
 }
 
 fn sets_value(edit: &Edit) -> bool {
     match edit {
         Edit::Put(_, _) | Edit::SetValue(_, _) => true,
         Edit::Remove(_) => false,
+    }
+}
+
+fn merge<'a>(
+    alloc: Global,
+    row: &'static CommandRow,
+    options: &Options<'a>,
+    words: &'a [String],
+) -> Result<Request, Mistake<'a>> {
+    let Some(path) = only_word(row, words)? else {
+        return Err(Mistake::NoWord(row));
+    };
+    let pairs = source_named(alloc, path)?;
+    let target = options.target(alloc)?;
+    match (&pairs, &target) {
+        (Source::Dash, Target::Printed(Source::StandardInput | Source::Dash)) => {
+            Err(Mistake::InputTwice(row))
+        }
+        _ => Ok(Request::Merge(Merge {
+            pairs,
+            form: options.form(),
+            encoding: options.encoding(row)?,
+            edits: edits_with(options, Vec::new(alloc)),
+            target,
+        })),
     }
 }
 

@@ -1,68 +1,61 @@
 -- Values of some keys that are looked up.
-use Rattle.std.proofs.Common.{◌≡◌, ℕ, ◌+◌, ◌<◌, false, List, [], ◌∷◌, ◌++◌, length, map, drop, get_or, zero, suc, refl, sym, ap, ◌∙◌, inl, inr, subst, arith}
+use Rattle.std.proofs.Common.{◌≡◌, ℕ, ◌+◌, ◌<◌, true, List, [], ◌∷◌, ◌++◌, length, map, drop, get_or, zero, suc, refl, sym, ap, ◌∙◌, inl, inr, subst, arith}
 use Rattle.std.specs.Prelude.{◌⊎◌, ◌==◌, Option, Some, None, Ok}
 use Rattle.std.specs.Borrow.{Bor}
 use Rattle.std.specs.Option.{option_map}
 use Rattle.std.specs.Str.{chars}
 use Rattle.std.specs.declared.string.String.{String}
+use Rattle.std.proofs.lemmas.Bool.{eqb-true}
 use native.Mathlib.Numerals.{unary_clauses}
 use Rattle.properties_format.specs.Encoding.{Encoding}
-use Rattle.properties_format.specs.Edits.{AreInComments, HasPairValue, IsFirstInPair}
-use Rattle.properties_format.specs.Escapes.{Malformed}
+use Rattle.properties_format.specs.Edits.{AreInComments, HasPairValue}
 use Rattle.properties_format.specs.Found.{MalformedEscape}
 use Rattle.properties_format.proofs.MalformedEscapes.{malformed_escapes_of-only}
-use Rattle.java_properties.specs.Errors.{IsBareError}
 use Rattle.java_properties.specs.Maps.{characters}
-use Rattle.java_properties.specs.Findings.{IsFirstPairError}
-use Rattle.properties_items.specs.declared.error.ErrorKind.TheVariants as kind
-use Rattle.properties_items.specs.declared.error.PropertiesError.{PropertiesError}
 use Rattle.properties_tools.specs.Propedit.Change.{HasKeys, IsFirstAbsent}
+use Rattle.properties_tools.specs.Propedit.Failures.{LacksMemory}
 use Rattle.properties_tools.specs.Propedit.Get.{HaveValues}
-use Rattle.properties_tools.specs.Propedit.Sources.{HasSoundBytes, IsSound}
+use Rattle.properties_tools.specs.Propedit.Sources.{HasSoundBytes, IsSound, IsUnsound}
 use Rattle.properties_tools.specs.Propedit.Texts.{borrowed_characters}
-use Rattle.properties_tools.specs.Private.Collected.{first_without}
+use Rattle.properties_tools.specs.Private.Collected.{first_without, SaysMalformed}
 use Rattle.properties_tools.specs.Private.Hinting.{FindsAbsent}
+use Rattle.properties_tools.specs.declared.propedit.error.Failure.{Failure}
 
--- ---- a sound source
+-- ---- a source that is refused
 
--- Where all escapes are in comments, none is in a pair.
-unbroken : (escapes : List MalformedEscape) (how : Malformed) (number : ℕ) → AreInComments escapes → IsFirstInPair how number escapes → ⊥
-unbroken [] how number h k = k
-unbroken (m ∷ ms) how number h (inl k) = let a = h.0 in let b = k.0 in absurd (cc)
-unbroken (m ∷ ms) how number h (inr k) = unbroken ms how number h.1 k.1
+-- A malformed escape among those in comments is in one too.
+in-comment : (before after : List MalformedEscape) (escape : MalformedEscape) → AreInComments (before ++ escape ∷ after) → escape.in_comment ≡ true
+in-comment [] after escape h = h.0
+in-comment (m ∷ ms) after escape h = in-comment ms after escape h.1
 
--- So in a sound source a key is looked up unless memory runs out.
-pub lost : (e : Encoding) (source : List ℕ) (error : PropertiesError) → IsFirstPairError e source error ⊎ IsBareError kind.Memory error
-    → IsSound e source → IsBareError kind.Memory error
-lost e source error (inl k) sound =
-    let s = sound.in_comments in
-    let same = malformed_escapes_of-only e source k.first.0 k.first.1 ∙ sym (malformed_escapes_of-only e source s.0 s.1) in
-    absurd (unbroken s.0 k.how k.number s.2 (subst (IsFirstInPair k.how k.number) same k.first.2))
-lost e source error (inr k) sound = k
+module _ (e : Encoding) (source : List ℕ) (failure : Failure) where
+  -- In a sound source keys are looked up unless memory runs out.
+  pub lost : SaysMalformed e source failure ⊎ LacksMemory failure → IsSound e source → LacksMemory failure
+  lost (inl m) sound =
+      let f = m.first sound.bytes in
+      let s = sound.in_comments in
+      let same = malformed_escapes_of-only e source _ f.are ∙ sym (malformed_escapes_of-only e source s.0 s.1) in
+      let a = in-comment f.before f.after f.escape (subst AreInComments (sym same) s.2) in
+      let b = f.in_pair in
+      absurd (cc)
+  lost (inr l) sound = l
+
+  pub refused : SaysMalformed e source failure ⊎ LacksMemory failure → HasSoundBytes e source → IsUnsound e source failure
+  refused (inl m) bytes = subst (IsUnsound e source) (sym m.is) (m.first bytes)
+  refused (inr l) bytes = subst (IsUnsound e source) (sym l.is) l.memory
 
 module _ (e : Encoding) (source : List ℕ) where
-  -- one key more
-  pub have-more : (keys : List (List ℕ)) (values : List (Option (List ℕ))) (key : List ℕ) (value : Option (List ℕ)) → HaveValues e source keys values
-      → HasPairValue e source key value → HaveValues e source (keys ++ key ∷ []) (values ++ value ∷ [])
-  have-more [] [] key value h k = (k, tt)
-  have-more [] (v ∷ vs) key value h k = absurd h
-  have-more (n ∷ ns) [] key value h k = absurd h
-  have-more (n ∷ ns) (v ∷ vs) key value h k = (h.0, have-more ns vs key value h.1 k)
-
   pub as-many : (keys : List (List ℕ)) (values : List (Option (List ℕ))) → HaveValues e source keys values → length values ≡ length keys
   as-many [] [] h = refl
   as-many [] (v ∷ vs) h = absurd h
   as-many (n ∷ ns) [] h = absurd h
   as-many (n ∷ ns) (v ∷ vs) h = ap suc (as-many ns vs h.1)
 
-  -- With the value of a key it is known that the source is sound.
-  pub sound-with : {Y : Type 0} (keys : List (String Y)) (values : List (Option (List ℕ))) → (length keys == 0) ≡ false → HasSoundBytes e source
-      → HaveValues e source (map characters keys) values → IsSound e source
-  sound-with [] values some bytes h = absurd (cc)
-  sound-with (k ∷ ks) [] some bytes h = absurd h
-  sound-with (k ∷ ks) (v ∷ vs) some bytes h = record { bytes = bytes; in_comments = h.0.in_comments }
-
   -- ---- keys that no pair has
+
+  pub of-none : {Y : Type 0} (keys : List (String Y)) → (length keys == 0) ≡ true → HasKeys e source (map characters keys)
+  of-none [] none = tt
+  of-none (k ∷ ks) none = let some = eqb-true (length (k ∷ ks)) 0 none in absurd (omega (arith, some))
 
   pub none-absent : (keys : List (List ℕ)) (values : List (Option (List ℕ))) → HaveValues e source keys values → None ≡ first_without keys values
       → HasKeys e source keys

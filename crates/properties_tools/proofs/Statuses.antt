@@ -11,7 +11,7 @@ use Rattle.properties_tools.specs.Propedit.Failures.{failure_status, PrintsFailu
 use Rattle.properties_tools.specs.Propedit.InPlace.{PrintsAbsent}
 use Rattle.properties_tools.specs.declared.propedit.request.Change.{Change}
 use Rattle.properties_tools.specs.declared.propedit.error.Failure.{Failure}
-use Rattle.properties_tools.specs.declared.propedit.error.Failure.TheVariants.{Absent, HoldsZero, NotUtf8, NotUtf8ByMark, NotUtf16, Malformed, Input, Output}
+use Rattle.properties_tools.specs.declared.propedit.error.Failure.TheVariants.{Absent, Texts, HoldsZero, NotUtf8, NotUtf8ByMark, NotUtf16, Malformed, Input, Output}
 
 -- It is that of a key that no pair has, or 2.
 pub statuses : (f : Failure) → ((key : String Global) × (f ≡ Absent key)) ⊎ (failure_status f ≡ 2)
@@ -21,6 +21,7 @@ statuses (NotUtf8ByMark number) = inr refl
 statuses (NotUtf16 number) = inr refl
 statuses (Malformed escape) = inr refl
 statuses (Absent key) = inl (key, refl)
+statuses (Texts flaw) = inr refl
 statuses (Input error) = inr refl
 statuses (Output error) = inr refl
 

@@ -1,7 +1,11 @@
 pub mod Counting
-pub mod FirstKeys
+pub mod Differing
 pub mod Flawed
 pub mod Fold
 pub mod Hinting
 pub mod InPlace
+pub mod Merging
+pub mod Table
+pub mod Checking
 pub mod Collected
+pub mod Sought

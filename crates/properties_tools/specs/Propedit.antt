@@ -3,13 +3,17 @@
 pub mod Change
 pub mod Check
 pub mod Counts
+pub mod Diff
+pub mod Differences
 pub mod Failures
 pub mod Get
 pub mod Hints
 pub mod InPlace
 pub mod Lines
 pub mod Listing
+pub mod Merge
 pub mod Sources
+pub mod Table
 pub mod Texts
 use Rattle.std.specs.Prelude.{◌≡◌, ℕ, Bool, true, false, List, [], ◌∷◌, Result, Ok, Err, codes, map, string_bytes, ◌≢◌, ◌⊎◌, Option, Some, None}
 use Rattle.std.specs.Option.{option_map}
@@ -57,7 +61,7 @@ printed_report false report = report
 -- The source was checked: the status is that of its report, which is printed unless the check is quiet.
 pub record ChecksSource (name : List ℕ) (e : Encoding) (check : AskedCheck) (source : List ℕ) (answer : Answer) : Type 0 where
   pub report : List ℕ
-  pub is_report : IsReport name e check.allowed source report
+  pub is_report : IsReport name e check source report
   pub text : answer.text.items ≡ printed_report check.quiet report
   pub status : answer.status ≡ report_status report
 

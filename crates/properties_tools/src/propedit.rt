@@ -5,19 +5,24 @@ pub mod answers;
 pub mod change;
 pub mod check;
 pub mod counts;
+pub mod diff;
 pub mod error;
-mod first_keys;
 mod fold;
 pub mod get;
 pub mod hint;
 pub mod ill_formed;
 pub mod in_place;
+mod key_table;
 mod line_findings;
 pub mod list;
+pub mod merge;
 pub mod pairs;
 pub mod request;
 pub mod same_file;
 pub mod sound;
+mod sound_pairs;
+mod table;
+mod texts;
 mod values;
 
 ghost use Rattle.std.specs.Prelude.{◌≡◌, map};
@@ -106,7 +111,7 @@ fn print_answer<R: CountedRead, W: CountedWrite>(
 /// let edits = Change::Edits(Edits {
 ///     list: vec![in alloc; Edit::Remove(port)]?,
 ///     ascii_only: false,
-///     existing: false,
+///     absent: AbsentKeys::Added,
 /// });
 /// replacement(alloc, b"host = a\n", Encoding::UTF_8, &edits)?; // None
 /// ```
@@ -159,7 +164,7 @@ pub fn exit_status<E: CountedWrite>(
 ///
 /// ```text
 /// let mut output = Counted::new(Vec::new(alloc));
-/// propedit::print_text(alloc, "propedit 1.16.0\n", &mut output, &mut errors); // 0, and the output holds the text
+/// propedit::print_text(alloc, "propedit 1.17.0\n", &mut output, &mut errors); // 0, and the output holds the text
 /// ```
 pub fn print_text<W: CountedWrite, E: CountedWrite>(
     alloc: Global,

@@ -13,6 +13,7 @@ use Rattle.properties_lines.specs.Private.HeldLines.{IsInBody, lines_left}
 use Rattle.properties_lines.specs.Scanner.{HasRightFlags, bytes_of}
 use Rattle.properties_lines.specs.declared.scanner.RawLine.{RawLine}
 use Rattle.properties_lines.specs.declared.scanner.Scanner.{Scanner}
+use Rattle.properties_tools.specs.Private.Checking.{otherwise_finding}
 use Rattle.properties_tools.specs.Propedit.Check.{AreOtherwise, AreRefused, AreWithBytes}
 use Rattle.properties_tools.specs.declared.propedit.check.Finding.{Finding}
 use Rattle.properties_tools.specs.Propedit.Lines.{holds_byte, holds_non_ascii, holds_zero, AreFlawedIn, HasFlawed}
@@ -92,11 +93,11 @@ FindsRefused allowed e source (Err error) = IsBareError kind.Memory error
 
 -- What finding the lines with these bytes returns, and with those that aren't allowed, likewise.
 abbrev pub FindsBytes : List ℕ → Encoding → List ℕ → Result (Vec Finding) PropertiesError → Type 0
-FindsBytes bytes e source (Ok findings) = AreWithBytes e source bytes findings.items
+FindsBytes bytes e source (Ok findings) = AreWithBytes otherwise_finding e source bytes findings.items
 FindsBytes bytes e source (Err error) = IsBareError kind.Memory error
 
 abbrev pub FindsOtherwise : Allowed → Encoding → List ℕ → Result (Vec Finding) PropertiesError → Type 0
-FindsOtherwise allowed e source (Ok findings) = AreOtherwise allowed e source findings.items
+FindsOtherwise allowed e source (Ok findings) = AreOtherwise otherwise_finding allowed e source findings.items
 FindsOtherwise allowed e source (Err error) = IsBareError kind.Memory error
 
 -- The next number is found, if there is one.

@@ -10,6 +10,8 @@ use Rattle.properties_items.specs.declared.error.ErrorKind.TheVariants as kind
 use Rattle.properties_items.specs.declared.error.PropertiesError.{PropertiesError}
 use Rattle.properties_items.specs.declared.findings.MalformedEscape.{MalformedEscape}
 use Rattle.java_properties.specs.Findings.{KeyPlace}
+use Rattle.properties_tools.specs.Propedit.Sources.{first_in_pair, IsSound, IsUnsound}
+use Rattle.properties_tools.specs.declared.propedit.error.Failure.{Failure}
 
 -- ---- findings
 
@@ -85,3 +87,12 @@ module _ {T : Type 0} (Took : T → List Finding → T → Type 0) where
   abbrev pub TakesAll : T → Encoding → List ℕ → Result T PropertiesError → Type 0
   TakesAll old e source (Ok new) = (findings : List Finding) × AreFindings e source findings × Took old findings new
   TakesAll old e source (Err error) = IsBareError kind.Memory error
+
+  -- It took these, and this is the first malformed escape of a pair among them.
+  abbrev pub TookSound : T → List Finding → T → Option MalformedEscape → Type 0
+  TookSound old findings new malformed = Took old findings new × (malformed ≡ first_in_pair (escapes_among findings))
+
+  -- What having it take a source returns that is refused if it isn't sound.
+  abbrev pub TakesSound : T → Encoding → List ℕ → Result T Failure → Type 0
+  TakesSound old e source (Ok new) = IsSound e source × ((findings : List Finding) × AreFindings e source findings × Took old findings new)
+  TakesSound old e source (Err failure) = IsUnsound e source failure

@@ -1,5 +1,5 @@
 -- What a change gives: the bytes of a source after it.
-use Rattle.std.specs.Prelude.{◌≡◌, ◌⊎◌, ℕ, true, List, [], ◌∷◌, ◌++◌, Some, None, Result, Ok, Err, map}
+use Rattle.std.specs.Prelude.{◌≡◌, ◌⊎◌, ℕ, List, [], ◌∷◌, ◌++◌, Option, Some, None, Result, Ok, Err, map}
 use Rattle.std.specs.Global.{Global, Vec}
 use Rattle.std.specs.declared.string.String.{String}
 use Rattle.properties_format.specs.Converting.{IsConverted}
@@ -12,7 +12,10 @@ use Rattle.java_properties.specs.Editing.{ArePairsMade, IsRefusal, edits_in}
 use Rattle.java_properties.specs.Maps.{characters}
 use Rattle.properties_items.specs.declared.error.PropertiesError.{PropertiesError}
 use Rattle.properties_tools.specs.Propedit.Failures.{LacksMemory}
+use Rattle.properties_tools.specs.Propedit.Get.{HaveValues}
 use Rattle.properties_tools.specs.Propedit.Sources.{HasSoundBytes, HasUnsoundBytes, IsSound, IsUnsound}
+use Rattle.properties_tools.specs.declared.propedit.request.AbsentKeys.{AbsentKeys}
+use Rattle.properties_tools.specs.declared.propedit.request.AbsentKeys.TheVariants as absent
 use Rattle.properties_tools.specs.declared.propedit.request.Change.{Change}
 use Rattle.properties_tools.specs.declared.propedit.request.Change.TheVariants as change
 use Rattle.properties_tools.specs.declared.propedit.request.Conversion.{Conversion}
@@ -55,11 +58,33 @@ pub record IsFirstAbsent (e : Encoding) (source : List ℕ) (keys : List (List �
 abbrev pub put_in : Encoding → Edits → Repertoire
 put_in e edits = record { encoding = e; characters = characters_for edits.ascii_only edits.latin_1 }
 
--- The source is sound, and these are its bytes after the edits. If that is asked for, a pair of it has each of their keys.
+-- ---- keys that no pair has
+
+-- those of the edits that have a value in their place
+abbrev pub with_values : List format.Edit → List (Option (List ℕ)) → List format.Edit
+with_values (edit ∷ edits) (Some value ∷ values) = edit ∷ with_values edits values
+with_values (edit ∷ edits) (None ∷ values) = with_values edits values
+with_values edits values = []
+
+-- These are the edits of which a pair of the source has the key, in order.
+pub record AreKnown (e : Encoding) (source : List ℕ) (edits known : List format.Edit) : Type 0 where
+  pub values : List (Option (List ℕ))
+  pub have_values : HaveValues e source (edited_keys edits) values
+  pub are : known ≡ with_values edits values
+
+-- These of the edits are made: all of them, for which a pair of the source may have to have each key; or those of keys
+-- that a pair has.
+abbrev pub AreChosen : AbsentKeys → Encoding → List ℕ → List format.Edit → List format.Edit → Type 0
+AreChosen absent.Added e source edits chosen = chosen ≡ edits
+AreChosen absent.Refused e source edits chosen = (chosen ≡ edits) × HasKeys e source (edited_keys edits)
+AreChosen absent.LeftOut e source edits chosen = AreKnown e source edits chosen
+
+-- The source is sound, and these are its bytes after the edits that are made.
 pub record MakesEdits (e : Encoding) (source : List ℕ) (edits : Edits) (bytes : List ℕ) : Type 0 where
   pub sound : IsSound e source
-  pub existing : edits.existing ≡ true → HasKeys e source (edited_keys (edits_in edits.list.items))
-  pub made : ArePairsMade (put_in e edits) source (edits_in edits.list.items) bytes
+  pub chosen : List format.Edit
+  pub are_chosen : AreChosen edits.absent e source (edits_in edits.list.items) chosen
+  pub made : ArePairsMade (put_in e edits) source chosen bytes
 
 -- The source is sound, but the edits aren't made: its encoding is not one that is edited, or memory ran out.
 pub record RefusesEdits (e : Encoding) (source : List ℕ) (edits : Edits) (failure : Failure) : Type 0 where
@@ -72,7 +97,7 @@ pub record RefusesEdits (e : Encoding) (source : List ℕ) (edits : Edits) (fail
 -- them that none has.
 pub record RefusesAbsent (e : Encoding) (source : List ℕ) (edits : Edits) (failure : Failure) : Type 0 where
   pub sound : IsSound e source
-  pub existing : edits.existing ≡ true
+  pub asked : edits.absent ≡ absent.Refused
   pub bytes : List ℕ
   pub made : ArePairsMade (put_in e edits) source (edits_in edits.list.items) bytes
   pub key : String Global

@@ -17,25 +17,31 @@ use Rattle.java_properties.specs.Findings.{AreKeyLines, KeyEntry, escape_records
 use Rattle.properties_items.specs.declared.error.ErrorKind.TheVariants as kind
 use Rattle.properties_items.specs.declared.error.PropertiesError.{PropertiesError}
 use Rattle.properties_items.specs.declared.findings.MalformedEscape.{MalformedEscape}
-use Rattle.properties_tools.specs.Messages.{escaped}
+use Rattle.properties_tools.specs.Messages.{all_shown, escaped}
 use Rattle.properties_tools.specs.Propedit.Failures.{ill_formed_words, ill_formed_by_mark_words, not_utf_16_words, zero_words}
 use Rattle.properties_tools.specs.Propedit.Lines.{starts_with_bom, AreFlawedLines, IsFirstFlawed, IsFirstUtf8}
 use Rattle.properties_tools.specs.Propedit.Sources.{is_in_utf_16}
-use Rattle.properties_tools.specs.declared.propedit.check.FindingKind.{FindingKind}
-use Rattle.properties_tools.specs.declared.propedit.check.FindingKind.TheVariants.{HoldsZero, IllFormedLine, LooksUtf8, NonAscii, ReadOtherwise, Escape, Repeats}
-use Rattle.properties_tools.specs.declared.propedit.check.Finding.{Finding}
 use Rattle.properties_tools.specs.declared.propedit.check.Words.{Words}
 use Rattle.properties_tools.specs.declared.propedit.check.Words.TheVariants.{WithEncoding, WithByteOrderMark, NotUtf8, NotUtf16}
 use Rattle.properties_tools.specs.declared.propedit.ill_formed.Flaw.TheVariants as flaw
 use Rattle.properties_tools.specs.declared.propedit.request.Allowed.{Allowed}
 use Rattle.properties_tools.specs.declared.propedit.request.Allowed.TheVariants.{All, Latin1, Ascii}
+use Rattle.properties_tools.specs.declared.propedit.request.Check.{Check}
 
--- ---- findings
+-- ---- what is said
+
+-- of a line
+pub record Said : Type 0 where
+  pub line : ℕ
+  pub words : List ℕ
+
+abbrev pub said : List ℕ → ℕ → Said
+said words number = record { line = number; words = words }
 
 -- of the first line of which something is said, where there is one
-abbrev pub first_findings : FindingKind → Option ℕ → List Finding
-first_findings kind None = []
-first_findings kind (Some number) = record { line_number = number; kind = kind } ∷ []
+abbrev pub first_of : {X : Type 0} → (ℕ → X) → Option ℕ → List X
+first_of of None = []
+first_of of (Some number) = of number ∷ []
 
 -- what is said of the first ill-formed line of a source: what helps, if it is not UTF-8 and no line has U+0000
 abbrev pub first_words : Encoding → List ℕ → Bool → Words
@@ -48,46 +54,19 @@ words_after NotUtf16 = NotUtf16
 words_after other = NotUtf8
 
 -- of the ill-formed lines, where these words are said of the first
-abbrev pub ill_formed_findings : Words → List ℕ → List Finding
-ill_formed_findings words [] = []
-ill_formed_findings words (number ∷ numbers) = record { line_number = number; kind = IllFormedLine words } ∷ ill_formed_findings (words_after words) numbers
+abbrev pub ill_formed_of : {X : Type 0} → (Words → ℕ → X) → Words → List ℕ → List X
+ill_formed_of of words [] = []
+ill_formed_of of words (number ∷ numbers) = of words number ∷ ill_formed_of of (words_after words) numbers
 
--- of a line
-abbrev pub finding_of : FindingKind → ℕ → Finding
-finding_of kind number = record { line_number = number; kind = kind }
-
--- of a malformed escape
-abbrev pub escape_finding : MalformedEscape → Finding
-escape_finding escape = record { line_number = escape.line_number; kind = Escape escape }
+-- of a malformed escape, which is left out where it is in a comment and only pairs are asked for
+abbrev pub escapes_of : {X : Type 0} → (MalformedEscape → X) → Bool → MalformedEscape → List X
+escapes_of of pairs_only escape = if pairs_only && escape.in_comment then [] else of escape ∷ []
 
 -- whether a text has U+FFFD, as which ill-formed bytes are read
 abbrev pub has_replacement : List ℕ → Bool
 has_replacement text = list_any (λ c. c == 65533) text
 
--- Of a key: that a pair in an earlier line has it. Where a line is ill-formed, a key with U+FFFD repeats no other.
-abbrev pub repeat_findings : Bool → KeyEntry → List Finding
-repeat_findings is_well_formed k =
-    if k.first == k.number then [] else
-    if not is_well_formed && has_replacement k.key then [] else
-    record { line_number = k.number; kind = Repeats k.first } ∷ []
-
--- the findings of this line with U+0000, these ill-formed lines, this line that looks like UTF-8, these lines that aren't
--- ASCII, bytes that are read otherwise, escapes and keys, one kind after another
-abbrev pub all_findings : Words → Option ℕ → List ℕ → Option ℕ → List ℕ → List Finding → List MalformedEscape → List KeyEntry → List Finding
-all_findings words zero numbers utf_8 refused otherwise escapes keys =
-    first_findings HoldsZero zero
-    ++ (ill_formed_findings words numbers
-    ++ (first_findings LooksUtf8 utf_8
-    ++ (map (finding_of NonAscii) refused
-    ++ (otherwise
-    ++ (map escape_finding escapes ++ flat_map (repeat_findings (length numbers == 0)) keys)))))
-
--- The findings are in the order of their lines, and those of one line in the order that they have in the others.
-pub record ArrangesByLine (findings arranged : List Finding) : Type 0 where
-  pub in_order : IsNonDecreasingBy (λ f. f.line_number) arranged
-  pub stable : IsStableByKey (λ f. f.line_number) nat_cmp findings arranged
-
--- ---- lines
+-- ---- words
 
 -- of an ill-formed line
 abbrev pub ill_formed_text : Words → List ℕ
@@ -96,31 +75,63 @@ ill_formed_text WithByteOrderMark = ill_formed_by_mark_words
 ill_formed_text NotUtf8 = codes "not UTF-8"
 ill_formed_text NotUtf16 = not_utf_16_words
 
--- what is added where an escape is in a comment
-abbrev pub comment_words : Bool → List ℕ
-comment_words true = codes " (in a comment, which Java and propedit pass over)"
-comment_words false = []
+abbrev pub utf_8_words : List ℕ
+utf_8_words = codes "looks like UTF-8; without -e it is read as UTF-8"
 
--- of a byte, and of its character in windows-1252
+abbrev pub non_ascii_words : List ℕ
+non_ascii_words = codes "has a non-ASCII character"
+
+-- of a byte that ISO 8859-1 reads as another character, and of its character in windows-1252
 abbrev pub otherwise_words : ℕ → ℕ → List ℕ
 otherwise_words byte c =
     codes "byte " ++ (digits 16 true byte
     ++ (codes " is '\\u" ++ ((if nat_lt c 0x1000 then codes "0" else []) ++ (digits 16 false c
     ++ (codes "' in windows-1252 and U+00" ++ (digits 16 true byte ++ codes " to Java"))))))
 
--- what is wrong, in words
-abbrev pub kind_words : FindingKind → List ℕ
-kind_words HoldsZero = zero_words
-kind_words (IllFormedLine words) = ill_formed_text words
-kind_words LooksUtf8 = codes "looks like UTF-8; without -e it is read as UTF-8"
-kind_words NonAscii = codes "has a non-ASCII character"
-kind_words (ReadOtherwise byte) = otherwise_words byte (windows_1252_character byte)
-kind_words (Escape escape) = description escape.kind ++ comment_words escape.in_comment
-kind_words (Repeats first) = codes "repeats the key of line " ++ decimal first
+abbrev pub byte_words : ℕ → List ℕ
+byte_words byte = otherwise_words byte (windows_1252_character byte)
+
+-- what is added where an escape is in a comment
+abbrev pub comment_words : Bool → List ℕ
+comment_words true = codes " (in a comment, which Java and propedit pass over)"
+comment_words false = []
+
+abbrev pub escape_words : MalformedEscape → List ℕ
+escape_words escape = description escape.kind ++ comment_words escape.in_comment
+
+-- of a pair whose key has its first pair in an earlier line
+abbrev pub repeat_words : List ℕ → ℕ → List ℕ
+repeat_words key first = codes "repeats the key '" ++ (all_shown key ++ (codes "' of line " ++ decimal first))
+
+-- ---- findings
+
+-- Of a key: that a pair in an earlier line has it. Where a line is ill-formed, a key with U+FFFD repeats no other.
+abbrev pub repeats_of : Bool → KeyEntry → List Said
+repeats_of is_well_formed k =
+    if k.first == k.number then [] else
+    if not is_well_formed && has_replacement k.key then [] else
+    said (repeat_words k.key k.first) k.number ∷ []
+
+-- what is said of this line with U+0000, these ill-formed lines, this line that looks like UTF-8, these lines that aren't
+-- ASCII, bytes that are read otherwise, escapes and keys, one kind after another
+abbrev pub all_said : Bool → Words → Option ℕ → List ℕ → Option ℕ → List ℕ → List Said → List MalformedEscape → List KeyEntry → List Said
+all_said pairs_only words zero numbers utf_8 refused otherwise escapes keys =
+    first_of (said zero_words) zero
+    ++ (ill_formed_of (λ w. said (ill_formed_text w)) words numbers
+    ++ (first_of (said utf_8_words) utf_8
+    ++ (map (said non_ascii_words) refused
+    ++ (otherwise
+    ++ (flat_map (escapes_of (λ escape. said (escape_words escape) escape.line_number) pairs_only) escapes
+    ++ flat_map (repeats_of (length numbers == 0)) keys)))))
+
+-- They are in the order of their lines, and those of one line in the order that they have in the others.
+pub record ArrangesByLine (all arranged : List Said) : Type 0 where
+  pub in_order : IsNonDecreasingBy (λ s. s.line) arranged
+  pub stable : IsStableByKey (λ s. s.line) nat_cmp all arranged
 
 -- the line `NAME:LINE: TEXT`
-abbrev pub finding_line : List ℕ → Finding → List ℕ
-finding_line name f = escaped name ++ (codes ":" ++ (decimal f.line_number ++ (codes ": " ++ (kind_words f.kind ++ (line_feed ∷ [])))))
+abbrev pub said_line : List ℕ → Said → List ℕ
+said_line name s = escaped name ++ (codes ":" ++ (decimal s.line ++ (codes ": " ++ (s.words ++ (line_feed ∷ [])))))
 
 -- ---- the report
 
@@ -135,22 +146,24 @@ abbrev pub other_bytes : ℕ → List ℕ → List ℕ
 other_bytes byte [] = []
 other_bytes byte (c ∷ cs) = if c == byte then other_bytes (byte + 1) cs else byte ∷ other_bytes (byte + 1) cs
 
--- These are the findings of the lines that have one of these bytes, byte by byte.
-abbrev pub AreWithBytes : Encoding → List ℕ → List ℕ → List Finding → Type 0
-AreWithBytes e source [] findings = findings ≡ []
-AreWithBytes e source (byte ∷ bytes) findings =
-    (numbers : List ℕ) × (others : List Finding) × AreFlawedLines (flaw.Byte byte) e source numbers
-    × (findings ≡ map (finding_of (ReadOtherwise byte)) numbers ++ others) × AreWithBytes e source bytes others
+module _ {X : Type 0} (of : ℕ → ℕ → X) where
+  -- This is said of the lines that have one of these bytes, byte by byte.
+  abbrev pub AreWithBytes : Encoding → List ℕ → List ℕ → List X → Type 0
+  AreWithBytes e source [] findings = findings ≡ []
+  AreWithBytes e source (byte ∷ bytes) findings =
+      (numbers : List ℕ) × (others : List X) × AreFlawedLines (flaw.Byte byte) e source numbers
+      × (findings ≡ map (of byte) numbers ++ others) × AreWithBytes e source bytes others
 
--- These are those of bytes that aren't allowed.
-abbrev pub AreOtherwise : Allowed → Encoding → List ℕ → List Finding → Type 0
-AreOtherwise Latin1 e source findings = AreWithBytes e source (other_bytes 0x80 windows_1252_table) findings
-AreOtherwise other e source findings = findings ≡ []
+  -- This is said of those with bytes that aren't allowed.
+  abbrev pub AreOtherwise : Allowed → Encoding → List ℕ → List X → Type 0
+  AreOtherwise Latin1 e source findings = AreWithBytes e source (other_bytes 0x80 windows_1252_table) findings
+  AreOtherwise other e source findings = findings ≡ []
 
 -- The text has the first line of a source with U+0000, its ill-formed lines, its first non-ASCII line if it is UTF-8 that
 -- is read as windows-1252, its well-formed lines with a character that isn't allowed, its bytes that aren't
--- allowed, its malformed escapes and its repeated keys, in the order of the lines.
-pub record IsReport (name : List ℕ) (e : Encoding) (allowed : Allowed) (source text : List ℕ) : Type 0 where
+-- allowed, its malformed escapes, those in comments unless only pairs are asked for, and its repeated keys, in the order
+-- of the lines.
+pub record IsReport (name : List ℕ) (e : Encoding) (check : Check) (source text : List ℕ) : Type 0 where
   pub zero : Option ℕ
   pub is_zero : IsFirstFlawed flaw.Zero e source zero
   pub numbers : List ℕ
@@ -158,18 +171,19 @@ pub record IsReport (name : List ℕ) (e : Encoding) (allowed : Allowed) (source
   pub utf_8 : Option ℕ
   pub looks_utf_8 : IsFirstUtf8 e source utf_8
   pub refused : List ℕ
-  pub are_refused : AreRefused allowed e source refused
-  pub otherwise : List Finding
-  pub are_otherwise : AreOtherwise allowed e source otherwise
+  pub are_refused : AreRefused check.allowed e source refused
+  pub otherwise : List Said
+  pub are_otherwise : AreOtherwise (λ byte. said (byte_words byte)) check.allowed e source otherwise
   pub escapes : List format.MalformedEscape
   pub malformed : AreMalformedEscapes e source escapes
   pub keys : List KeyEntry
   pub are_keys : AreKeyLines e source keys
-  pub findings : List Finding
-  pub arranged : ArrangesByLine (all_findings (first_words e source (is_some zero)) zero numbers utf_8 refused otherwise (escape_records escapes) keys) findings
-  pub is : text ≡ flat_map (finding_line name) findings
+  pub all : List Said
+  pub arranged : ArrangesByLine
+      (all_said check.pairs_only (first_words e source (is_some zero)) zero numbers utf_8 refused otherwise (escape_records escapes) keys) all
+  pub is : text ≡ flat_map (said_line name) all
 
 -- What reporting returns. It fails only if memory runs out.
-abbrev pub Reports : {Z : Type 0} → Encoding → Allowed → List ℕ → List ℕ → Result (String Z) PropertiesError → Type 0
-Reports e allowed name source (Ok text) = IsReport name e allowed source (string_bytes text)
-Reports e allowed name source (Err error) = IsBareError kind.Memory error
+abbrev pub Reports : {Z : Type 0} → Encoding → Check → List ℕ → List ℕ → Result (String Z) PropertiesError → Type 0
+Reports e check name source (Ok text) = IsReport name e check source (string_bytes text)
+Reports e check name source (Err error) = IsBareError kind.Memory error

@@ -67,7 +67,7 @@ fn check(
 ) -> Result<Answer, Failure>
     ensures { Checks name.now (encoding_of encoding) asked source.now result }
 {
-    let report = report(alloc, name, source, encoding, asked.allowed)?.into_bytes();
+    let report = report(alloc, name, source, encoding, asked)?.into_bytes();
     let status = if report.is_empty() { 0 } else { 1 };
     let text = if asked.quiet { Vec::new(alloc) } else { report };
     Ok(Answer { text, status })

@@ -5,13 +5,14 @@ ghost use Rattle.std.specs.Option.{option_map};
 ghost use Rattle.java_properties.specs.Editing.{edit_in, edits_in};
 ghost use Rattle.java_properties.specs.Maps.{characters};
 ghost use Rattle.properties_text.specs.Encoding.{encoding_of};
-ghost use Rattle.properties_tools.specs.Private.Collected.{first_without, value_texts, RefusesIfAbsent};
+ghost use Rattle.properties_tools.specs.Private.Collected.{first_without, value_texts, FindsKnown, MakesList, RefusesIfAbsent};
 ghost use Rattle.properties_tools.specs.Private.Hinting.{FindsAbsent};
-ghost use Rattle.properties_tools.specs.Propedit.Change.{edited_key, edited_keys, Changes, ChangesByEdits, Converts};
+ghost use Rattle.properties_tools.specs.Propedit.Change.{edited_key, edited_keys, with_values, Changes, ChangesByEdits, Converts};
+ghost use Rattle.properties_tools.specs.Propedit.Sources.{HasSoundBytes};
 ghost use Rattle.properties_tools.specs.Propedit.Texts.{borrowed_characters};
 
 use crate::propedit::error::Failure;
-use crate::propedit::request::{Change, Conversion, Edits};
+use crate::propedit::request::{AbsentKeys, Change, Conversion, Edits};
 use crate::propedit::sound::{refuse_bytes, refuse_unsound};
 use crate::propedit::values::values_of;
 use java_properties::{Comments, Edit, Encoding, SourceOptions, convert, edit_with};
@@ -21,14 +22,15 @@ use std::alloc::{AllocError, Global};
 ///
 /// It refuses a source for its bytes: lines that are ill-formed in the encoding in force, or U+0000 if UTF-8 is in
 /// force without a byte order mark. Edits refuse a malformed escape in a pair too, then UTF-16, and then, if that is
-/// asked for, the first key to set or remove that no pair of the source has. A conversion keeps what is malformed.
+/// asked for, the first key to set or remove that no pair of the source has. If such keys are to be left out, only the
+/// edits of other keys are made. A conversion keeps what is malformed.
 ///
 /// ```text
 /// let edits = Change::Edits(Edits {
 ///     list: vec![in alloc; Edit::SetValue(port, value)]?,
 ///     ascii_only: false,
 ///     latin_1: false,
-///     existing: false,
+///     absent: AbsentKeys::Added,
 /// });
 /// let bytes = change(alloc, b"# the front door\nport = 80\n", Encoding::UTF_8, &edits)?;
 /// // If the value is `8080`: `# the front door`, a line feed, `port = 8080` and a line feed.
@@ -64,25 +66,78 @@ fn edited(
     ensures { ChangesByEdits (encoding_of encoding) source.now edits.now result }
 {
     refuse_bytes(source, encoding)?;
+    match edits.absent {
+        AbsentKeys::Added => made(alloc, source, encoding, edits, &edits.list),
+        AbsentKeys::Refused => {
+            let bytes = made(alloc, source, encoding, edits, &edits.list)?;
+            refuse_absent(alloc, source, encoding, &edits.list)?;
+            Ok(bytes)
+        }
+        AbsentKeys::LeftOut => {
+            let known = known_edits(alloc, source, encoding, &edits.list)?;
+            made(alloc, source, encoding, edits, &known)
+        }
+    }
+}
+
+// Returns the bytes of a source with sound bytes after some of its edits.
+fn made(
+    alloc: Global,
+    source: &[u8],
+    encoding: Encoding,
+    edits: &Edits,
+    list: &[Edit],
+) -> Result<Vec<u8>, Failure>
+    requires { HasSoundBytes (encoding_of encoding) source.now }
+    ensures { MakesList (encoding_of encoding) source.now edits.now (edits_in list.now) result }
+{
     let options = SourceOptions {
         encoding,
         ascii_only: edits.ascii_only,
         latin_1: edits.latin_1,
         comments: Comments::PassedOver,
     };
-    match edit_with(alloc, source, options, &edits.list) {
-        Ok(bytes) => {
-            if edits.existing {
-                refuse_absent(alloc, source, encoding, &edits.list)?;
-            }
-            Ok(bytes)
-        }
+    match edit_with(alloc, source, options, list) {
+        Ok(bytes) => Ok(bytes),
         // A malformed escape comes before the encoding.
         Err(error) => {
             refuse_unsound(alloc, source, encoding)?;
             Err(Failure::from(error))
         }
     }
+}
+
+// Returns those edits of which a pair of a source with sound bytes has the key.
+fn known_edits(
+    alloc: Global,
+    source: &[u8],
+    encoding: Encoding,
+    edits: &[Edit],
+) -> Result<Vec<Edit>, Failure>
+    requires { HasSoundBytes (encoding_of encoding) source.now }
+    ensures { FindsKnown (encoding_of encoding) source.now (edits_in edits.now) result }
+{
+    let keys = keys_of(alloc, edits)?;
+    let values = values_of(alloc, source, encoding, &keys)?;
+    Ok(with_values(alloc, edits, &values)?)
+}
+
+// Returns those edits that have a value in their place.
+fn with_values(
+    alloc: Global,
+    edits: &[Edit],
+    values: &[Option<String>],
+) -> Result<Vec<Edit>, AllocError>
+    requires { length values.now ≡ length edits.now }
+    ensures { IfOk result (λ some. edits_in some.items ≡ with_values (edits_in edits.now) (value_texts values.now)) }
+{
+    let mut some = Vec::new(alloc);
+    for (place, value) in values.iter().enumerate() {
+        if value.is_some() {
+            some.push(edits[place].clone()?)?;
+        }
+    }
+    Ok(some)
 }
 
 // Refuses edits of a key that no pair of a sound source has. The failure has the first such key.
@@ -110,6 +165,9 @@ pub(crate) fn first_absent<'a>(
 ) -> Result<Option<&'a str>, Failure>
     ensures { FindsAbsent (encoding_of encoding) source.now (map characters keys.now) result }
 {
+    if keys.is_empty() {
+        return Ok(None);
+    }
     let values = values_of(alloc, source, encoding, keys)?;
     Ok(first_without_value(keys, &values))
 }

@@ -2,24 +2,28 @@
 
 ghost use Rattle.std.specs.Prelude.{◌≡◌, ◌++◌, map, OnOk};
 ghost use Rattle.std.specs.List.{flat_map};
+ghost use Rattle.std.specs.Str.{chars};
 ghost use Rattle.std.specs.String.{string_bytes};
 ghost use Rattle.properties_format.specs.Windows1252.{windows_1252_character};
 ghost use Rattle.properties_text.specs.Encoding.{encoding_of};
-ghost use Rattle.properties_tools.specs.Propedit.Check.{comment_words, finding_line, first_findings, first_words, ill_formed_findings, ill_formed_text, finding_of, words_after, ArrangesByLine, Reports};
+ghost use Rattle.properties_tools.specs.Propedit.Check.{comment_words, escapes_of, first_of, first_words, ill_formed_of, ill_formed_text, said_line, words_after, Reports};
+ghost use Rattle.properties_tools.specs.Private.Checking.{escape_finding, finding_of, ill_formed_finding, kind_words, place_at, said_of, ArrangesFindings, ChecksKeys};
 ghost use Rattle.properties_tools.specs.Private.Flawed.{FindsBytes, FindsOtherwise, FindsRefused};
+ghost use Rattle.properties_tools.specs.Private.Table.{places_of, IsKeyTable};
 
 use crate::messages::Escaped;
 use crate::propedit::error::{HOLDS_ZERO, NOT_UTF_8, NOT_UTF_8_BY_MARK, NOT_UTF_16};
 use crate::propedit::ill_formed::{
     Flaw, first_flawed_line, first_utf_8_line, flawed_lines, has_byte_order_mark, ill_formed_lines,
 };
+use crate::propedit::key_table::KeyTable;
 use crate::propedit::line_findings::line_findings;
-use crate::propedit::request::Allowed;
+use crate::propedit::request::{Allowed, Check};
 use crate::propedit::sound::in_utf_16;
 use java_properties::{Encoding, MalformedEscape, PropertiesError};
 use properties_text::encoding::LineEncoding;
 use std::alloc::{AllocError, Global};
-use std::fmt;
+use std::fmt::{self, Write};
 
 // The bytes that windows-1252 and ISO 8859-1 read as different characters.
 const READ_OTHERWISE: &[u8] = b"\x80\x82\x83\x84\x85\x86\x87\x88\x89\x8a\x8b\x8c\x8e\
@@ -45,7 +49,7 @@ pub(crate) enum FindingKind {
     // This byte, which ISO 8859-1 reads as another character than windows-1252 does.
     ReadOtherwise(u8),
     Escape(MalformedEscape),
-    // The key of this earlier line.
+    // The key in this row of the source's keys, which an earlier pair has.
     Repeats(usize),
 }
 
@@ -65,26 +69,54 @@ pub(crate) enum Words {
 /// U+0000, if UTF-8 is in force without a byte order mark; the lines that are ill-formed in the encoding in force; the
 /// first line with a non-ASCII character, if windows-1252 is in force though the source is well-formed UTF-8; the
 /// well-formed lines with a non-ASCII character, if only ASCII is allowed; each byte of a line that ISO 8859-1 reads as
-/// another character, if that isn't allowed and windows-1252 is in force; malformed escapes; and pairs that repeat a
-/// key. The text is empty if nothing is wrong. Fails only if memory runs out.
+/// another character, if that isn't allowed and windows-1252 is in force; malformed escapes, but those in comments if only pairs are asked
+/// for; and pairs that repeat a key. The text is empty if nothing is wrong. Fails only if memory runs out. Whether the
+/// check is quiet is the caller's concern.
 ///
 /// If a line is ill-formed, a key with U+FFFD repeats no other, since that character may stand for any bytes.
 ///
 /// ```text
 /// let source = b"# C:\\users\na=1\na=\xe9";
-/// let text = report(alloc, "my.properties", source, Encoding::UTF_8, Allowed::All)?;
+/// let asked = Check {
+///     allowed: Allowed::All,
+///     pairs_only: false,
+///     quiet: false,
+/// };
+/// let text = report(alloc, "my.properties", source, Encoding::UTF_8, asked)?;
 /// // my.properties:1: Malformed \uxxxx encoding: not hex. (in a comment, which Java and propedit pass over)
 /// // my.properties:3: not UTF-8; if it is in windows-1252 or Latin-1, -e windows-1252 reads it
-/// // my.properties:3: repeats the key of line 2
+/// // my.properties:3: repeats the key 'a' of line 2
 /// ```
 pub fn report(
     alloc: Global,
     name: &str,
     source: &[u8],
     encoding: Encoding,
-    allowed: Allowed,
+    asked: Check,
 ) -> Result<String, PropertiesError>
-    ensures { Reports (encoding_of encoding) allowed name.now source.now result }
+    ensures { Reports (encoding_of encoding) asked name.now source.now result }
+{
+    Ok(checked(alloc, name, source, encoding, asked)?.text)
+}
+
+// What is wrong in a source, as lines, and the keys of its pairs.
+#[derive(Drop)]
+pub(crate) struct Reported {
+    pub text: String,
+    pub keys: KeyTable,
+    // Whether no line is ill-formed.
+    pub is_well_formed: bool,
+}
+
+// Returns what is wrong in a source, and the keys of its pairs.
+pub(crate) fn checked(
+    alloc: Global,
+    name: &str,
+    source: &[u8],
+    encoding: Encoding,
+    asked: Check,
+) -> Result<Reported, PropertiesError>
+    ensures { ChecksKeys (encoding_of encoding) asked name.now source.now result }
 {
     let numbers = ill_formed_lines(alloc, source, encoding)?;
     let mut findings = Vec::new(alloc);
@@ -94,17 +126,21 @@ pub fn report(
     push_ill_formed(&mut findings, &numbers, words)?;
     let utf_8 = first_utf_8_line(source, encoding);
     push_first(&mut findings, utf_8, FindingKind::LooksUtf8)?;
-    let refused = refused_lines(alloc, source, encoding, allowed)?;
+    let refused = refused_lines(alloc, source, encoding, asked.allowed)?;
     push_all(&mut findings, &refused, FindingKind::NonAscii)?;
-    let otherwise = read_otherwise(alloc, source, encoding, allowed)?;
+    let otherwise = read_otherwise(alloc, source, encoding, asked.allowed)?;
     findings.extend_from_slice(&otherwise)?;
     let in_lines = line_findings(alloc, source, encoding, numbers.is_empty())?;
-    findings.extend_from_slice(&in_lines.escapes)?;
+    push_escapes(&mut findings, &in_lines.escapes, asked.pairs_only)?;
     findings.extend_from_slice(&in_lines.repeats)?;
     sort(&mut findings)?;
     let mut text = String::new(alloc);
-    push_lines(&mut text, name, &findings)?;
-    Ok(text)
+    push_lines(&mut text, name, &in_lines.keys, &findings)?;
+    Ok(Reported {
+        text,
+        keys: in_lines.keys,
+        is_well_formed: numbers.is_empty(),
+    })
 }
 
 fn push_first(
@@ -112,7 +148,7 @@ fn push_first(
     number: Option<usize>,
     kind: FindingKind,
 ) -> Result<(), AllocError>
-    ensures { OnOk result (findings.new.items ≡ findings.old.items ++ first_findings kind number) }
+    ensures { OnOk result (findings.new.items ≡ findings.old.items ++ first_of (finding_of kind) number) }
 {
     let Some(number) = number else {
         return Ok(());
@@ -154,7 +190,7 @@ fn push_ill_formed(
     numbers: &[usize],
     first: Words,
 ) -> Result<(), AllocError>
-    ensures { OnOk result (findings.new.items ≡ findings.old.items ++ ill_formed_findings first numbers.now) }
+    ensures { OnOk result (findings.new.items ≡ findings.old.items ++ ill_formed_of ill_formed_finding first numbers.now) }
 {
     let mut words = first;
     for number in numbers {
@@ -230,56 +266,118 @@ fn push_all(
     Ok(())
 }
 
+// Adds the malformed escapes, or only those of pairs.
+fn push_escapes(
+    findings: &mut Vec<Finding>,
+    escapes: &[MalformedEscape],
+    pairs_only: bool,
+) -> Result<(), AllocError>
+    ensures { OnOk result (findings.new.items ≡ findings.old.items ++ flat_map (escapes_of escape_finding pairs_only) escapes.now) }
+{
+    for escape in escapes {
+        if pairs_only && escape.in_comment {
+            continue;
+        }
+        findings.push(Finding {
+            line_number: escape.line_number,
+            kind: FindingKind::Escape(*escape),
+        })?;
+    }
+    Ok(())
+}
+
 // Sorts the findings by line. Those of one line keep their order.
 fn sort(findings: &mut Vec<Finding>) -> Result<(), AllocError>
-    ensures { OnOk result (ArrangesByLine findings.old.items findings.new.items) }
+    ensures { OnOk result (ArrangesFindings findings.old.items findings.new.items) }
 {
     findings.sort_by_key(|finding| finding.line_number)?;
     Ok(())
 }
 
-fn push_lines(text: &mut String, name: &str, findings: &[Finding]) -> Result<(), AllocError>
-    ensures { OnOk result (string_bytes text.new ≡ string_bytes text.old ++ flat_map (finding_line name.now) findings.now) }
+fn push_lines(
+    text: &mut String,
+    name: &str,
+    keys: &KeyTable,
+    findings: &[Finding],
+) -> Result<(), AllocError>
+    requires { IsKeyTable keys.now }
+    ensures { OnOk result (string_bytes text.new ≡ string_bytes text.old ++ flat_map (said_line name.now) (map (said_of (places_of keys.now)) findings.now)) }
 {
     for finding in findings {
-        push_line(text, name, finding)?;
+        push_line(text, name, keys, finding)?;
     }
     Ok(())
 }
 
-fn push_line(text: &mut String, name: &str, finding: &Finding) -> Result<(), AllocError>
-    ensures { OnOk result (string_bytes text.new ≡ string_bytes text.old ++ finding_line name.now finding.now) }
+fn push_line(
+    text: &mut String,
+    name: &str,
+    keys: &KeyTable,
+    finding: &Finding,
+) -> Result<(), AllocError>
+    requires { IsKeyTable keys.now }
+    ensures { OnOk result (string_bytes text.new ≡ string_bytes text.old ++ said_line name.now (said_of (places_of keys.now) finding.now)) }
 {
     let name = Escaped(name);
-    write!(text, "{name}:{}: {}\n", finding.line_number, finding.kind)
+    write!(text, "{name}:{}: ", finding.line_number)?;
+    push_words(text, keys, finding.kind)?;
+    text.push_str("\n")
 }
 
-impl fmt::Display for FindingKind {
-    ghost use Rattle.std.specs.Prelude.{Some};
-    ghost use Rattle.properties_tools.specs.Propedit.Check.{kind_words};
+// Appends what is wrong, in words.
+fn push_words(text: &mut String, keys: &KeyTable, kind: FindingKind) -> Result<(), AllocError>
+    requires { IsKeyTable keys.now }
+    ensures { OnOk result (string_bytes text.new ≡ string_bytes text.old ++ kind_words (places_of keys.now) kind) }
+{
+    match kind {
+        FindingKind::HoldsZero => text.push_str(HOLDS_ZERO),
+        FindingKind::IllFormedLine(words) => text.push_str(ill_formed_words(words)),
+        FindingKind::LooksUtf8 => text.push_str(LOOKS_UTF_8),
+        FindingKind::NonAscii => text.push_str("has a non-ASCII character"),
+        FindingKind::ReadOtherwise(byte) => write!(text, "{}", OtherByte(byte)),
+        FindingKind::Escape(escape) => {
+            let place = place_words(escape.in_comment);
+            write!(text, "{}{place}", escape.kind)
+        }
+        FindingKind::Repeats(row) => {
+            let (key, first) = key_at(keys, row);
+            let key = Escaped(key);
+            write!(text, "repeats the key '{key}' of line {first}")
+        }
+    }
+}
 
-    ghost output = { λ kind. Some (kind_words kind) };
+// A byte that ISO 8859-1 reads as another character, in words.
+#[derive(Clone, Copy)]
+struct OtherByte(u8);
+
+impl fmt::Display for OtherByte {
+    ghost use Rattle.std.specs.Prelude.{Some};
+    ghost use Rattle.properties_tools.specs.Propedit.Check.{otherwise_words};
+
+    ghost output = { λ byte. Some (otherwise_words byte.0 (windows_1252_character byte.0)) };
 
     fn fmt<W: fmt::Write>(&self, f: &mut fmt::Formatter<W>) -> fmt::Result {
-        match self {
-            FindingKind::HoldsZero => f.write_str(HOLDS_ZERO),
-            FindingKind::IllFormedLine(words) => f.write_str(ill_formed_words(*words)),
-            FindingKind::LooksUtf8 => f.write_str(LOOKS_UTF_8),
-            FindingKind::NonAscii => f.write_str("has a non-ASCII character"),
-            FindingKind::ReadOtherwise(byte) => {
-                let code = u32::from(character_of(*byte));
-                let zero = if code < 0x1000 { "0" } else { "" };
-                write!(
-                    f,
-                    "byte {byte:X} is '\\u{zero}{code:x}' in windows-1252 and U+00{byte:X} to Java"
-                )
-            }
-            FindingKind::Escape(escape) => {
-                let place = place_words(escape.in_comment);
-                write!(f, "{}{place}", escape.kind)
-            }
-            FindingKind::Repeats(first) => write!(f, "repeats the key of line {first}"),
-        }
+        let byte = self.0;
+        let code = u32::from(character_of(byte));
+        let zero = if code < 0x1000 { "0" } else { "" };
+        write!(
+            f,
+            "byte {byte:X} is '\\u{zero}{code:x}' in windows-1252 and U+00{byte:X} to Java"
+        )
+    }
+}
+
+// Returns the key in a row, and the line of its first pair.
+fn key_at(keys: &KeyTable, row: usize) -> (&str, usize)
+    requires { IsKeyTable keys.now }
+    ensures key { chars result.0.now ≡ (place_at (places_of keys.now) row).key }
+    ensures line { result.1 ≡ (place_at (places_of keys.now) row).number }
+{
+    if row < keys.len() {
+        (keys.key(row), keys.first_line(row))
+    } else {
+        ("", 0)
     }
 }
 

@@ -3,7 +3,7 @@
 ghost use Rattle.std.specs.Prelude.{◌≡◌, IfOk, string_bytes};
 ghost use Rattle.counted_io.specs.Streams.{IsSameSink};
 ghost use Rattle.java_properties.specs.DisplayTexts.{description};
-ghost use Rattle.properties_tools.specs.Propedit.Failures.{absent_words, failure_status, is_broken, is_closed_pipe, number_of, place_of, IsInputReason, IsIoFailure, IsMessageLine, IsReasonOf, LacksMemory, PrintsFailure};
+ghost use Rattle.properties_tools.specs.Propedit.Failures.{absent_words, failure_status, flaw_words, is_broken, is_closed_pipe, number_of, place_of, IsInputReason, IsIoFailure, IsMessageLine, IsReasonOf, LacksMemory, PrintsFailure};
 
 use crate::messages::{Escaped, print_line};
 use counted_io::CountedWrite;
@@ -34,6 +34,13 @@ pub(crate) const NOT_UTF_8_BY_MARK: &str = "not UTF-8, though a byte order mark 
 /// What is said of a line that is not UTF-16.
 pub(crate) const NOT_UTF_16: &str = "not UTF-16";
 
+const NOT_ENDED: &str =
+    "the last text has no zero byte after it; with -z, merge reads what list -v -z prints";
+
+const NO_VALUE: &str = "the last key has no value; with -z, keys and values come by turns";
+
+const TEXT_NOT_UTF_8: &str = "not UTF-8; the texts that merge -z reads are in UTF-8";
+
 const UTF_16: &str = "UTF-16 can be read but not edited; propedit convert utf-8 converts it";
 
 /// Why a command fails.
@@ -51,10 +58,33 @@ pub enum Failure {
     Malformed(MalformedEscape),
     /// No pair of the source has this key, which was to be set or removed only if one has it.
     Absent(String),
+    /// Its bytes aren't texts with zero bytes after them, keys and values by turns.
+    Texts(TextFlaw),
     /// The source can't be read or edited, or memory ran out.
     Input(PropertiesError),
     /// The result can't be written.
     Output(PropertiesError),
+}
+
+/// What is wrong with bytes that were to be texts, keys and values by turns.
+#[derive(Clone, Copy, Debug, PartialEq, Eq)]
+pub enum TextFlaw {
+    /// They are not UTF-8.
+    NotUtf8,
+    /// After the last text comes no zero byte.
+    NotEnded,
+    /// The last key has no value.
+    NoValue,
+}
+
+impl From<TextFlaw> for Failure {
+    ghost use Rattle.properties_tools.specs.declared.propedit.error.Failure.TheVariants.{Texts};
+
+    ghost from_gives = { λ flaw failure. failure ≡ Texts flaw };
+
+    fn from(flaw: TextFlaw) -> Failure {
+        Failure::Texts(flaw)
+    }
 }
 
 impl From<PropertiesError> for Failure {
@@ -107,7 +137,7 @@ impl Failure {
             | Failure::NotUtf8ByMark(number)
             | Failure::NotUtf16(number) => Some(*number),
             Failure::Malformed(escape) => Some(escape.line_number),
-            Failure::Absent(_) => None,
+            Failure::Absent(_) | Failure::Texts(_) => None,
             Failure::Input(error) | Failure::Output(error) => error.at("").line_number(),
         }
     }
@@ -142,6 +172,7 @@ impl Failure {
             Failure::NotUtf16(_) => String::from_str(alloc, NOT_UTF_16),
             Failure::Malformed(escape) => reason_of_escape(alloc, escape),
             Failure::Absent(key) => reason_of_absence(alloc, key.as_str()),
+            Failure::Texts(flaw) => String::from_str(alloc, reason_of_flaw(*flaw)),
             Failure::Input(error) | Failure::Output(error) => reason_of_error(alloc, error),
         }
     }
@@ -204,6 +235,16 @@ fn reason_of_absence(alloc: Global, key: &str) -> Result<String, AllocError>
 {
     let key = Escaped(key);
     format!(in alloc; "no pair has the key '{key}'")
+}
+
+fn reason_of_flaw(flaw: TextFlaw) -> &'static str
+    ensures { result.now ≡ flaw_words flaw }
+{
+    match flaw {
+        TextFlaw::NotUtf8 => TEXT_NOT_UTF_8,
+        TextFlaw::NotEnded => NOT_ENDED,
+        TextFlaw::NoValue => NO_VALUE,
+    }
 }
 
 fn reason_of_error(alloc: Global, error: &PropertiesError) -> Result<String, AllocError>

@@ -11,7 +11,7 @@ ghost use Rattle.properties_tools.specs.Propedit.Texts.{borrowed_characters};
 use crate::propedit::answer::{Answer, push_ended};
 use crate::propedit::error::Failure;
 use crate::propedit::request::Terminator;
-use crate::propedit::sound::{refuse_bytes, refuse_unsound};
+use crate::propedit::sound::refuse_bytes;
 use crate::propedit::values::values_of;
 use java_properties::Encoding;
 use std::alloc::{AllocError, Global};
@@ -39,17 +39,8 @@ pub fn get(
         Gets e source.now (map characters keys.now) (option_map borrowed_characters default.entry) end result }
 {
     refuse_bytes(source, encoding)?;
-    if keys.is_empty() {
-        refuse_unsound(alloc, source, encoding)?;
-        return Ok(answer_of(alloc, &[], default, end)?);
-    }
-    match values_of(alloc, source, encoding, keys) {
-        Ok(values) => Ok(answer_of(alloc, &values, default, end)?),
-        Err(error) => {
-            refuse_unsound(alloc, source, encoding)?;
-            Err(Failure::from(error))
-        }
-    }
+    let values = values_of(alloc, source, encoding, keys)?;
+    Ok(answer_of(alloc, &values, default, end)?)
 }
 
 // Returns each value with the byte that ends it, or else the default. The status is 1 if there is neither for one.

@@ -4,13 +4,12 @@ ghost use Rattle.std.specs.Prelude.{◌≡◌, OnOk};
 ghost use Rattle.std.specs.Str.{chars};
 ghost use Rattle.properties_text.specs.Encoding.{encoding_of};
 ghost use Rattle.properties_tools.specs.Propedit.Check.{has_replacement};
-ghost use Rattle.properties_tools.specs.Private.FirstKeys.{IndexesSome};
 ghost use Rattle.properties_tools.specs.Private.Collected.{AddsPair, FindsInLines, TookFindings};
+ghost use Rattle.properties_tools.specs.Private.Table.{IsKeyTable};
 
 use crate::propedit::check::{Finding, FindingKind};
-use crate::propedit::first_keys::FirstKeys;
 use crate::propedit::fold::{Taker, take_all};
-use crate::propedit::request::Terminator;
+use crate::propedit::key_table::KeyTable;
 use java_properties::{Encoding, MalformedEscape, PropertiesError};
 use std::alloc::{AllocError, Global};
 
@@ -18,11 +17,11 @@ use std::alloc::{AllocError, Global};
 #[derive(Drop)]
 pub(crate) struct LineFindings {
     /// The malformed escapes.
-    pub escapes: Vec<Finding>,
+    pub escapes: Vec<MalformedEscape>,
     /// The pairs that repeat a key.
     pub repeats: Vec<Finding>,
     // The keys that came.
-    pub keys: FirstKeys,
+    pub keys: KeyTable,
     // Whether the source is well-formed.
     pub is_well_formed: bool,
 }
@@ -40,7 +39,7 @@ pub(crate) fn line_findings(
     let none = LineFindings {
         escapes: Vec::new(alloc),
         repeats: Vec::new(alloc),
-        keys: FirstKeys::for_source(alloc, source.len())?,
+        keys: KeyTable::for_source(alloc, source.len())?,
         is_well_formed,
     };
     take_all(alloc, source, encoding, none)
@@ -63,12 +62,7 @@ impl Taker for LineFindings {
 
     #[tactic(auto, using(crate::proofs::LineFindings::taken))]
     fn malformed(&mut self, escape: MalformedEscape) -> Result<(), AllocError> {
-        Ok(
-            self.escapes.push(Finding {
-                line_number: escape.line_number,
-                kind: FindingKind::Escape(escape),
-            })?,
-        )
+        Ok(self.escapes.push(escape)?)
     }
 }
 
@@ -76,15 +70,13 @@ impl LineFindings {
     // Adds a key. If an earlier pair has it, that is a finding.
     #[inline(always)]
     fn add_key(&mut self, alloc: Global, line_number: usize, key: &str) -> Result<(), AllocError>
-        requires { IndexesSome self.old.keys }
+        requires { IsKeyTable self.old.keys }
         ensures adds { OnOk result (AddsPair self.old.is_well_formed line_number (chars key.now) self.old self.new) }
         ensures kept { self.new.escapes ≡ self.old.escapes }
         ensures setting { self.new.is_well_formed ≡ self.old.is_well_formed }
     {
-        let first = self
-            .keys
-            .first_line(alloc, key, line_number, Terminator::Nul)?;
-        if first == line_number {
+        let row = self.keys.put(alloc, line_number, key)?;
+        if self.keys.first_line(row) == line_number {
             return Ok(());
         }
         if !self.is_well_formed && may_stand_for_bytes(key) {
@@ -93,7 +85,7 @@ impl LineFindings {
         Ok(
             self.repeats.push(Finding {
                 line_number,
-                kind: FindingKind::Repeats(first),
+                kind: FindingKind::Repeats(row),
             })?,
         )
     }

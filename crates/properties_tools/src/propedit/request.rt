@@ -11,6 +11,10 @@ pub enum Request {
     CheckFiles(CheckedFiles),
     /// A change of a file in place.
     EditFile(FileChange),
+    /// A change by the pairs of another file.
+    Merge(Merge),
+    /// A comparison of two sources.
+    Diff(Comparison),
 }
 
 /// A command, and what it is done to.
@@ -32,6 +36,15 @@ pub struct CheckedFiles {
     pub paths: Vec<String>,
 }
 
+/// Two sources that are compared. One of them at most is standard input.
+#[derive(Drop)]
+pub struct Comparison {
+    /// The encoding of each. A byte order mark overrides it.
+    pub encoding: Encoding,
+    pub old: Source,
+    pub new: Source,
+}
+
 /// A file that is changed in place.
 #[derive(Drop)]
 pub struct FileChange {
@@ -43,6 +56,39 @@ pub struct FileChange {
     pub missing: Missing,
     /// Whether a line says how its pairs changed.
     pub verbose: bool,
+}
+
+/// Pairs that are read from a file, and set in a source.
+#[derive(Drop)]
+pub struct Merge {
+    /// Where the pairs come from. It is named.
+    pub pairs: Source,
+    pub form: Form,
+    /// The encoding of both. A byte order mark overrides it.
+    pub encoding: Encoding,
+    /// How the pairs are set. There are no edits yet.
+    pub edits: Edits,
+    /// What they are set in.
+    pub target: Target,
+}
+
+/// How pairs are written.
+#[derive(Clone, Copy, Debug, PartialEq, Eq)]
+pub enum Form {
+    /// As a properties file. Of each key its last value counts.
+    Properties,
+    /// As texts in UTF-8, keys and values by turns, each with a zero byte after it.
+    Texts,
+}
+
+/// Where a changed source goes.
+#[derive(Drop)]
+pub enum Target {
+    /// The source is read from here, and printed after the change.
+    Printed(Source),
+    /// The file of this name is changed in place. Beside it stand what is done if there is none, and whether a line
+    /// says how its pairs changed.
+    InPlace(String, Missing, bool),
 }
 
 /// A change of a source.
@@ -57,14 +103,25 @@ pub enum Change {
 /// Edits, and how they are written.
 #[derive(Drop)]
 pub struct Edits {
-    /// They are made in order. There is one at least, and each sets a value or removes a key.
+    /// They are made in order. Each sets a value or removes a key.
     pub list: Vec<Edit>,
     /// Whether what they put in is ASCII-only.
     pub ascii_only: bool,
     /// Whether it has only characters whose bytes ISO 8859-1 reads alike.
     pub latin_1: bool,
-    /// Whether a pair of the source has to have each of their keys.
-    pub existing: bool,
+    /// What is done with those of a key that no pair of the source has.
+    pub absent: AbsentKeys,
+}
+
+/// What is done with edits of a key that no pair of the source has.
+#[derive(Clone, Copy, Debug, PartialEq, Eq)]
+pub enum AbsentKeys {
+    /// They are made: a key that is set is added.
+    Added,
+    /// All edits are refused.
+    Refused,
+    /// They are left out.
+    LeftOut,
 }
 
 /// A conversion, which keeps all but the encoding and the spelling of characters.
@@ -115,6 +172,8 @@ pub enum Command {
 #[derive(Clone, Copy, Debug, PartialEq, Eq)]
 pub struct Check {
     pub allowed: Allowed,
+    /// Whether malformed escapes in comments are left out: no command but this one looks at them.
+    pub pairs_only: bool,
     /// Whether nothing is printed: the status alone tells whether anything is wrong.
     pub quiet: bool,
 }

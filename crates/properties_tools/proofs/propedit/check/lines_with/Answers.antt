@@ -3,7 +3,8 @@ use Rattle.std.specs.Prelude.{map}
 use Rattle.std.proofs.lemmas.List.{take_more}
 use Rattle.properties_format.specs.Encoding.{Encoding}
 use Rattle.properties_text.specs.Encoding.{encoding_of}
-use Rattle.properties_tools.specs.Propedit.Check.{finding_of, AreWithBytes}
+use Rattle.properties_tools.specs.Private.Checking.{finding_of, otherwise_finding}
+use Rattle.properties_tools.specs.Propedit.Check.{AreWithBytes}
 use Rattle.properties_tools.specs.Propedit.Lines.{AreFlawedLines}
 use Rattle.properties_tools.specs.declared.propedit.check.Finding.{Finding}
 use Rattle.properties_tools.specs.declared.propedit.check.FindingKind.TheVariants.{ReadOtherwise}
@@ -11,8 +12,8 @@ use Rattle.properties_tools.specs.declared.propedit.ill_formed.Flaw.TheVariants.
 use Rattle.properties_tools.proofs.propedit.check.lines_with.Goals as goal
 
 -- the findings of one byte more
-with-more : (e : Encoding) (source bytes : List ℕ) (found : List Finding) (byte : ℕ) (numbers : List ℕ) → AreWithBytes e source bytes found
-    → AreFlawedLines (Byte byte) e source numbers → AreWithBytes e source (bytes ++ byte ∷ []) (found ++ map (finding_of (ReadOtherwise byte)) numbers)
+with-more : (e : Encoding) (source bytes : List ℕ) (found : List Finding) (byte : ℕ) (numbers : List ℕ) → AreWithBytes otherwise_finding e source bytes found
+    → AreFlawedLines (Byte byte) e source numbers → AreWithBytes otherwise_finding e source (bytes ++ byte ∷ []) (found ++ map (finding_of (ReadOtherwise byte)) numbers)
 with-more e source [] found byte numbers none are =
     let more = map (finding_of (ReadOtherwise byte)) numbers in
     (numbers, [], are, ap (λ v. v ++ more) none ∙ sym (append-nil more), refl)
@@ -30,6 +31,6 @@ loop-byte-preserved c =
     let byte = get_or bytes i 0 in
     let old = c.loop-byte.findings.items in
     let pushed = c.in_ok-push_all.ensures ∙ ap (λ v. old ++ map (finding_of (ReadOtherwise byte)) v) c.deref.ensures.value in
-    subst (λ v. AreWithBytes e source v c.push_all.new.findings.items) (sym (take_more bytes i 0 c.loop-byte-test.true))
-    (subst (AreWithBytes e source (take i bytes ++ byte ∷ [])) (sym pushed)
+    subst (λ v. AreWithBytes otherwise_finding e source v c.push_all.new.findings.items) (sym (take_more bytes i 0 c.loop-byte-test.true))
+    (subst (AreWithBytes otherwise_finding e source (take i bytes ++ byte ∷ [])) (sym pushed)
     (with-more e source (take i bytes) old byte c.in_ok-numbers.numbers.items c.loop-byte.invariant c.in_ok-numbers.ensures.are))

@@ -1,5 +1,5 @@
 use Rattle.std.proofs.Common.{◌≡◌, ◌++◌, drop, map}
-use Rattle.properties_tools.specs.Propedit.Check.{finding_of}
+use Rattle.properties_tools.specs.Private.Checking.{finding_of}
 use Rattle.properties_tools.proofs.propedit.check.push_all.Given as goal
 
 abbrev pub invariant-loop-number : goal.invariant-loop-number

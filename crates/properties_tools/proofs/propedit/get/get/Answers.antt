@@ -1,16 +1,18 @@
-use Rattle.std.proofs.Common.{sym, ◌∙◌}
+use Rattle.std.proofs.lemmas.Result.{err_from_is_err_and}
 use Rattle.properties_text.specs.Encoding.{encoding_of}
 use Rattle.properties_tools.specs.Private.Collected.{value_texts}
-use Rattle.properties_tools.proofs.LookedUp.{sound-with}
+use Rattle.properties_tools.proofs.LookedUp.{refused}
 use Rattle.properties_tools.proofs.propedit.get.get.Goals as goal
 
-pub returns-in_ok-answer_of-in-Ok : goal.returns-in_ok-answer_of-in-Ok
-returns-in_ok-answer_of-in-Ok c =
-    let values = value_texts c.in-Ok.values.items in
-    let some = sym c.is_empty.ensures ∙ c.if-is_empty.false in
-    record {
-      sound = sound-with (encoding_of c.args.encoding) c.args.source.now c.args.keys.now values some c.in_ok-refuse_bytes.ensures c.in-Ok.ensures;
-      values = values;
-      have_values = c.in-Ok.ensures;
-      prints = rw c.deref.ensures.value at c.in_ok-answer_of-in-Ok.ensures;
-    }
+pub returns-in_err-values : goal.returns-in_err-values
+returns-in_err-values c =
+    let error = err_from_is_err_and c.from_residual-in_err-values.result c.from_residual-in_err-values.ensures.1 in
+    rw (error.1, error.2) (refused (encoding_of c.args.encoding) c.args.source.now _ c.in_err-values.ensures c.in_ok-refuse_bytes.ensures)
+
+pub returns : goal.returns
+returns c = record {
+  sound = record { bytes = c.in_ok-refuse_bytes.ensures; in_comments = c.in_ok-values.ensures.0 };
+  values = value_texts c.in_ok-values.values.items;
+  have_values = c.in_ok-values.ensures.1;
+  prints = rw c.deref.ensures.value at c.in_ok-answer_of.ensures;
+}

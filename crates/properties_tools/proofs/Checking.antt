@@ -1,0 +1,133 @@
+-- What is said of the findings of a check.
+use Rattle.std.proofs.Common.{◌≡◌, ◌≢◌, ℕ, ◌<◌, Bool, true, false, List, [], ◌∷◌, ◌++◌, get_or, length, map, refl, ap, sym, ◌∙◌, inl, inr, subst, arith}
+use Rattle.std.specs.Prelude.{◌&&◌, ◌==◌, not, Option, Some, None, cond, filter}
+use Rattle.std.specs.List.{flat_map}
+use Rattle.std.specs.Ordering.{nat_cmp, is_lt}
+use Rattle.std.specs.List.Sorted.{ties}
+use Rattle.std.proofs.lemmas.Bool.{cases_Bool}
+use Rattle.std.proofs.lemmas.List.{get_or-map, length-map, map-append}
+use Rattle.properties_format.specs.Encoding.{Encoding}
+use Rattle.properties_format.specs.Windows1252.{windows_1252_table}
+use Rattle.java_properties.specs.Findings.{KeyEntry, KeyPlace}
+use Rattle.properties_items.specs.declared.findings.MalformedEscape.{MalformedEscape}
+use Rattle.properties_tools.specs.Private.Checking.{escape_finding, finding_of, ill_formed_finding, kind_words, otherwise_finding, place_at, row_findings, said_of, ArrangesFindings}
+use Rattle.properties_tools.specs.Propedit.Check.{byte_words, escape_words, escapes_of, first_of, has_replacement, ill_formed_of, ill_formed_text, other_bytes, repeat_words, repeats_of, said, words_after, AreOtherwise, AreWithBytes, ArrangesByLine, Said}
+use Rattle.properties_tools.specs.declared.propedit.check.FindingKind.{FindingKind}
+use Rattle.properties_tools.specs.declared.propedit.check.FindingKind.TheVariants.{NonAscii, ReadOtherwise}
+use Rattle.properties_tools.specs.declared.propedit.check.Finding.{Finding}
+use Rattle.properties_tools.specs.declared.propedit.check.Words.{Words}
+use Rattle.properties_tools.specs.declared.propedit.request.Allowed.{Allowed}
+use Rattle.properties_tools.specs.declared.propedit.request.Allowed.TheVariants.{All, Latin1, Ascii}
+
+abbrev otherwise_said : ℕ → ℕ → Said
+otherwise_said byte = said (byte_words byte)
+
+abbrev escape_said : MalformedEscape → Said
+escape_said escape = said (escape_words escape) escape.line_number
+
+module _ (P : List KeyPlace) where
+  -- ---- each kind
+
+  pub said-first : (kind : FindingKind) (o : Option ℕ) → map (said_of P) (first_of (finding_of kind) o) ≡ first_of (said (kind_words P kind)) o
+  said-first kind None = refl
+  said-first kind (Some number) = refl
+
+  pub said-all : (kind : FindingKind) (ns : List ℕ) → map (said_of P) (map (finding_of kind) ns) ≡ map (said (kind_words P kind)) ns
+  said-all kind [] = refl
+  said-all kind (n ∷ ns) = ap (λ v. said (kind_words P kind) n ∷ v) (said-all kind ns)
+
+  pub said-ill_formed : (words : Words) (ns : List ℕ)
+      → map (said_of P) (ill_formed_of ill_formed_finding words ns) ≡ ill_formed_of (λ w. said (ill_formed_text w)) words ns
+  said-ill_formed words [] = refl
+  said-ill_formed words (n ∷ ns) = ap (λ v. said (ill_formed_text words) n ∷ v) (said-ill_formed (words_after words) ns)
+
+  escape-said : (pairs_only : Bool) (escape : MalformedEscape)
+      → map (said_of P) (escapes_of escape_finding pairs_only escape) ≡ escapes_of escape_said pairs_only escape
+  escape-said pairs_only escape = elim (cases_Bool (pairs_only && escape.in_comment)) [
+    | inl left ↦ rw left refl
+    | inr stays ↦ rw stays refl
+  ]
+
+  pub said-escapes : (pairs_only : Bool) (es : List MalformedEscape)
+      → map (said_of P) (flat_map (escapes_of escape_finding pairs_only) es) ≡ flat_map (escapes_of escape_said pairs_only) es
+  said-escapes pairs_only [] = refl
+  said-escapes pairs_only (e ∷ es) =
+      map-append (said_of P) (escapes_of escape_finding pairs_only e) (flat_map (escapes_of escape_finding pairs_only) es)
+      ∙ ap (λ v. v ++ map (said_of P) (flat_map (escapes_of escape_finding pairs_only) es)) (escape-said pairs_only e)
+      ∙ ap (λ v. escapes_of escape_said pairs_only e ++ v) (said-escapes pairs_only es)
+
+  with-bytes : (e : Encoding) (source bytes : List ℕ) (fs : List Finding) → AreWithBytes otherwise_finding e source bytes fs
+      → AreWithBytes otherwise_said e source bytes (map (said_of P) fs)
+  with-bytes e source [] fs h = ap (map (said_of P)) h
+  with-bytes e source (byte ∷ bytes) fs (numbers, others, are, is, rest) = (
+    numbers,
+    map (said_of P) others,
+    are,
+    ap (map (said_of P)) is
+        ∙ map-append (said_of P) (map (otherwise_finding byte) numbers) others
+        ∙ ap (λ v. v ++ map (said_of P) others) (said-all (ReadOtherwise byte) numbers),
+    with-bytes e source bytes others rest,
+  )
+
+  pub said-otherwise : (allowed : Allowed) (e : Encoding) (source : List ℕ) (fs : List Finding) → AreOtherwise otherwise_finding allowed e source fs
+      → AreOtherwise otherwise_said allowed e source (map (said_of P) fs)
+  said-otherwise All e source fs h = ap (map (said_of P)) h
+  said-otherwise Latin1 e source fs h = with-bytes e source (other_bytes 0x80 windows_1252_table) fs h
+  said-otherwise Ascii e source fs h = ap (map (said_of P)) h
+
+  -- of a pair whose key has this row
+  pub said-row : (w : Bool) (number row : ℕ) (key : List ℕ) (first : ℕ) → place_at P row ≡ record { number = first; key = key }
+      → map (said_of P) (row_findings w number key row first) ≡ repeats_of w (record { number = number; key = key; first = first })
+  said-row w number row key first at = elim (cases_Bool (first == number)) [
+    | inl same ↦ rw same refl
+    | inr other ↦ elim (cases_Bool (not w && has_replacement key)) [
+      | inl left ↦ rw (other, left) refl
+      | inr stays ↦ rw (other, stays) (ap (λ p. let q : KeyPlace = p in said (repeat_words q.key q.number) number ∷ []) at)
+    ]
+  ]
+
+  -- ---- all of them
+
+  pub said-parts : (a b c d e f g : List Finding) (a' b' c' d' e' f' g' : List Said) → map (said_of P) a ≡ a' → map (said_of P) b ≡ b'
+      → map (said_of P) c ≡ c' → map (said_of P) d ≡ d' → map (said_of P) e ≡ e' → map (said_of P) f ≡ f' → map (said_of P) g ≡ g'
+      → map (said_of P) (a ++ (b ++ (c ++ (d ++ (e ++ (f ++ g)))))) ≡ a' ++ (b' ++ (c' ++ (d' ++ (e' ++ (f' ++ g')))))
+  said-parts a b c d e f g a' b' c' d' e' f' g' ha hb hc hd he hf hg =
+      rw (
+        map-append (said_of P) a (b ++ (c ++ (d ++ (e ++ (f ++ g))))),
+        map-append (said_of P) b (c ++ (d ++ (e ++ (f ++ g)))),
+        map-append (said_of P) c (d ++ (e ++ (f ++ g))),
+        map-append (said_of P) d (e ++ (f ++ g)),
+        map-append (said_of P) e (f ++ g),
+        map-append (said_of P) f g,
+        ha,
+        hb,
+        hc,
+        hd,
+        he,
+        hf,
+        hg,
+      ) refl
+
+  -- ---- in order
+
+  filter-said : (p : Said → Bool) (fs : List Finding) → filter p (map (said_of P) fs) ≡ map (said_of P) (filter (λ f. p (said_of P f)) fs)
+  filter-said p [] = refl
+  filter-said p (f ∷ fs) = elim (cases_Bool (p (said_of P f))) [
+    | inl left ↦ rw left (ap (λ v. said_of P f ∷ v) (filter-said p fs))
+    | inr stays ↦ rw stays (filter-said p fs)
+  ]
+
+  pub said-arranged : (fs gs : List Finding) → ArrangesFindings fs gs → ArrangesByLine (map (said_of P) fs) (map (said_of P) gs)
+  said-arranged fs gs h =
+      let none : Finding = finding_of NonAscii 0 in
+      let below : (i : ℕ) → i < length (map (said_of P) gs) → i < length gs = λ i l. subst (λ n. i < n) (length-map gs (said_of P)) l in
+      let line : (i : ℕ) (d : Said) → i < length gs → (get_or (map (said_of P) gs) i d).line ≡ (get_or gs i none).line_number =
+      λ i d l. ap (λ s. let t : Said = s in t.line) (get_or-map (said_of P) gs i none d l) in
+      record {
+        in_order = λ i j d l m.
+            let n = below j m in
+            rw (line i d (omega arith), line j d n) (h.in_order i j none l n);
+        stable = λ x.
+            let test : Said → Bool = ties (λ s t. is_lt (nat_cmp s.line t.line)) x in
+            filter-said test gs ∙ ap (map (said_of P)) (h.stable (finding_of NonAscii x.line)) ∙ sym (filter-said test fs);
+      }

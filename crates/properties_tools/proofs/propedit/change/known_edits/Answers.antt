@@ -1,0 +1,26 @@
+use Rattle.std.proofs.Common.{length, ap, sym, ◌∙◌}
+use Rattle.std.specs.Prelude.{map}
+use Rattle.std.specs.Option.{option_map}
+use Rattle.std.proofs.lemmas.List.{length-map}
+use Rattle.std.proofs.lemmas.Result.{err_from_is_err_and}
+use Rattle.properties_text.specs.Encoding.{encoding_of}
+use Rattle.java_properties.specs.Editing.{edit_in, edits_in}
+use Rattle.java_properties.specs.Maps.{characters}
+use Rattle.properties_tools.specs.Private.Collected.{value_texts}
+use Rattle.properties_tools.specs.Propedit.Change.{edited_key}
+use Rattle.properties_tools.proofs.LookedUp.{as-many, refused}
+use Rattle.properties_tools.proofs.propedit.change.known_edits.Goals as goal
+
+pub with_values-requires : goal.with_values-requires
+with_values-requires c =
+    let edits = c.args.edits.now in
+    let values = c.in_ok-values.values.items in
+    ap length c.deref-2.ensures.value ∙ sym (length-map values (option_map characters))
+    ∙ as-many (encoding_of c.args.encoding) c.args.source.now (map characters c.deref.result.now) (value_texts values) c.in_ok-values.ensures.1
+    ∙ ap (λ k. length (map characters k)) c.deref.ensures.value ∙ ap length c.in_ok-keys.ensures
+    ∙ length-map (edits_in edits) edited_key ∙ length-map edits edit_in
+
+pub returns-in_err-values : goal.returns-in_err-values
+returns-in_err-values c =
+    let error = err_from_is_err_and c.from_residual-in_err-values.result c.from_residual-in_err-values.ensures.1 in
+    rw (error.1, error.2) (refused (encoding_of c.args.encoding) c.args.source.now _ c.in_err-values.ensures c.requires)

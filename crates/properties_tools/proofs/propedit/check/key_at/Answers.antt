@@ -1,0 +1,12 @@
+use Rattle.std.proofs.Common.{◌≤◌, ◌∙◌, ap, arith, length, sym}
+use Rattle.std.proofs.lemmas.List.{get_or_past}
+use Rattle.std.proofs.lemmas.Str.{chars-nil}
+use Rattle.java_properties.specs.Findings.{KeyPlace}
+use Rattle.properties_tools.specs.Private.Checking.{no_place}
+use Rattle.properties_tools.specs.Private.Table.{places_of}
+use Rattle.properties_tools.proofs.propedit.check.key_at.Goals as goal
+
+pub returns-else-row-len-clause-key : goal.returns-else-row-len-clause-key
+returns-else-row-len-clause-key c =
+    let past : length (places_of c.args.keys.now) ≤ c.args.row = omega arith in
+    chars-nil ∙ sym (ap (λ p. let q : KeyPlace = p in q.key) (get_or_past (places_of c.args.keys.now) c.args.row no_place past))

@@ -1,0 +1,84 @@
+-- The findings of a check, as the code holds them.
+use Rattle.std.specs.Prelude.{◌≡◌, ℕ, ◌==◌, ◌&&◌, not, Bool, if◌then◌else◌, get_or, length, List, [], ◌∷◌, ◌++◌, Result, Ok, Err, string_bytes}
+use Rattle.std.specs.List.Sorted.{IsNonDecreasingBy, IsStableByKey}
+use Rattle.std.specs.Ordering.{nat_cmp}
+use Rattle.properties_format.specs.Encoding.{Encoding}
+use Rattle.java_properties.specs.Findings.{KeyPlace}
+use Rattle.properties_items.specs.Errors.{IsBareError}
+use Rattle.properties_items.specs.declared.error.ErrorKind.TheVariants as kind
+use Rattle.properties_items.specs.declared.error.PropertiesError.{PropertiesError}
+use Rattle.properties_items.specs.declared.findings.MalformedEscape.{MalformedEscape}
+use Rattle.properties_tools.specs.Private.Table.{places_of, HasPlaces, IsKeyTable}
+use Rattle.properties_tools.specs.Propedit.Check.{byte_words, escape_words, has_replacement, ill_formed_text, non_ascii_words, repeat_words, utf_8_words, IsReport, Said}
+use Rattle.properties_tools.specs.Propedit.Failures.{zero_words}
+use Rattle.properties_tools.specs.Propedit.Lines.{AreFlawedLines}
+use Rattle.properties_tools.specs.declared.propedit.check.Reported.{Reported}
+use Rattle.properties_tools.specs.declared.propedit.check.FindingKind.{FindingKind}
+use Rattle.properties_tools.specs.declared.propedit.check.FindingKind.TheVariants.{HoldsZero, IllFormedLine, LooksUtf8, NonAscii, ReadOtherwise, Escape, Repeats}
+use Rattle.properties_tools.specs.declared.propedit.check.Finding.{Finding}
+use Rattle.properties_tools.specs.declared.propedit.check.Words.{Words}
+use Rattle.properties_tools.specs.declared.propedit.ill_formed.Flaw.TheVariants as flaw
+use Rattle.properties_tools.specs.declared.propedit.request.Check.{Check}
+
+-- ---- findings
+
+abbrev pub finding_of : FindingKind → ℕ → Finding
+finding_of kind number = record { line_number = number; kind = kind }
+
+abbrev pub ill_formed_finding : Words → ℕ → Finding
+ill_formed_finding words number = record { line_number = number; kind = IllFormedLine words }
+
+abbrev pub escape_finding : MalformedEscape → Finding
+escape_finding escape = record { line_number = escape.line_number; kind = Escape escape }
+
+abbrev pub otherwise_finding : ℕ → ℕ → Finding
+otherwise_finding byte number = record { line_number = number; kind = ReadOtherwise byte }
+
+-- of a pair in this line whose key has this row, and its first pair in this line
+abbrev pub row_findings : Bool → ℕ → List ℕ → ℕ → ℕ → List Finding
+row_findings is_well_formed number key row first =
+    if first == number then [] else
+    if not is_well_formed && has_replacement key then [] else
+    record { line_number = number; kind = Repeats row } ∷ []
+
+-- ---- what they say
+
+-- what is said of a row that isn't there
+abbrev pub no_place : KeyPlace
+no_place = record { number = 0; key = [] }
+
+abbrev pub place_at : List KeyPlace → ℕ → KeyPlace
+place_at places row = get_or places row no_place
+
+-- in words, where these are the keys
+abbrev pub kind_words : List KeyPlace → FindingKind → List ℕ
+kind_words places HoldsZero = zero_words
+kind_words places (IllFormedLine words) = ill_formed_text words
+kind_words places LooksUtf8 = utf_8_words
+kind_words places NonAscii = non_ascii_words
+kind_words places (ReadOtherwise byte) = byte_words byte
+kind_words places (Escape escape) = escape_words escape
+kind_words places (Repeats row) = repeat_words (place_at places row).key (place_at places row).number
+
+abbrev pub said_of : List KeyPlace → Finding → Said
+said_of places f = record { line = f.line_number; words = kind_words places f.kind }
+
+-- Findings are arranged as what they say is to be.
+pub record ArrangesFindings (findings arranged : List Finding) : Type 0 where
+  pub in_order : IsNonDecreasingBy (λ f. f.line_number) arranged
+  pub stable : IsStableByKey (λ f. f.line_number) nat_cmp findings arranged
+
+-- ---- a report, with the keys of the source
+
+pub record IsChecked (name : List ℕ) (e : Encoding) (check : Check) (source : List ℕ) (c : Reported) : Type 0 where
+  pub report : IsReport name e check source (string_bytes c.text)
+  pub table : IsKeyTable c.keys
+  pub places : HasPlaces e source (places_of c.keys)
+  pub ill_formed : List ℕ
+  pub are_ill_formed : AreFlawedLines flaw.IllFormed e source ill_formed
+  pub well_formed : c.is_well_formed ≡ (length ill_formed == 0)
+
+-- What checking returns. It fails only if memory runs out.
+abbrev pub ChecksKeys : Encoding → Check → List ℕ → List ℕ → Result Reported PropertiesError → Type 0
+ChecksKeys e check name source (Ok c) = IsChecked name e check source c
+ChecksKeys e check name source (Err error) = IsBareError kind.Memory error

@@ -1,0 +1,21 @@
+-- How texts are taken that each end with a zero byte.
+use Rattle.std.specs.Prelude.{◌≡◌, ◌≢◌, ℕ, List, [], ◌∷◌, ◌++◌, Result, Ok, Err, map}
+use Rattle.std.specs.Borrow.{Bor}
+use Rattle.properties_format.specs.Edits.{Edit}
+use Rattle.properties_tools.specs.Propedit.Merge.{set_of_texts, text_bytes, HasNoZero, TextPair}
+use Rattle.properties_tools.specs.declared.propedit.error.TextFlaw.{TextFlaw}
+use Rattle.properties_tools.specs.declared.propedit.error.TextFlaw.TheVariants as flaw
+
+-- What taking the first text returns: it and what comes after its zero byte; or there is no zero byte, in some bytes or
+-- in none.
+abbrev pub TakesText : List ℕ → Result (Bor (List ℕ) × Bor (List ℕ)) TextFlaw → Type 0
+TakesText rest (Ok parts) = (rest ≡ parts.0.now ++ 0 ∷ parts.1.now) × HasNoZero parts.0.now
+TakesText rest (Err flaw.NoValue) = rest ≡ []
+TakesText rest (Err flaw.NotEnded) = (rest ≢ []) × HasNoZero rest
+TakesText rest (Err flaw.NotUtf8) = ⊥
+
+-- These edits set the pairs of a file up to what is left of it.
+pub record TookTexts (file rest : List ℕ) (edits : List Edit) : Type 0 where
+  pub pairs : List TextPair
+  pub division : file ≡ text_bytes pairs ++ rest
+  pub are : edits ≡ map set_of_texts pairs

@@ -1,0 +1,104 @@
+-- What `merge` sets: the pairs of a file, which is a properties file, or has texts that each end with a zero byte.
+use Rattle.std.specs.Prelude.{◌≡◌, ◌≢◌, ℕ, Bool, false, ◌==◌, All, List, [], ◌∷◌, ◌++◌, Result, Ok, Err, map}
+use Rattle.std.specs.Global.{Vec}
+use Rattle.std.specs.List.{flat_map, list_any}
+use Rattle.std.specs.Str.{chars, IsUtf8}
+use Rattle.properties_format.specs.Edits.{set_value, Edit}
+use Rattle.properties_format.specs.Encoding.{Encoding}
+use Rattle.java_properties.specs.Editing.{edits_in}
+use Rattle.properties_editing.specs.declared.edit.Edit as editor
+use Rattle.properties_tools.specs.Propedit.Failures.{LacksMemory}
+use Rattle.properties_tools.specs.Propedit.Sources.{IsSound, IsUnsound}
+use Rattle.properties_tools.specs.Propedit.Table.{HasRows, Row}
+use Rattle.properties_tools.specs.declared.propedit.error.Failure.{Failure}
+use Rattle.properties_tools.specs.declared.propedit.error.Failure.TheVariants.{Input, Texts}
+use Rattle.properties_tools.specs.declared.propedit.error.TextFlaw.{TextFlaw}
+use Rattle.properties_tools.specs.declared.propedit.error.TextFlaw.TheVariants as flaw
+use Rattle.properties_tools.specs.declared.propedit.request.Form.{Form}
+use Rattle.properties_tools.specs.declared.propedit.request.Form.TheVariants as form
+
+-- ---- a properties file
+
+abbrev pub set_of : Row → Edit
+set_of r = set_value r.key r.value
+
+-- The file is sound, and each of its keys is set to its last value, in the order of their first pairs.
+pub record AreOfRows (e : Encoding) (file : List ℕ) (edits : List Edit) : Type 0 where
+  pub sound : IsSound e file
+  pub rows : List Row
+  pub have : HasRows e file rows
+  pub are : edits ≡ map set_of rows
+
+abbrev pub SetsRows : Encoding → List ℕ → Result (Vec editor.Edit) Failure → Type 0
+SetsRows e file (Ok edits) = AreOfRows e file (edits_in edits.items)
+SetsRows e file (Err failure) = IsUnsound e file failure
+
+-- ---- texts
+
+-- A text and the zero byte after it. No other byte of it is zero.
+abbrev pub zero_ended : List ℕ → List ℕ
+zero_ended text = text ++ 0 ∷ []
+
+abbrev pub is_zero : ℕ → Bool
+is_zero byte = byte == 0
+
+abbrev pub HasNoZero : List ℕ → Type 0
+HasNoZero text = list_any is_zero text ≡ false
+
+-- a key and a value, in UTF-8
+pub record TextPair : Type 0 where
+  pub key : List ℕ
+  pub value : List ℕ
+  pub key_whole : HasNoZero key
+  pub value_whole : HasNoZero value
+
+-- what `list -v -z` prints of pairs
+abbrev pub text_bytes : List TextPair → List ℕ
+text_bytes pairs = flat_map (λ p. zero_ended p.key ++ zero_ended p.value) pairs
+
+abbrev pub set_of_texts : TextPair → Edit
+set_of_texts p = set_value (chars p.key) (chars p.value)
+
+-- These pairs are the file, and each is set, in order.
+pub record AreOfTexts (file : List ℕ) (edits : List Edit) : Type 0 where
+  pub utf8 : IsUtf8 file
+  pub pairs : List TextPair
+  pub division : file ≡ text_bytes pairs
+  pub are : edits ≡ map set_of_texts pairs
+
+-- After the last text comes no zero byte.
+pub record IsNotEnded (file : List ℕ) : Type 0 where
+  pub utf8 : IsUtf8 file
+  pub before : List ℕ
+  pub last : List ℕ
+  pub division : file ≡ before ++ last
+  pub some : last ≢ []
+  pub whole : HasNoZero last
+
+-- The last key has no value.
+pub record HasNoValue (file : List ℕ) : Type 0 where
+  pub utf8 : IsUtf8 file
+  pub pairs : List TextPair
+  pub key : List ℕ
+  pub division : file ≡ text_bytes pairs ++ zero_ended key
+  pub whole : HasNoZero key
+
+abbrev pub HasFlaw : List ℕ → TextFlaw → Type 0
+HasFlaw file flaw.NotUtf8 = ¬ IsUtf8 file
+HasFlaw file flaw.NotEnded = IsNotEnded file
+HasFlaw file flaw.NoValue = HasNoValue file
+
+-- Why no texts are set: they have a flaw, or memory ran out.
+abbrev pub AreNoTexts : List ℕ → Failure → Type 0
+AreNoTexts file (Texts flaw) = HasFlaw file flaw
+AreNoTexts file other = LacksMemory other
+
+abbrev pub SetsTexts : List ℕ → Result (Vec editor.Edit) Failure → Type 0
+SetsTexts file (Ok edits) = AreOfTexts file (edits_in edits.items)
+SetsTexts file (Err failure) = AreNoTexts file failure
+
+-- ---- either of them
+
+abbrev pub SetsAll : Form → Encoding → List ℕ → Result (Vec editor.Edit) Failure → Type 0
+SetsAll form.Properties e file result = SetsRows e file result
+SetsAll form.Texts e file result = SetsTexts file result
