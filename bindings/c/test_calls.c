@@ -506,11 +506,19 @@ static void try_edits(void) {
     check("set_value, windows-1252", request, TODRENVAL_OK, 0, T("# \xe9\n\xe9 = \xe8\x80\\u3042\n"));
     request.flags = TODRENVAL_ASCII_ONLY;
     check("set_value, ASCII", request, TODRENVAL_OK, 0, T("# \xe9\n\xe9 = \\u00e8\\u20ac\\u3042\n"));
+    request.flags |= TODRENVAL_LATIN_1;
+    check("set_value, ASCII and Latin-1", request, TODRENVAL_OK, 0, T("# \xe9\n\xe9 = \\u00e8\\u20ac\\u3042\n"));
+    request.flags = TODRENVAL_LATIN_1;
+    check("set_value, Latin-1", request, TODRENVAL_OK, 0, T("# \xe9\n\xe9 = \xe8\\u20ac\\u3042\n"));
     request.call = SET_KEY;
+    check("set_key, Latin-1", request, TODRENVAL_OK, 0, T("# \xe9\n\xe9=\xe8\\u20ac\\u3042\n"));
+    request.flags = TODRENVAL_ASCII_ONLY;
     check("set_key, ASCII", request, TODRENVAL_OK, 0, T("# \xe9\n\\u00e9=\\u00e8\\u20ac\\u3042\n"));
     request.source = T("# \xc3\xa9\n");
     request.encoding = TODRENVAL_UTF_8;
     check("set_key, ASCII in UTF-8", request, TODRENVAL_OK, 0, T("# \xc3\xa9\n\\u00e9=\\u00e8\\u20ac\\u3042\n"));
+    request.flags = TODRENVAL_LATIN_1;
+    check("set_key, Latin-1 in UTF-8", request, TODRENVAL_OK, 0, T("# \xc3\xa9\n\\u00e9=\\u00e8\\u20ac\\u3042\n"));
     request.flags = 0;
     check("set_key, UTF-8", request, TODRENVAL_OK, 0, T("# \xc3\xa9\n\xc3\xa9=\xc3\xa8\xe2\x82\xac\xe3\x81\x82\n"));
     request.encoding = TODRENVAL_UTF_16LE;
@@ -537,6 +545,10 @@ static void try_edits(void) {
     check("edit", request, TODRENVAL_OK, 0, T("a : 3\nc=\xc3\xa9\n"));
     request.flags = TODRENVAL_ASCII_ONLY;
     check("edit, ASCII", request, TODRENVAL_OK, 0, T("a : 3\nc=\\u00e9\n"));
+    request.flags = TODRENVAL_LATIN_1 | TODRENVAL_READ_COMMENTS | TODRENVAL_STRICT;
+    check("edit, Latin-1 in UTF-8", request, TODRENVAL_OK, 0, T("a : 3\nc=\\u00e9\n"));
+    request.encoding = TODRENVAL_WINDOWS_1252;
+    check("edit, Latin-1", request, TODRENVAL_OK, 0, T("a : 3\nc=\xe9\n"));
 }
 
 static void try_write(void) {
@@ -576,7 +588,9 @@ static void try_settings(void) {
     static char const *const prefixes[] = {"x", " ", "\xc3\xa9#", "#\n", "#\r", "\n#", "=#"};
     static char const *const separators[] = {"x", "==", "=:", "= :", "a=", "\n", "= \r", "\xc2\xa0"};
     static uint32_t const endings[] = {0, TODRENVAL_CRLF, TODRENVAL_CR};
-    static uint32_t const both[] = {24, 25, 26, 28, 31, 32, 40, 48, 64, 512, 2048, 4104 + 16, 8192, 8193, 0x80001000};
+    static uint32_t const both[] = {
+        24, 25, 26, 28, 31, 32, 40, 48, 64, 512, 2048, 4104 + 16, 8192, 8193, 12288, 0x80001000,
+    };
     struct packed list = {{0}, 0};
     struct packed empty = {{0}, 0};
     struct text wanted[3];
@@ -661,8 +675,9 @@ static void converts(char const *name, struct text source, uint32_t encoding, st
 
 static void try_convert(void) {
     static uint32_t const targets[] = {
-        0, 1, 2, 3, 4, 15, 19, 255, 256, 272, 0x10010, 0x7fffffff, 0x80000010, 0xffffffff,
+        0, 1, 2, 3, 4, 15, 20, 255, 256, 272, 0x10010, 0x7fffffff, 0x80000010, 0xffffffff,
     };
+    struct request latin_1;
     struct text text;
     size_t place;
     text = T("");
@@ -711,6 +726,17 @@ static void try_convert(void) {
     text = T("k=\\ufffd");
     converts("convert of what isn't UTF-8", T("k=\xff"), TODRENVAL_UTF_8, text, text, T("k=\xef\xbf\xbd"),
              T("k=\xef\xbf\xbd"), text);
+
+    /* What ISO 8859-1 has as well stays, and what only windows-1252 has doesn't. */
+    latin_1 = request_of(CONVERT, T("# \xe9\xa0\xff\nk\x80=\x99\\u00e9\\u0178\n"), TODRENVAL_WINDOWS_1252);
+    latin_1.target = TODRENVAL_TO_LATIN_1;
+    check("convert to Latin-1", latin_1, TODRENVAL_OK, 0, T("# \xe9\xa0\xff\nk\\u20ac=\\u2122\\u00e9\\u0178\n"));
+    latin_1.flags = TODRENVAL_READABLE;
+    check("convert to readable Latin-1", latin_1, TODRENVAL_OK, 0,
+          T("# \xe9\xa0\xff\nk\\u20ac=\\u2122\xe9\\u0178\n"));
+    latin_1.source = T("k\xc3\xa9=\xe3\x81\x82\xc2\x9f\xc3\xbf");
+    latin_1.encoding = TODRENVAL_UTF_8;
+    check("convert of UTF-8 to Latin-1", latin_1, TODRENVAL_OK, 0, T("k\xe9=\\u3042\\u009f\xff"));
 
     for (place = 0; place < sizeof targets / sizeof *targets; place++) {
         struct request request = request_of(CONVERT, T("k=1"), TODRENVAL_UTF_8);
@@ -836,7 +862,9 @@ static void try_item_flags(void) {
     static char const source[] = "# C:\\users\n\n! \\u00e9 \nk\\u0041 = \\t\\\n  v\n";
     static uint32_t const encodings[] = {TODRENVAL_WINDOWS_1252, TODRENVAL_UTF_8, TODRENVAL_UTF_16LE,
                                          TODRENVAL_UTF_16BE};
-    static uint32_t const unknown[] = {1, 2, 8, 16, 512, 1024, 2048, 4096, 68, 324, 0x80000000u, 0xffffffffu};
+    static uint32_t const unknown[] = {
+        1, 2, 8, 16, 768, 580, 1024, 1536, 2048, 4096, 8192, 68, 324, 0x80000000u, 0xffffffffu,
+    };
     size_t number;
     for (number = 0; number < 4; number++) {
         struct packed bytes = {{0}, 0};
@@ -890,6 +918,172 @@ static void try_item_flags(void) {
         refuses("strict items with spans", request, TODRENVAL_NOT_TEXT, 3);
         request.source = T("a=\\u1\n\n\0");
         refuses("strict items with a zero byte", request, TODRENVAL_NOT_TEXT, 3);
+    }
+}
+
+/* Where a part ends. */
+static void put_end(struct packed *list, unsigned long long length, unsigned long long lines,
+                    unsigned long long encoding) {
+    put_number(list, TODRENVAL_END);
+    put_number(list, lines);
+    put_number(list, 0);
+    put_number(list, 16);
+    put_number(list, length);
+    put_number(list, encoding);
+}
+
+/* A part without items, and where it ends. */
+static void ends_at(char const *name, struct text part, uint32_t encoding, unsigned long long length,
+                    unsigned long long lines, unsigned long long in_force) {
+    struct request request = request_of(ITEMS, part, encoding);
+    struct packed list = {{0}, 0};
+    put_end(&list, length, lines, in_force);
+    request.flags = TODRENVAL_MORE;
+    check(name, request, TODRENVAL_OK, 0, text_of_list(&list));
+}
+
+/* Parts of sources. */
+static void try_parts(void) {
+    struct packed list = {{0}, 0}, comments = {{0}, 0}, first = {{0}, 0};
+    struct request request = request_of(ITEMS, T("# \\\na = \\t\\\n b\r\n\nc=2"), TODRENVAL_UTF_8);
+    struct todrenval_end end;
+    put_item(&comments, TODRENVAL_COMMENT, 1, T(""), T("\\"));
+    put_item(&list, TODRENVAL_PAIR, 2, T("a"), T("\tb"));
+    put_item(&comments, TODRENVAL_PAIR, 2, T("a"), T("\\tb"));
+    put_end(&list, 16, 3, TODRENVAL_UTF_8);
+    put_end(&comments, 16, 3, TODRENVAL_UTF_8);
+    request.flags = TODRENVAL_MORE | TODRENVAL_STRICT;
+    check("a part", request, TODRENVAL_OK, 0, text_of_list(&list));
+    request.flags = TODRENVAL_MORE | TODRENVAL_RAW_COMMENTS | TODRENVAL_RAW;
+    check("a raw part", request, TODRENVAL_OK, 0, text_of_list(&comments));
+    memset(&end, 0, sizeof end);
+    count(todrenval_end_of(list.bytes, list.length, &end), "an end", "end_of", -3);
+    count(end.length == 16 && end.lines == 3 && end.encoding == TODRENVAL_UTF_8, "its numbers", "end_of", -3);
+    count(!todrenval_end_of(list.bytes, list.length - TODRENVAL_END_SIZE, &end), "without it", "end_of", -3);
+    count(!todrenval_end_of(NULL, 0, &end), "of no list", "end_of", -3);
+
+    /* Nothing is read up to a line ending that may be continued, or without one. */
+    ends_at("no part", T(""), TODRENVAL_UTF_16BE, 0, 0, TODRENVAL_UTF_16BE);
+    ends_at("a part of a line", T("a=1"), TODRENVAL_UTF_8, 0, 0, TODRENVAL_UTF_8);
+    ends_at("a part of a logical line", T("a=1\\\nb=2\\\\\r\nc"), TODRENVAL_UTF_8, 0, 0, TODRENVAL_UTF_8);
+    ends_at("a part that begins with a line ending", T("\r\na=1"), TODRENVAL_UTF_8, 0, 0, TODRENVAL_UTF_8);
+    ends_at("a part of a byte order mark", T("\xef\xbb"), TODRENVAL_WINDOWS_1252, 0, 0, TODRENVAL_WINDOWS_1252);
+    ends_at("a byte order mark", T("\xef\xbb\xbf"), TODRENVAL_WINDOWS_1252, 0, 0, TODRENVAL_WINDOWS_1252);
+    ends_at("a line after a byte order mark", T("\xef\xbb\xbf\n"), TODRENVAL_WINDOWS_1252, 3, 0, TODRENVAL_UTF_8);
+    ends_at("a CR at the end", T("#a\n#\r"), TODRENVAL_WINDOWS_1252, 4, 1, TODRENVAL_WINDOWS_1252);
+    ends_at("bytes of line endings in UTF-16", T("#\0\012a\0\012\012\0\012"), TODRENVAL_UTF_16LE, 6, 0,
+            TODRENVAL_UTF_16LE);
+    ends_at("a CR LF in UTF-16", T("\xfe\xff\0#\0\r\0\n\0\r\0"), TODRENVAL_UTF_8, 8, 1, TODRENVAL_UTF_16BE);
+    ends_at("half a line ending", T("\xff\xfe#\0\r"), TODRENVAL_UTF_8, 0, 0, TODRENVAL_UTF_8);
+
+    /* An error in what is read, and one in what is left. */
+    put_item(&first, TODRENVAL_PAIR, 1, T("a"), T("1"));
+    request = request_of(ITEMS, T("a=1\nb=\\u1\nc=2"), TODRENVAL_UTF_8);
+    request.flags = TODRENVAL_MORE;
+    check("a malformed escape of a part", request, TODRENVAL_NOT_ENOUGH_DIGITS, 2, text_of_list(&first));
+    request.source = T("a=1\nb=\xff\nc=2");
+    request.flags = TODRENVAL_MORE | TODRENVAL_STRICT;
+    refuses("a strict part", request, TODRENVAL_NOT_TEXT, 2);
+    put_end(&first, 3, 0, TODRENVAL_UTF_8);
+    request.source = T("a=1\nb=\xff");
+    check("a strict part whose rest isn't text", request, TODRENVAL_OK, 0, text_of_list(&first));
+    request.source = T("a=1\nb=\\u1");
+    check("a malformed escape of the rest", request, TODRENVAL_OK, 0, text_of_list(&first));
+}
+
+static uint32_t drawn;
+
+/* A number below a limit. */
+static uint32_t draw(uint32_t limit) {
+    drawn = drawn * 1664525u + 1013904223u;
+    return (drawn >> 8) % limit;
+}
+
+/* A source of characters that matter, with a byte order mark or what is like one, and sometimes cut in a unit. */
+static struct text draw_source(uint32_t encoding, struct packed *bytes) {
+    static char const characters[] = "ab=: \\\\\\u00\n\n\r\r#!\x80\xc3\xa9\xef\xbb\xbf\xfe\xff\0";
+    static char const *const marks[] = {"\xef\xbb\xbf", "\xff\xfe", "\xfe\xff", "\xef\xbb"};
+    uint32_t length = draw(60);
+    uint32_t mark = draw(8);
+    bytes->length = 0;
+    if (mark < 4) {
+        put_text(bytes, text_of(marks[mark], strlen(marks[mark])));
+    }
+    while (length-- > 0) {
+        uint8_t character = (uint8_t)characters[draw(sizeof characters - 1)];
+        if (encoding == TODRENVAL_UTF_16BE) {
+            put_byte(bytes, draw(20) == 0 ? 0xd8 + draw(8) : 0);
+        }
+        put_byte(bytes, character);
+        if (encoding == TODRENVAL_UTF_16LE && draw(100) != 0) {
+            put_byte(bytes, draw(20) == 0 ? 0xd8 + draw(8) : 0);
+        }
+    }
+    return text_of_list(bytes);
+}
+
+/* Appends the items of a list, so many lines later, without its end. */
+static void put_later(struct packed *items, struct todrenval_result const *list, uint64_t lines) {
+    struct todrenval_cursor cursor = todrenval_walk(list->bytes, list->length);
+    struct todrenval_item item;
+    while (todrenval_next_item(&cursor, &item)) {
+        struct text key, value;
+        key.bytes = item.key;
+        key.length = item.key_length;
+        value.bytes = item.value;
+        value.length = item.value_length;
+        if (item.kind != TODRENVAL_END) {
+            put_item(items, item.kind, item.line + lines, key, value);
+        }
+    }
+}
+
+/* Random sources, read whole and in parts of random lengths. */
+static void try_random_parts(void) {
+    static uint32_t const flags[] = {0, TODRENVAL_READ_COMMENTS, TODRENVAL_RAW_COMMENTS,
+                                     TODRENVAL_RAW | TODRENVAL_READ_COMMENTS};
+    long number;
+    uint32_t asked;
+    for (number = 0; number < 6000; number++) {
+        uint32_t asked_for = (uint32_t)(number % 4), longest = 1 + draw(30);
+        struct packed bytes;
+        struct text source = draw_source(asked_for, &bytes);
+        for (asked = 0; asked < 4; asked++) {
+            struct packed whole = {{0}, 0}, parted = {{0}, 0};
+            struct todrenval_result all = todrenval_items_new(source.bytes, source.length, asked_for, flags[asked]);
+            struct todrenval_result part;
+            struct todrenval_end end = {0, 0, 0};
+            size_t from = 0, to = 0;
+            uint64_t lines = 0;
+            bool is_last;
+            end.encoding = asked_for;
+            put_later(&whole, &all, 0);
+            do {
+                to += 1 + draw(longest);
+                is_last = to >= source.length;
+                to = is_last ? source.length : to;
+                part = todrenval_items_new(source.bytes + from, to - from, end.encoding,
+                                           flags[asked] | (is_last ? 0 : TODRENVAL_MORE));
+                put_later(&parted, &part, lines);
+                if (part.status != TODRENVAL_OK || is_last) {
+                    break;
+                }
+                if (!todrenval_end_of(part.bytes, part.length, &end)) {
+                    count(false, "an end", "random parts", number);
+                    break;
+                }
+                free(part.bytes);
+                from += end.length;
+                lines += end.lines;
+            } while (true);
+            count(part.status == all.status, "the status", "random parts", number);
+            count(part.line + (part.line == 0 ? 0 : lines) == all.line, "the line", "random parts", number);
+            count(part.in_comment == all.in_comment, "in a comment", "random parts", number);
+            count(parted.length == whole.length && memcmp(parted.bytes, whole.bytes, whole.length) == 0, "the items",
+                  "random parts", number);
+            free(part.bytes);
+            free(all.bytes);
+        }
     }
 }
 
@@ -1045,7 +1239,7 @@ static void try_append(void) {
 
 /* Encodings that there are not, before all else that is wrong. */
 static void try_encodings(void) {
-    static uint32_t const encodings[] = {4, 5, 16, 17, 18, 255, 256, 0x7fffffff, 0x80000000, 0xffffffff};
+    static uint32_t const encodings[] = {4, 5, 16, 17, 18, 19, 255, 256, 0x7fffffff, 0x80000000, 0xffffffff};
     size_t place;
     int call;
     for (place = 0; place < sizeof encodings / sizeof *encodings; place++) {
@@ -1061,11 +1255,12 @@ static void try_encodings(void) {
 /* Flags that there are not, and those that a call has no use for, before a key and a list that are no good. */
 static void try_flags(void) {
     static enum call const calls[] = {GET, SET_VALUE, SET_KEY, REMOVE_KEY, EDIT, WRITE, CONVERT};
-    static uint32_t const taken[] = {36, 37, 37, 37, 37, 4123, 34};
+    static uint32_t const taken[] = {36, 8229, 8229, 8229, 8229, 4123, 34};
     static uint32_t const flags[] = {
-        0,    1,    2,    3,    4,    5,    6,    7,          8,          12,         16,        32,
-        33,   34,   36,   37,   38,   64,   128,  255,        256,        512,        1024,      2048,
-        4096, 4097, 4128, 4160, 5120, 8192, 8196, 0x7fffffff, 0x80000000, 0x80000001, 0x80001000, 0xffffffff,
+        0,    1,    2,    3,    4,    5,    6,     7,     8,     12,         16,         32,         33,         34,
+        36,   37,   38,   64,   128,  255,  256,   512,   1024,  2048,       4096,       4097,       4128,       4160,
+        5120, 8192, 8196, 8229, 8256, 8704, 12288, 16384, 24576, 0x7fffffff, 0x80000000, 0x80000001, 0x80001000,
+        0xffffffff,
     };
     size_t place, number;
     for (number = 0; number < sizeof calls / sizeof *calls; number++) {
@@ -1415,6 +1610,16 @@ static void try_memory_converting(void) {
     refuse_each("convert of what isn't UTF-8", request, TODRENVAL_OK, 0, T("\\ufeffk=\xef\xbf\xbd"));
 }
 
+static void try_memory_parts(void) {
+    struct packed list = {{0}, 0};
+    struct request request = request_of(ITEMS, T("# c\nk : \\u0031\nk=2\n\nk"), TODRENVAL_UTF_8);
+    put_item(&list, TODRENVAL_PAIR, 2, T("k"), T("1"));
+    put_item(&list, TODRENVAL_PAIR, 3, T("k"), T("2"));
+    put_end(&list, 19, 3, TODRENVAL_UTF_8);
+    request.flags = TODRENVAL_MORE;
+    refuse_each("a part", request, TODRENVAL_OK, 0, text_of_list(&list));
+}
+
 /* The text of a status comes with this room, whole or not at all. */
 static void check_text(int status, char const *text, size_t room) {
     uint8_t memory[GUARD + TODRENVAL_REASON_ROOM + GUARD];
@@ -1474,6 +1679,8 @@ int main(void) {
     try_items();
     try_item_flags();
     try_spans();
+    try_parts();
+    try_random_parts();
     try_find();
     try_findings();
     try_edits();
@@ -1494,6 +1701,7 @@ int main(void) {
     try_unsupported();
     try_memory();
     try_memory_converting();
+    try_memory_parts();
     try_words();
     printf("%ld passed, %ld failed\n", passed, failed);
     return failed > 0;

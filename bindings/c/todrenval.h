@@ -95,7 +95,9 @@ enum todrenval_encoding {
 enum todrenval_target {
     TODRENVAL_TO_WINDOWS_1252 = 16,
     TODRENVAL_TO_UTF_8 = 17,
-    TODRENVAL_TO_ASCII = 18 /* reads the same in ISO 8859-1, windows-1252 and UTF-8 */
+    TODRENVAL_TO_ASCII = 18, /* reads the same in ISO 8859-1, windows-1252 and UTF-8 */
+    TODRENVAL_TO_LATIN_1 = 19 /* reads the same in ISO 8859-1 and windows-1252, as Properties.load(InputStream) of Java
+                                 reads it: U+0080 to U+009F become escapes, and so does what is past U+00FF */
 };
 
 /* Flags: 0, one of these, or several, as in TODRENVAL_ASCII_ONLY | TODRENVAL_READABLE. A call refuses a flag that it
@@ -107,7 +109,8 @@ enum todrenval_flag {
      * that the target has becomes that character. */
     TODRENVAL_READABLE = 2,
     /* Comments are read: their escapes are resolved, and a malformed one is an error. todrenval_get, _items, _edit.
-     * Without this flag comments are passed over, as in Java, so one may be `# C:\users`. */
+     * Without this flag, and without the two for todrenval_items that give comments as they stand, comments are passed
+     * over, as in Java, so one may be `# C:\users`. */
     TODRENVAL_READ_COMMENTS = 4,
     /* Lines end in CR LF, or in CR, and not in LF: todrenval_write. It takes one of the two at most. */
     TODRENVAL_CRLF = 8,
@@ -124,16 +127,22 @@ enum todrenval_flag {
     TODRENVAL_RAW = 128,
     /* Every group of lines is given, blank ones too, and with its places: todrenval_items. */
     TODRENVAL_SPANS = 256,
-    /* Lines were written before those of the list, so none begins a file: todrenval_write. The numbers 512 to 2048 are
-     * kept for sources that come in parts. */
-    TODRENVAL_GOES_ON = 4096
+    /* More bytes of the source follow these: todrenval_items, without TODRENVAL_SPANS. */
+    TODRENVAL_MORE = 512,
+    /* Lines were written before those of the list, so none begins a file: todrenval_write. */
+    TODRENVAL_GOES_ON = 4096,
+    /* Each character that is put in is an escape, unless it is U+0000 to U+007F or U+00A0 to U+00FF, which ISO 8859-1
+     * and windows-1252 write alike: todrenval_edit. In UTF-8 it is TODRENVAL_ASCII_ONLY. With that flag it changes
+     * nothing. */
+    TODRENVAL_LATIN_1 = 8192
 };
 
 /* What an item of a source is, and a line to write. */
 enum todrenval_item_kind {
     TODRENVAL_COMMENT = 0, /* no key; the value is the text after the # or !, less the blanks at its ends */
     TODRENVAL_PAIR = 1,
-    TODRENVAL_BLANK = 5 /* with TODRENVAL_SPANS alone: no key and no value. 6 is kept for the end of a part */
+    TODRENVAL_BLANK = 5, /* with TODRENVAL_SPANS alone: no key and no value */
+    TODRENVAL_END = 6    /* with TODRENVAL_MORE alone, and last: todrenval_end_of says what it holds */
 };
 
 /* What an edit does. None of these numbers is that of a kind of item, so a list of items isn't taken for a list of
@@ -160,13 +169,15 @@ enum todrenval_finding_kind {
  *     an item, an edit, a line to write: kind, line, length of the key, length of the value; key; value
  *     a finding:                         kind, line, first, length of the key;               key
  *     an item with spans:                kind + 16, line, the two lengths; twelve numbers;   key; value
+ *     TODRENVAL_END:                     kind, lines, 0, 16; two numbers: length, encoding
  *
  * A malformed escape has no key, and in the place of `first` it has 1 if it is in a comment, and 0 if it isn't. The
  * twelve numbers are those of struct todrenval_spans, in its order.
  *
  * Edits and lines to write may have any number as their `line`. So the list that todrenval_items gives without spans
  * can be passed to todrenval_write as it is. todrenval_edit refuses a list of items, and todrenval_write a list of
- * edits, and both refuse one with spans, unless it is empty. The functions below walk these lists and make them. */
+ * edits, and both refuse one with spans, unless it is empty. todrenval_write refuses TODRENVAL_END too, which is the
+ * last TODRENVAL_END_SIZE bytes of a list that has it. The functions below walk these lists and make them. */
 
 /* The bytes of a record before its texts, or before its spans. */
 #define TODRENVAL_RECORD_SIZE 32
@@ -174,6 +185,9 @@ enum todrenval_finding_kind {
 /* The bytes of its spans, and what is added to the kind of a record that has them. */
 #define TODRENVAL_SPANS_SIZE 96
 #define TODRENVAL_WITH_SPANS 16
+
+/* The bytes of a record TODRENVAL_END. */
+#define TODRENVAL_END_SIZE 48
 
 /* An item. Its texts are in the list, and end in no zero byte. */
 struct todrenval_item {
@@ -199,6 +213,14 @@ struct todrenval_spans {
     uint64_t flaw_line;   /* the line that it is in, which may come after the one that the group begins in */
     uint64_t flaw_column; /* it is this byte of that line, counted from 1 */
     uint64_t ill_formed;  /* the first line of the group whose bytes aren't text of the encoding, or 0 */
+};
+
+/* Where the items of a part end, and the source goes on. */
+struct todrenval_end {
+    size_t length;     /* how many bytes of the part they were read from */
+    uint64_t lines;    /* how many line endings these bytes have: what comes later is so many lines further on */
+    uint32_t encoding; /* enum todrenval_encoding: the one for the bytes that come later; that of the source, if length
+                          isn't 0 */
 };
 
 /* A finding. The key of a malformed escape is empty, and its `first` is 0. */
@@ -245,7 +267,21 @@ int todrenval_get(uint8_t const *source, size_t source_length, uint32_t encoding
  *
  * With TODRENVAL_SPANS all groups of lines come, each with its spans: blank ones, comments and pairs. No malformed
  * escape is an error then: the spans of its group say it, and the texts of that group are given as they stand. The
- * texts of comments are given as they stand, unless TODRENVAL_READ_COMMENTS resolves them.
+ * texts of comments are given as they stand, unless TODRENVAL_READ_COMMENTS resolves them. A source in UTF-16 has no
+ * spans: todrenval_convert makes UTF-8 of it, and the places are those of its result.
+ *
+ * With TODRENVAL_MORE, the source is only a part. It is read up to its last line ending that no backslash stands
+ * before, and that line ending is left. No bytes after the part can change the items of what is read. They come, and
+ * then TODRENVAL_END, unless an escape in them is malformed. The next part is what is left and bytes that follow, in
+ * the encoding that TODRENVAL_END says; so a character, a byte order mark or a CR LF may be cut anywhere. Add the lines
+ * of each end to the numbers of all lines that come later. The last part, which no bytes follow, is read without the
+ * flag. All that these calls give is what one call would give for the whole, up to the same error.
+ *
+ * If an end says 0 bytes, more are needed: let the next part be twice as long, and the time for all parts stays linear.
+ * Parts of 64 KiB or more cost little more than the whole. With TODRENVAL_STRICT each part is looked at by itself, up
+ * to its end: items, or a malformed escape, may come before a line that isn't text, the first such line of a part may
+ * be another than that of the whole, and in UTF-8 a byte 0 is no text in a part without a byte order mark, whatever
+ * the first one has.
  *
  * Returns TODRENVAL_OK, _NO_ROOM, _NO_MEMORY, _UNKNOWN_ENCODING, _UNKNOWN_FLAGS, _NOT_TEXT, _NOT_ENOUGH_DIGITS,
  * _NOT_HEX, _INVALID_CHARACTER or _UNSUPPORTED (of UTF-16 with spans). */
@@ -271,16 +307,18 @@ int todrenval_findings(uint8_t const *source, size_t source_length, uint32_t enc
  * its separator and its line ending. If no pair has the key, one is added at the end, with the separator of the last
  * pair and the last line ending of the source, but with no indent.
  *
- * TODRENVAL_EDIT_SET_KEY: the same, but `key=value` replaces the whole pair, or is added.
+ * TODRENVAL_EDIT_SET_KEY: `key=value` replaces the whole last pair, but for its line ending; or it is added at the end,
+ * with a line feed after it.
  *
  * TODRENVAL_EDIT_REMOVE_KEY: the pairs with the key go, of which there may be none. If what is left would begin like a
  * byte order mark, a line feed comes first.
  *
  * Every other line stays as it is, but for a line ending that a new pair needs before it.
  *
- * With TODRENVAL_ASCII_ONLY, what is new is written in ASCII only, with an escape for each other character. Without
- * it, a non-ASCII character is an escape only if it isn't in the encoding, or if it is the first one of a key at the
- * front of the source that would begin like a byte order mark.
+ * With TODRENVAL_ASCII_ONLY, what is new is written in ASCII only, with an escape for each other character. With
+ * TODRENVAL_LATIN_1, it has only characters that load(InputStream) of Java reads as they are meant. Without both, a
+ * non-ASCII character is an escape only if it isn't in the encoding, or if it is the first one of a key at the front of
+ * the source that would begin like a byte order mark.
  *
  * A malformed escape of any pair is an error, and with TODRENVAL_READ_COMMENTS one in a comment is too.
  *
@@ -324,7 +362,7 @@ int todrenval_convert(uint8_t const *source, size_t source_length, uint32_t enco
  * prefix is written as it is, but for characters that aren't in the encoding.
  *
  * If the first line would begin like a byte order mark, it gets an escape, but not with TODRENVAL_GOES_ON. So a list
- * can be written in parts, each with that flag but the first.
+ * can be written in parts, each with that flag once a line was written.
  *
  * Returns TODRENVAL_OK, _NO_ROOM, _NO_MEMORY, _UNKNOWN_ENCODING, _UNKNOWN_FLAGS, _NOT_UTF_8, _BAD_LIST, _BAD_PREFIX,
  * _BAD_SEPARATOR or _EMPTY_KEY. A list is bad if a record is cut short, has a kind that no item has, such as that of an
@@ -394,6 +432,24 @@ static inline struct todrenval_cursor todrenval_walk(void const *list, size_t le
     return cursor;
 }
 
+/* Sets end to what the record TODRENVAL_END at the end of a list holds, and returns true; or returns false, if the list
+ * is too short for it, or its last bytes aren't such a record. Call it only for a list of TODRENVAL_MORE, and only if
+ * the status was TODRENVAL_OK: the texts of any other list may look like such a record. */
+static inline bool todrenval_end_of(void const *list, size_t length, struct todrenval_end *end) {
+    uint8_t const *record;
+    if (length < TODRENVAL_END_SIZE) {
+        return false;
+    }
+    record = TODRENVAL_CAST(uint8_t const *, list) + (length - TODRENVAL_END_SIZE);
+    if (todrenval_number_at(record) != TODRENVAL_END) {
+        return false;
+    }
+    end->lines = todrenval_number_at(record + 8);
+    end->length = todrenval_number_at(record + TODRENVAL_RECORD_SIZE);
+    end->encoding = TODRENVAL_CAST(uint32_t, todrenval_number_at(record + TODRENVAL_RECORD_SIZE + 8));
+    return true;
+}
+
 /* Sets spans to the numbers of a record that has them. Only the next function needs this. */
 static inline void todrenval_spans_at(uint8_t const *numbers, struct todrenval_spans *spans) {
     spans->start = todrenval_number_at(numbers);
@@ -452,8 +508,10 @@ static inline bool todrenval_next_item(struct todrenval_cursor *cursor, struct t
     return todrenval_next_spanned(cursor, item, NULL);
 }
 
-/* Sets *item to the last pair with this key in a list of items, as todrenval_get finds it in a source, and returns
- * true; or returns false: no pair has it. It walks through the whole list, so put thousands of keys into a map. */
+/* Sets *item to the last pair with this key in a list of items, and returns true; or returns false: no pair has it. In
+ * a list without TODRENVAL_RAW and TODRENVAL_SPANS it is the pair that todrenval_get finds in the source.
+ *
+ * It walks through the whole list, so put thousands of keys into a map. */
 static inline bool todrenval_find(void const *list, size_t length, void const *key, size_t key_length,
                                   struct todrenval_item *item) {
     struct todrenval_cursor cursor = todrenval_walk(list, length);

@@ -6,7 +6,6 @@ use Rattle.std.specs.Global.{Vec}
 use Rattle.std.specs.Str.{chars}
 use Rattle.properties_format.specs.Encoding.{Encoding}
 use Rattle.properties_format.specs.Escapes.{Malformed, not_enough_digits, not_hex, invalid_character}
-use Rattle.properties_format.specs.Items as items
 use Rattle.properties_format.specs.Items.{Entry, Outcome, ignored, given, broken, item, malformed, AreEntries, IsFollowed, IsOutcome, IsItems}
 use Rattle.properties_format.specs.ItemsToCome.{ReaderState, start}
 use Rattle.properties_format.specs.Lines.{Line, HasGroups, end, first_number, joined, line_endings, lines_in}
@@ -19,12 +18,11 @@ use Rattle.properties_lines.specs.LineJoiner.{JoinsNext, LineState}
 use Rattle.properties_items.specs.Errors.{kind_of, malformed_kind}
 use Rattle.properties_items.specs.declared.error.PropertiesError.{PropertiesError}
 use Rattle.java_properties.specs.Private.LineByLine.{Collected}
-use Rattle.java_properties.specs.ReadLines.{IsReading}
 use Rattle.java_properties.proofs.MalformedEscapes.{collected-start, collected-next, collected-on, collected-lines}
 use Rattle.java_properties.proofs.Readings.{reading-of}
 use Rattle.java_properties.proofs.SliceReads.{collected-slice, slice_of, slice_reader, slice-read, slice-whole}
 use Rattle.properties_c.specs.Crossing.{Crossing, Crosses, Delivers, Refuses}
-use Rattle.properties_c.specs.Items.{AreAsked, AreGiven, GivesAsked, GivesGroups, GivesItems, GivesLine}
+use Rattle.properties_c.specs.Items.{AreAsked, AreGiven, GivesAsked, GivesGroups, GivesItems, GivesLine, GivesPart, GivesSource}
 use Rattle.properties_c.specs.Packed.{item_record, packed, packed_items, reading_line, reading_status}
 use Rattle.properties_c.specs.Private.Results.{Appends, HasItems, PacksGroups, PushesLine}
 use Rattle.properties_c.specs.Statuses.{line_or_none, malformed_status, status_of_kind}
@@ -52,7 +50,7 @@ read-entries a n [] entries c p h = h
 read-entries a n (g ∷ gs) entries c p h =
     (h.0, read-line a (joined g) h.0 c p h.1, followed-as (first_number g) h.0 (AreGiven a gs) (AreEntries n end gs) entries (λ rest k. read-entries a n gs rest c p k) h.2)
 
-asked-of : {a : Asked} {e : Encoding} {source : List ℕ} {groups : List (List Line)} {entries : List Entry} → HasGroups e source end groups
+pub asked-of : {a : Asked} {e : Encoding} {source : List ℕ} {groups : List (List Line)} {entries : List Entry} → HasGroups e source end groups
     → AreGiven a groups entries → AreAsked a e source entries
 asked-of {a} {e} {source} {groups} {entries} has are = record {
   groups = groups;
@@ -194,6 +192,13 @@ module _ {a : Asked} {e : Encoding} {from : List ℕ} where
   packed-failed number new bytes error found h n (inr memory) is status other line = absurd (other (status ∙ ap status_of_kind memory.its_kind))
 
 -- ---- what crosses
+
+pub part-across : (a : Asked) (e : Encoding) (source : List ℕ) (x : Crossing) → a.is_part ≡ true → GivesPart a e source x → GivesSource a a.is_part e source x
+part-across a e source x is h = subst (λ v. GivesSource a v e source x) (sym is) h
+
+pub source-across : (a : Asked) (e : Encoding) (source : List ℕ) (x : Crossing) → a.is_part ≡ false → GivesSource a false e source x
+    → GivesSource a a.is_part e source x
+source-across a e source x is h = subst (λ v. GivesSource a v e source x) (sym is) h
 
 pub items-across : (a : Asked) (e : Encoding) (source bytes : List ℕ) (found : PackedItems) (x : Crossing) → HasItems a e source found
     → bytes ≡ found.bytes.items → a.has_spans ≡ false → Delivers bytes found.status found.line x → GivesAsked a a.has_spans e source x

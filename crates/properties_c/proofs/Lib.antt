@@ -7,6 +7,11 @@ pub mod Refusals
 pub mod Unsound
 pub mod GivenLines
 pub mod GivenItems
+pub mod PartedTexts
+pub mod PartedBytes
+pub mod PartedFronts
+pub mod PartedLines
+pub mod GivenParts
 pub mod PackedGroups
 pub mod OneReading
 pub mod WriterSettings

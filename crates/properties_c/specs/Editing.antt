@@ -1,7 +1,7 @@
 -- What the export that edits gives.
 use Rattle.std.specs.Prelude.{◌⊎◌, ℕ, Bool, true, false, List, Result}
 use Rattle.std.specs.Global.{Vec}
-use Rattle.properties_format.specs.Encoding.{Encoding, Repertoire, repertoire}
+use Rattle.properties_format.specs.Encoding.{Encoding, Repertoire, characters_for}
 use Rattle.properties_format.specs.Edits.{Edit}
 use Rattle.java_properties.specs.Editing.{EditsPairs, MakesEdits}
 use Rattle.properties_items.specs.declared.error.PropertiesError.{PropertiesError}
@@ -19,8 +19,12 @@ abbrev pub EditsAs : Bool → Repertoire → List ℕ → List Edit → Result (
 EditsAs true r source edits result = MakesEdits r source edits result
 EditsAs false r source edits result = EditsPairs r source edits result
 
+-- what may stand unescaped in what is put in, as the flags ask for it
+abbrev pub repertoire_for : Flags → Encoding → Repertoire
+repertoire_for f e = record { encoding = e; characters = characters_for f.ascii_only f.latin_1 }
+
 abbrev pub MakesAll : Flags → Encoding → List ℕ → List Edit → Result (Vec ℕ) PropertiesError → Type 0
-MakesAll f e source edits result = EditsAs f.read_comments (repertoire e f.ascii_only) source edits result
+MakesAll f e source edits result = EditsAs f.read_comments (repertoire_for f e) source edits result
 
 -- An edit returned a result for which this holds, and the result crosses.
 abbrev pub GivesEdited : (Result (Vec ℕ) PropertiesError → Type 0) → Crossing → Type 0

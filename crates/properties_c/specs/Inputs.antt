@@ -4,7 +4,7 @@ use Rattle.std.specs.Str.{IsUtf8, chars}
 use Rattle.properties_format.specs.Encoding.{Encoding, windows_1252, utf_8, utf_16le, utf_16be}
 use Rattle.properties_format.specs.Names.{IsLabelled}
 use Rattle.properties_text.specs.declared.print.Repertoire.{Repertoire}
-use Rattle.properties_text.specs.declared.print.Repertoire.TheVariants.{Windows1252, Utf8, Ascii}
+use Rattle.properties_text.specs.declared.print.Repertoire.TheVariants.{Windows1252, Utf8, Ascii, Latin1}
 use Rattle.properties_c.specs.Crossing.{Crossing, Refuses}
 use Rattle.properties_c.specs.declared.asked.Asked.{Asked}
 use Rattle.properties_c.specs.declared.asked.Texts.{Texts}
@@ -32,7 +32,8 @@ InEncoding n Holds x = ((e : Encoding) × (encoding_at n ≡ Some e) × Holds e)
 
 -- the target of a conversion with this number, if there is one
 abbrev pub target_at : ℕ → Option Repertoire
-target_at n = if n == 16 then Some Windows1252 else (if n == 17 then Some Utf8 else (if n == 18 then Some Ascii else None))
+target_at n =
+    if n == 16 then Some Windows1252 else (if n == 17 then Some Utf8 else (if n == 18 then Some Ascii else (if n == 19 then Some Latin1 else None)))
 
 -- The number is that of a target, of which this holds; or no target has it, and the call was refused.
 abbrev pub ToTarget : ℕ → (Repertoire → Type 0) → Crossing → Type 0
@@ -40,10 +41,10 @@ ToTarget n Holds x = ((t : Repertoire) × (target_at n ≡ Some t) × Holds t) �
 
 -- the flags that an edit takes, those of a look-up, those of a conversion, and those of the call that writes lines
 abbrev pub no_flags : Flags
-no_flags = record { ascii_only = false; readable = false; read_comments = false; crlf = false; cr = false; strict = false; goes_on = false }
+no_flags = record { ascii_only = false; readable = false; read_comments = false; crlf = false; cr = false; strict = false; goes_on = false; latin_1 = false }
 
 abbrev pub for_edits : Flags
-for_edits = record no_flags { ascii_only = true; read_comments = true; strict = true }
+for_edits = record no_flags { ascii_only = true; read_comments = true; strict = true; latin_1 = true }
 
 abbrev pub for_keys : Flags
 for_keys = record no_flags { read_comments = true; strict = true }
@@ -61,11 +62,13 @@ are_among f taken =
     && ((taken.readable || not f.readable)
     && ((taken.read_comments || not f.read_comments)
     && ((taken.crlf || not f.crlf)
-    && ((taken.cr || not f.cr) && ((taken.strict || not f.strict) && (taken.goes_on || not f.goes_on))))))
+    && ((taken.cr || not f.cr)
+    && ((taken.strict || not f.strict)
+    && ((taken.goes_on || not f.goes_on) && (taken.latin_1 || not f.latin_1)))))))
 
 -- what the flags of a number ask for: 1 is ASCII-only, 2 is readable values, 4 is comments that are read, 8 is lines
--- that end in CR LF, 16 is lines that end in CR, 32 is text alone, 4096 is lines that go on, and a sum is each of its
--- parts
+-- that end in CR LF, 16 is lines that end in CR, 32 is text alone, 4096 is lines that go on, 8192 is characters that
+-- ISO 8859-1 reads alike, and a sum is each of its parts
 abbrev pub flags_in : ℕ → Flags
 flags_in n = record {
   ascii_only = n % 2 == 1;
@@ -74,12 +77,13 @@ flags_in n = record {
   crlf = n / 8 % 2 == 1;
   cr = n / 16 % 2 == 1;
   strict = n / 32 % 2 == 1;
-  goes_on = n / 4096 == 1;
+  goes_on = n / 4096 % 2 == 1;
+  latin_1 = n / 8192 == 1;
 }
 
 -- whether the number is a sum of these flags, and not of both line endings, which are 24
 abbrev pub are_flags : ℕ → Bool
-are_flags n = nat_lt n 8192 && ((n / 64 % 64 == 0) && nat_lt (n % 32) 24)
+are_flags n = nat_lt n 16384 && ((n / 64 % 64 == 0) && nat_lt (n % 32) 24)
 
 -- what they ask for, if the call takes each of them
 abbrev pub flags_at : Flags → ℕ → Option Flags
@@ -118,13 +122,15 @@ comments_in n = if n / 4 % 2 == 1 then Read else (if (n / 64 % 2 == 1) || (n / 2
 abbrev pub pairs_in : ℕ → Texts
 pairs_in n = if n / 128 % 2 == 1 then Raw else Read
 
--- 32 is text alone
+-- 32 is text alone, 256 is spans, and 512 is a part
 abbrev pub asked_in : ℕ → Asked
-asked_in n = record { comments = comments_in n; pairs = pairs_in n; is_strict = n / 32 % 2 == 1; has_spans = n / 256 % 2 == 1 }
+asked_in n =
+    record { comments = comments_in n; pairs = pairs_in n; is_strict = n / 32 % 2 == 1; has_spans = n / 256 % 2 == 1; is_part = n / 512 == 1 }
 
--- Items don't take 1, 2, 8, 16, nor 512 and above; and 4 and 64 exclude each other.
+-- Items don't take 1, 2, 8, 16, nor 1024 and above; 4 and 64 exclude each other, and so do 256 and 512.
 abbrev pub are_taken : ℕ → Bool
-are_taken n = nat_lt n 512 && ((n % 4 == 0) && ((n / 8 % 4 == 0) && not ((n / 4 % 2 == 1) && (n / 64 % 2 == 1))))
+are_taken n =
+    nat_lt n 1024 && ((n % 4 == 0) && ((n / 8 % 4 == 0) && (not ((n / 4 % 2 == 1) && (n / 64 % 2 == 1)) && not (n / 256 == 3))))
 
 abbrev pub asked_at : ℕ → Option Asked
 asked_at n = if are_taken n then Some (asked_in n) else None

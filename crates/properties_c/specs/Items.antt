@@ -1,12 +1,11 @@
 -- What the call for items gives: the items of the logical lines of a source, or its groups with the places of their parts.
-use Rattle.std.specs.Prelude.{◌≡◌, ◌⊎◌, ℕ, Bool, true, false, List, [], ◌∷◌, ◌++◌, Option, Some, None, encode_utf8_all}
-use Rattle.std.specs.List.{flat_map}
+use Rattle.std.specs.Prelude.{◌≡◌, ◌⊎◌, ℕ, Bool, true, false, List, [], ◌∷◌, ◌++◌, map, Option, Some, None, encode_utf8_all}
 use Rattle.properties_format.specs.Encoding.{Encoding, byte_order_mark}
 use Rattle.properties_format.specs.Body.{HeldLine}
 use Rattle.properties_format.specs.Edited.{is_editable}
 use Rattle.properties_format.specs.Items as items
 use Rattle.properties_format.specs.Items.{Entry, Outcome, ignored, given, IsFollowed, IsOutcome}
-use Rattle.properties_format.specs.Lines.{Line, HasGroups, end, first_number, joined}
+use Rattle.properties_format.specs.Lines.{Line, HasGroups, end, first_number, joined, line_endings}
 use Rattle.properties_format.specs.Split.{Logical, blank, comment, pair, IsSplit}
 use Rattle.java_properties.specs.ReadLines.{IsReading}
 use Rattle.properties_items.specs.declared.error.ErrorKind.{ErrorKind}
@@ -19,7 +18,8 @@ use Rattle.properties_editing.specs.declared.group.PartPlaces.{PartPlaces}
 use Rattle.properties_editing.specs.declared.group.ViewedGroup.{ViewedGroup}
 use Rattle.properties_c.specs.Crossing.{Crossing, Delivers, Refuses}
 use Rattle.properties_c.specs.Inputs.{InEncoding, WithSource, WithAsked}
-use Rattle.properties_c.specs.Packed.{Record, number_bytes, packed_items, reading_line, reading_status, spanned}
+use Rattle.properties_c.specs.Packed.{end_bytes, packed_items, reading_line, reading_status, spanned}
+use Rattle.properties_c.specs.Parts.{IsDivided, followed_by, later}
 use Rattle.properties_c.specs.declared.asked.Asked.{Asked}
 use Rattle.properties_c.specs.declared.asked.Texts.{Texts}
 use Rattle.properties_c.specs.declared.asked.Texts.TheVariants.{PassedOver, Raw, Read}
@@ -153,12 +153,32 @@ pub record GivesSpans (a : Asked) (e : Encoding) (source : List ℕ) (x : Crossi
 abbrev pub GivesGroups : Asked → Encoding → List ℕ → Crossing → Type 0
 GivesGroups a e source x = GivesSpans a e source x ⊎ (is_editable (byte_order_mark e source).encoding ≡ false) × Refuses Unsupported 0 x
 
--- ---- both
+-- ---- a part of a source
+
+-- The items of the front are given, as those of a source, and then where it ends. Whatever comes after the part, they
+-- are the first items of it all; and then come those of the rest and of what follows it, read in the encoding in force,
+-- as many lines later as the front has line endings.
+pub record GivesFront (a : Asked) (e : Encoding) (front rest : List ℕ) (x : Crossing) : Type 0 where
+  pub entries : List Entry
+  pub asked : AreAsked a e front entries
+  pub goes_on : (after : List ℕ) (others : List Entry) → AreAsked a (byte_order_mark e front).encoding (rest ++ after) others
+      → AreAsked a e (front ++ (rest ++ after)) (followed_by entries (map (later (line_endings asked.has_groups.lines)) others))
+  pub delivered : Delivers (packed_items entries ++ end_bytes (reading_status entries) e front (line_endings asked.has_groups.lines)) (reading_status entries)
+      (reading_line entries) x
+
+abbrev pub GivesPart : Asked → Encoding → List ℕ → Crossing → Type 0
+GivesPart a e part x =
+    (front : List ℕ) × (rest : List ℕ) × IsDivided e part front rest × WithSource a.is_strict e front (GivesFront a e front rest x ⊎ Refuses NoMemory 0 x) x
+
+-- ---- all of these
 
 abbrev pub GivesAsked : Asked → Bool → Encoding → List ℕ → Crossing → Type 0
 GivesAsked a false e source x = GivesItems a e source x
 GivesAsked a true e source x = GivesGroups a e source x
 
+abbrev pub GivesSource : Asked → Bool → Encoding → List ℕ → Crossing → Type 0
+GivesSource a false e source x = WithSource a.is_strict e source (GivesAsked a a.has_spans e source x ⊎ Refuses NoMemory 0 x) x
+GivesSource a true e source x = GivesPart a e source x
+
 abbrev pub ItemsAcross : List ℕ → ℕ → ℕ → Crossing → Type 0
-ItemsAcross source encoding flags x =
-    InEncoding encoding (λ e. WithAsked flags (λ a. WithSource a.is_strict e source (GivesAsked a a.has_spans e source x ⊎ Refuses NoMemory 0 x) x) x) x
+ItemsAcross source encoding flags x = InEncoding encoding (λ e. WithAsked flags (λ a. GivesSource a a.is_part e source x) x) x

@@ -3,6 +3,7 @@ pub mod Crossing
 pub mod Inputs
 pub mod Reading
 pub mod Items
+pub mod Parts
 pub mod Editing
 pub mod Writing
 pub mod Private

@@ -5,8 +5,10 @@ use Rattle.std.specs.List.{flat_map}
 use Rattle.properties_c.specs.declared.records.Record as code
 use Rattle.std.specs.Str.{IsUtf8, chars}
 use Rattle.properties_format.specs.Edits.{Edit, put, remove, set_value}
+use Rattle.properties_format.specs.Encoding.{Encoding, byte_order_mark}
 use Rattle.properties_format.specs.Items.{Content, comment, pair, Entry, item, malformed}
 use Rattle.properties_c.specs.Crossing.{Crossing, Refuses}
+use Rattle.properties_c.specs.Inputs.{encoding_number}
 use Rattle.properties_c.specs.declared.status.Status.TheVariants.{NoMemory, NotUtf8, BadList, Done}
 use Rattle.properties_c.specs.Statuses.{malformed_status}
 use Rattle.properties_c.specs.declared.status.Status.{Status}
@@ -165,6 +167,16 @@ abbrev pub reading_line : List Entry → ℕ
 reading_line [] = 0
 reading_line (malformed how number ∷ entries) = number
 reading_line (other ∷ entries) = reading_line entries
+
+-- the bytes of where a front with so many line endings ends, if it was read whole: a record of the line endings, of the
+-- bytes of the front, and of the encoding in force
+abbrev pub end_record : Encoding → List ℕ → ℕ → Record
+end_record e front count =
+    record { kind = 6; line = count; key = []; value = number_bytes (length front) ++ number_bytes (encoding_number (byte_order_mark e front).encoding) }
+
+abbrev pub end_bytes : Status → Encoding → List ℕ → ℕ → List ℕ
+end_bytes Done e front count = packed (end_record e front count)
+end_bytes other e front count = []
 
 -- ---- Findings.
 

@@ -26,6 +26,8 @@ pub struct Asked {
     pub is_strict: bool,
     /// Whether all groups are given, with the places of their parts.
     pub has_spans: bool,
+    /// Whether the source goes on.
+    pub is_part: bool,
 }
 
 /// Returns what the flags with this number ask for, if items take them.
@@ -40,16 +42,18 @@ pub fn asked_numbered(number: u32) -> Option<Asked>
         pairs: pairs_asked(number),
         is_strict: number / 32 % 2 == 1,
         has_spans: number / 256 % 2 == 1,
+        is_part: number / 512 == 1,
     })
 }
 
 fn takes(number: u32) -> bool
     ensures { result ≡ are_taken number }
 {
-    number < 512
+    number < 1024
         && number % 4 == 0
         && number / 8 % 4 == 0
         && !(number / 4 % 2 == 1 && number / 64 % 2 == 1)
+        && number / 256 != 3
 }
 
 fn comments_asked(number: u32) -> Texts

@@ -63,7 +63,7 @@ fn with_edits(
     let options = SourceOptions {
         encoding,
         ascii_only: flags.ascii_only,
-        latin_1: false,
+        latin_1: flags.latin_1,
         comments,
     };
     edit_with(alloc, source, options, edits)

@@ -29,6 +29,7 @@ pub fn target_numbered(number: u32) -> Option<Repertoire>
         16 => Some(Repertoire::Windows1252),
         17 => Some(Repertoire::Utf8),
         18 => Some(Repertoire::Ascii),
+        19 => Some(Repertoire::Latin1),
         _ => None,
     }
 }
@@ -62,6 +63,8 @@ pub struct Flags {
     pub strict: bool,
     /// Lines were written before.
     pub goes_on: bool,
+    /// Each character that ISO 8859-1 reads otherwise is written as an escape.
+    pub latin_1: bool,
 }
 
 // What a call takes that takes no flags.
@@ -73,6 +76,7 @@ const NONE: Flags = Flags {
     cr: false,
     strict: false,
     goes_on: false,
+    latin_1: false,
 };
 
 /// What an edit takes.
@@ -80,6 +84,7 @@ pub const FOR_EDITS: Flags = Flags {
     ascii_only: true,
     read_comments: true,
     strict: true,
+    latin_1: true,
     ..NONE
 };
 
@@ -118,7 +123,8 @@ pub fn flags_numbered(number: u32, taken: Flags) -> Option<Flags>
         crlf: number / 8 % 2 == 1,
         cr: number / 16 % 2 == 1,
         strict: number / 32 % 2 == 1,
-        goes_on: number / 4096 == 1,
+        goes_on: number / 4096 % 2 == 1,
+        latin_1: number / 8192 == 1,
     };
     if are_flags(number) && are_among(flags, taken) {
         Some(flags)
@@ -131,7 +137,7 @@ pub fn flags_numbered(number: u32, taken: Flags) -> Option<Flags>
 fn are_flags(number: u32) -> bool
     ensures { result ≡ all_known number }
 {
-    number < 8192 && number / 64 % 64 == 0 && number % 32 < 24
+    number < 16384 && number / 64 % 64 == 0 && number % 32 < 24
 }
 
 fn are_among(flags: Flags, taken: Flags) -> bool
@@ -144,6 +150,7 @@ fn are_among(flags: Flags, taken: Flags) -> bool
         && (taken.cr || !flags.cr)
         && (taken.strict || !flags.strict)
         && (taken.goes_on || !flags.goes_on)
+        && (taken.latin_1 || !flags.latin_1)
 }
 
 /// Returns the text with these bytes, if they are UTF-8.

@@ -24,6 +24,7 @@ pub mod label;
 mod lists;
 mod numbers;
 mod out;
+mod part;
 pub mod read;
 mod records;
 mod sound;

@@ -11,6 +11,7 @@ use crate::encoding::{FOR_KEYS, encoding_numbered, flags_numbered, text_of};
 use crate::findings::findings_in;
 use crate::items::items_in;
 use crate::out::{fail, refuse, refuse_source, write_bytes, write_result, write_up_to};
+use crate::part::give_part;
 use crate::sound::refused_line;
 use crate::spans::spanned_items;
 use crate::status::Status;
@@ -71,6 +72,9 @@ pub extern "C" fn todrenval_items(
     let Some(asked) = asked_numbered(flags) else {
         return refuse(Status::UnknownFlags, length, line);
     };
+    if asked.is_part {
+        return give_part(alloc, source, encoding, asked, out, length, line);
+    }
     if let Some(number) = refused_line(asked.is_strict, source, encoding) {
         return refuse_source(number, length, line);
     }

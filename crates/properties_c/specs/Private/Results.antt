@@ -1,7 +1,10 @@
 -- What the exports write to memory of what they read, find and print.
-use Rattle.std.specs.Prelude.{ℕ, List, ◌≡◌, ◌≤◌, ◌⊎◌, ◌++◌, [], length, drop, Option, Some, None, Result, Ok, Err, if◌then◌else◌, Bool, true, false, encode_utf8_all}
-use Rattle.std.specs.List.{flat_map, list_any}
+use Rattle.std.specs.Prelude.{ℕ, List, ◌≡◌, ◌≤◌, ◌⊎◌, ◌++◌, [], length, take, drop, Option, Some, None, Result, Ok, Err, if◌then◌else◌, Bool, true, false, encode_utf8_all}
+use Rattle.std.specs.List.{list_any}
+use Rattle.properties_format.specs.Computed.Encoding.{decoded_of}
 use Rattle.properties_format.specs.Computed.Items.{outcome_of}
+use Rattle.properties_format.specs.Computed.Lines.{lines_of}
+use Rattle.properties_format.specs.Lines.{line_endings}
 use Rattle.properties_format.specs.Edited.{is_editable}
 use Rattle.properties_format.specs.Items.{Content, Entry, Outcome, ignored, given, broken, comment, pair}
 use Rattle.properties_format.specs.Split.{Logical, blank}
@@ -16,7 +19,8 @@ use Rattle.properties_editing.specs.declared.group.GroupKind.TheVariants as grou
 use Rattle.properties_editing.specs.declared.group.PartPlaces.{PartPlaces}
 use Rattle.properties_editing.specs.declared.group.ViewedGroup.{ViewedGroup}
 use Rattle.properties_c.specs.Items.{AreAsked, GivesLine, IsPackedGroup, ArePacked, key_in, span_numbers, value_in}
-use Rattle.properties_c.specs.Packed.{item_record, Record, packed, packed_items, reading_line, reading_status, finding_bytes, packed_findings}
+use Rattle.properties_c.specs.Parts.{IsLineEnd}
+use Rattle.properties_c.specs.Packed.{end_bytes, item_record, Record, packed, packed_items, reading_line, reading_status, finding_bytes, packed_findings}
 use Rattle.properties_c.specs.declared.asked.Asked.{Asked}
 use Rattle.properties_c.specs.declared.asked.Texts.{Texts}
 use Rattle.properties_c.specs.declared.asked.Texts.TheVariants as texts
@@ -50,6 +54,25 @@ pub record HasItems (a : Asked) (e : Encoding) (source : List ℕ) (items : Pack
   pub bytes : items.bytes.items ≡ packed_items entries
   pub status : items.status ≡ reading_status entries
   pub line : items.line ≡ reading_line entries
+
+-- These are the items of the front of a part, and then where it ends.
+pub record HasFront (a : Asked) (e : Encoding) (front : List ℕ) (items : PackedItems) : Type 0 where
+  pub entries : List Entry
+  pub asked : AreAsked a e front entries
+  pub bytes : items.bytes.items ≡ packed_items entries ++ end_bytes (reading_status entries) e front (line_endings asked.has_groups.lines)
+  pub status : items.status ≡ reading_status entries
+  pub line : items.line ≡ reading_line entries
+
+-- The last place of a body where a line ends; or it has none.
+abbrev pub TellsLast : Encoding → List ℕ → Option ℕ → Type 0
+TellsLast e body None = (before after : List ℕ) → body ≡ before ++ after → IsLineEnd e before after → ⊥
+TellsLast e body (Some at) =
+    (at ≤ length body) × IsLineEnd e (take at body) (drop at body)
+    × ((before after : List ℕ) → body ≡ before ++ after → IsLineEnd e before after → length before ≤ at)
+
+-- This is the encoding in force in a source, and the number of its line endings.
+abbrev pub TellsLines : Encoding → List ℕ → Encoding → ℕ → Type 0
+TellsLines e source f lines = (f ≡ (byte_order_mark e source).encoding) × (lines ≡ line_endings (lines_of (decoded_of e source)))
 
 -- What a logical line gives was appended.
 abbrev pub Appends : ℕ → Outcome → List ℕ → List ℕ → Type 0

@@ -1,0 +1,62 @@
+-- How many line endings a source has, by a scan of its body.
+use Rattle.std.proofs.Common.{◌≡◌, ℕ, ◌+◌, true, false, List, [], ◌∷◌, length, refl, ap, sym, ◌∙◌, arith}
+use Rattle.properties_format.specs.Text.{characters}
+use Rattle.properties_format.specs.Encoding.{Encoding, InForce, byte_order_mark}
+use Rattle.properties_format.specs.ItemsToCome.{ReaderState, start}
+use Rattle.properties_format.specs.Lines.{Ended, line_endings}
+use Rattle.properties_format.specs.Computed.Body.{held_lines_of, held_of}
+use Rattle.properties_format.specs.Computed.Cut.{cut_of}
+use Rattle.properties_format.specs.Computed.Encoding.{decoded_of, pieces_of}
+use Rattle.properties_format.specs.Computed.Lines.{lines_of}
+use Rattle.properties_format.proofs.Cut.Byline.{decoded_ended, decoded_lines-cut}
+use Rattle.properties_text.specs.Encoding.{encoding_of}
+use Rattle.properties_text.specs.declared.encoding.Encoding as code
+use Rattle.properties_lines.specs.Private.HeldLines.{lines_left}
+use Rattle.properties_lines.specs.Scanner.{Fits, GivesLine, scanner_state}
+use Rattle.properties_lines.specs.declared.scanner.Scanner.{Scanner}
+use Rattle.properties_lines.proofs.HeldLines.{body-lines_left}
+use Rattle.properties_tools.specs.Private.Flawed.{IsScanning}
+use Rattle.properties_tools.specs.declared.propedit.ill_formed.Flaw.TheVariants.{NonAscii}
+use Rattle.properties_tools.proofs.Flawed.{found-scanning, lines-body, scanning-start}
+
+-- The lines before the scanner's place and those to come are the lines of the body.
+pub record IsCounting (e : Encoding) (body : List ℕ) (s : Scanner) : Type 0 where
+  pub scanning : IsScanning body s
+  pub count : s.passed + length (lines_left body s) ≡ length (held_lines_of e body)
+
+-- at the start
+pub count-start : (e : Encoding) (source body : List ℕ) (s : Scanner) (f : code.Encoding)
+    → byte_order_mark e source ≡ record { encoding = encoding_of f; body = body } → s.encoding ≡ f → Fits s body → s.at ≡ 0
+    → scanner_state s body ≡ record (start (encoding_of f)) { is_decided = true; held = body } → IsCounting (encoding_of f) body s
+count-start e source body s f in_force same fits at stands =
+    let passed : s.passed ≡ 0 = ap (λ v. let w : ReaderState = v in w.passed) stands in
+    let going : s.is_done ≡ false = ap (λ v. let w : ReaderState = v in w.is_done) stands in
+    record {
+      scanning = (scanning-start NonAscii body s f (lines-body NonAscii e source _ _ in_force refl) same fits at stands).0;
+      count = rw (passed, going, at, same) (omega arith);
+    }
+
+-- after a line
+pub count-next : {e : Encoding} {body : List ℕ} (s new : Scanner) → IsCounting e body s → GivesLine s body true new → IsCounting e body new
+count-next {e} {body} s new h g = record {
+  scanning = found-scanning body s new h.scanning g;
+  count = omega (arith, h.count, g.number, ap length (body-lines_left s new body h.scanning.in_body g));
+}
+
+-- at the end
+held-length : (e : Encoding) (ls : List Ended) (last : List ℕ) → length (held_of e ls last) ≡ length ls + 1
+held-length e [] last = refl
+held-length e (l ∷ ls) last = omega (arith, held-length e ls last)
+
+decoded-length : (e : Encoding) (ls : List Ended) → length (decoded_ended e ls) ≡ length ls
+decoded-length e [] = refl
+decoded-length e (l ∷ ls) = omega (arith, decoded-length e ls)
+
+pub count-end : (e f : Encoding) (source body : List ℕ) (s : Scanner) → byte_order_mark e source ≡ record { encoding = f; body = body } → IsCounting f body s
+    → s.is_done ≡ true → s.passed ≡ line_endings (lines_of (decoded_of e source)) + 1
+count-end e f source body s in_force h done =
+    let all : s.passed + 0 ≡ length (held_lines_of f body) = rw done at h.count in
+    let lines : line_endings (lines_of (decoded_of e source)) ≡ length (cut_of f body).ended =
+    ap (λ v. let w : InForce = v in line_endings (lines_of (characters (pieces_of w.encoding w.body)))) in_force
+    ∙ ap line_endings (sym (decoded_lines-cut f body)) ∙ decoded-length f (cut_of f body).ended in
+    omega (arith, all, lines, held-length f (cut_of f body).ended (cut_of f body).last)

@@ -1,0 +1,11 @@
+use Rattle.std.proofs.Common.{rules}
+use Rattle.properties_c.proofs.GivenParts.{front-done, front-other}
+use Rattle.properties_c.proofs.part.front_items.Goals as goal
+use Rattle.properties_c.proofs.part.front_items.Goals.{in-Done+in_ok-push_end, in_default}
+
+pub returns : goal.returns
+returns c = elim c.match-items.branch [
+  | in-Done+in_ok-push_end w ↦
+      front-done c.in_ok-items.items c.match-items.items c.in_ok-items.ensures (search rules) (search rules) (search rules) (search rules)
+  | in_default w ↦ rw w.items-is (front-other c.in_ok-items.items c.in_ok-items.ensures w.in_default.not-Done)
+]
