@@ -1,5 +1,5 @@
 #!/usr/bin/env bash
-# Tests the library for programs in C, Python and Rust, outside the gate. It needs cc, c++, python3 and, where it isn't given a
+# Tests the library for programs in C, Python, Go and Rust, outside the gate. It needs cc, c++, python3 and, where it isn't given a
 # folder into which build.sh has built, what build.sh needs. With valgrind it also looks for reads outside of the inputs.
 #
 #     bindings/test.sh [FOLDER]
@@ -169,17 +169,50 @@ printf 'unsigned todrenval_version(void) { return %s; }\n' "$(sed -n 's/^#define
 env TODRENVAL_LIBRARY=./older.so PYTHONPATH=alone PYTHONDONTWRITEBYTECODE=1 python3 -c "$use" >log 2>&1
 grep -q '^ImportError: ./older.so is older than this module' log
 result $? 'the module with an older shared object'
-for python in python3 python3.{8..15}; do
-    "$python" -c '' 2>/dev/null || continue
-    counts "the tables and the module, in $("$python" --version)" env TODRENVAL_LIBRARY="$built/libtodrenval.so.2" \
+# Each Python from 3.8 on that is on the path or that pyenv has, and of one version one.
+ran=
+for python in python3 python3.{8..15} "${PYENV_ROOT:-$HOME/.pyenv}"/versions/3.*/bin/python3; do
+    version=$("$python" -c 'import sys; sys.version_info >= (3, 8) and print(sys.version.split()[0])' 2>/dev/null)
+    [[ -n $version && " $ran " != *" $version "* ]] || continue
+    ran="$ran $version"
+    counts "the tables and the module, in Python $version" env TODRENVAL_LIBRARY="$built/libtodrenval.so.2" \
         PYTHONDONTWRITEBYTECODE=1 "$python" "$top/bindings/python/test_rows.py"
     grep -E '^ *[0-9]+ of ' "$work/log" >rows
 done
 cat rows
-if python3 -m mypy --version >/dev/null 2>&1; then
-    works 'the types, by mypy' python3 -m mypy --strict --cache-dir=/dev/null "$top/bindings/python/todrenval"
+mypy=(mypy)
+"${mypy[@]}" --version >/dev/null 2>&1 || mypy=(python3 -m mypy)
+if "${mypy[@]}" --version >/dev/null 2>&1; then
+    # The module, and as programs see its types, those of docs/PYTHON.md.
+    works 'the types, by mypy' "${mypy[@]}" --strict --cache-dir=/dev/null "$top/bindings/python/todrenval"
+    sed -n '/^```python$/,/^```$/p' "$top/docs/PYTHON.md" | awk '/^```python$/ { file = "page" ++n ".py"; next } /^```$/ { next } { print >file }'
+    for program in page*.py; do
+        works "the types of $program, by mypy" env MYPYPATH="$built" "${mypy[@]}" --strict --cache-dir=/dev/null "$program"
+    done
 else
     echo 'There is no mypy, so types are not checked.'
+fi
+
+# Go: the example over the archive, which is what docs/C.md says, and by more checks of what C gets.
+if command -v go >/dev/null; then
+    export CGO_CFLAGS=-I$built CGO_LDFLAGS=$built/libtodrenval.a GOCACHE=$work/go GOFLAGS= GOPROXY=off
+    works 'the example in Go, by go vet' env -C "$top/bindings/go" go vet .
+    [ -z "$(gofmt -l "$top/bindings/go")" ]
+    result $? 'the layout of the example in Go'
+    works 'the example in Go, compiled' env -C "$top/bindings/go" go build -o "$work/example-go" .
+    for checks in cgocheck=1 cgocheck=2; do
+        export GODEBUG=$checks
+        gives 0 'line 2, port: 80\n# the web server\nport    = 8080\n' '' ./example-go app.properties port 8080
+        gives 0 '=\n' '' ./example-go empty.properties '' ''
+        gives 0 'line 1, a\0000b: 1\00002\na\\u0000b=1\\u00002\nk=v\n' '' ./example-go zero.properties k v
+        gives 0 'line 1, a: 1\na=1\n\n# C:\\users\nk=v\n' '' ./example-go broken.properties k v
+        gives 1 'line 2, port: 80\n' "A text isn't UTF-8.\n" ./example-go app.properties $'\xff' v
+        printf 'a=1\nb=\\u12\n' >malformed.properties
+        gives 1 'line 1, a: 1\n' 'line 2: Malformed \\uxxxx encoding: not enough digits.\n' ./example-go malformed.properties k v
+    done
+    unset GODEBUG
+else
+    echo 'There is no go, so its example is not tested.'
 fi
 
 # Rust: the crate over the archive, in a folder of its own for what cargo builds.

@@ -572,10 +572,10 @@ def try_arguments(count):
             unsupported = decoded != "utf-8" and call.__name__ in ("set_value", "set_key", "remove_key", "edit", "groups")
             error = raised(call, data, *more, encoding=encoding, errors="replace")
             count.check(error is None or unsupported and error.status == Status.UNSUPPORTED, f"{place}, replaced")
-    for label, name in (("US-ASCII", "ascii"), ("windows-1252", "cp1252"), ("UTF8", "utf-8")):
+    for label, name in (("US-ASCII", "ascii"), ("windows-1252", "cp1252"), ("UTF8", "utf-8"), ("L1", "iso-8859-1")):
         came = todrenval.convert(b"\xe9=\xe9", label, encoding="cp1252")
         count.check(came == todrenval.convert(b"\xe9=\xe9", name, encoding="cp1252"), f"convert to {label}")
-    for label in ("iso-8859-1", "latin-1", "utf-8-sig", "utf-16", "utf-16-le", "koi8-r", "none such"):
+    for label in ("iso-8859-15", "utf-8-sig", "utf-16", "utf-16-le", "koi8-r", "none such"):
         count.check(isinstance(raised(todrenval.convert, b"", label), LookupError), f"convert to {label}")
     for wrong in (3, b"a", None):
         count.check(isinstance(raised(todrenval.convert, b"", wrong), TypeError), f"convert to {wrong!r}")
@@ -1321,7 +1321,7 @@ def try_random(count):
         count.check(read == [as_read_back(item) for item in items], f"dumps of {place}")
 
 
-CONVERSIONS = [(to, readable) for to in ("ascii", "cp1252", "utf-8") for readable in (False, True)]
+CONVERSIONS = [(to, readable) for to in ("ascii", "cp1252", "iso-8859-1", "utf-8") for readable in (False, True)]
 
 
 def try_conversion(count, source, encoding, to, readable):
@@ -1334,6 +1334,7 @@ def try_conversion(count, source, encoding, to, readable):
     count.check(all_of(came, reading) == all_of(source, encoding), f"what is in {place}")
     count.check(len(came) <= 6 * len(source), f"the length of {place}")
     count.check(to != "ascii" or came.isascii(), f"ASCII in {place}")
+    count.check(to != "iso-8859-1" or not OTHERWISE.search(came), f"ISO 8859-1 in {place}")
     count.check(todrenval.convert(came, to, readable=readable, **replaced) == came, f"twice {place}")
     direct = todrenval.convert(source, "utf-8", encoding=encoding, errors="replace", readable=True)
     count.check(todrenval.convert(came, "utf-8", readable=True, **replaced) == direct, f"readable after {place}")
@@ -1371,6 +1372,65 @@ def try_conversions(count):
         count.check(todrenval.convert(b"\xe9" * times, "ascii", encoding="cp1252") == b"\\u00e9" * times, f"{times} characters to ASCII")
 
 
+def as_java_reads(data):
+    """The pairs of a file in ISO 8859-1, as Python's own codec decodes it."""
+    return todrenval.loads(data.decode("latin-1").encode(), errors="replace")
+
+
+def try_latin_1(count):
+    """Under iso-8859-1 and its labels, files are read as cp1252, and what is put in is read alike by Python's codec for
+    ISO 8859-1: all 256 characters that this has, and others."""
+    for byte in range(256):
+        if bytes([byte]) in b"\t\n\f\r =:\\":
+            continue
+        read = todrenval.loads(b"k=" + bytes([byte]), encoding="latin1")
+        count.check(read == todrenval.loads(b"k=" + bytes([byte]), encoding="cp1252"), f"byte {byte:x}, as cp1252")
+        is_alike = read == {"k": bytes([byte]).decode("latin-1")}
+        is_other = 0x80 <= byte < 0xA0 and byte not in (0x81, 0x8D, 0x8F, 0x90, 0x9D)
+        count.check(is_alike != is_other, f"byte {byte:x}, as Python has it: {read}")
+    numbers = random.Random(4)
+    others = [chr(numbers.choice((0x100, 0x2000, 0x10000)) + numbers.randrange(0x200)) for _ in range(200)]
+    characters = [*map(chr, range(256)), *{bytes([byte]).decode("cp1252", "replace") for byte in range(128, 160)}, *others]
+    for number, character in enumerate(characters):
+        label = ("iso-8859-1", "latin1", "L1", "ISO_8859-1", "cp819")[number % 5]
+        named = {"encoding": label, "ascii_only": False}
+        wanted = {"aa": "1", character: character}
+        document = todrenval.Document(b"aa=1\n", **named)
+        document[character] = character
+        made = {
+            "set_value": todrenval.set_value(b"aa=1\n", character, character, **named),
+            "set_key": todrenval.set_key(b"aa=1\n", character, character, **named),
+            "edit": todrenval.edit(b"aa=1\n", {character: character}, **named),
+            "a document": bytes(document),
+            "dumps": todrenval.dumps(wanted, **named),
+            "dumps in the other order": todrenval.dumps({character: character, "aa": "1"}, readable=False, **named),
+            "convert": todrenval.convert(todrenval.dumps(wanted, ascii_only=False), label, readable=True),
+            "convert of cp1252": todrenval.convert(todrenval.dumps(wanted, encoding="cp1252", ascii_only=False), label, encoding=label),
+        }
+        is_one = character < "\x80" or "\xa0" <= character <= "\xff"
+        for name, data in made.items():
+            place = f"{name} of {character!r} in {label}: {data!r}"
+            count.check(as_java_reads(data) == wanted, place)
+            count.check(todrenval.loads(data, encoding=label) == wanted, f"{place}, read back")
+            count.check(not OTHERWISE.search(data), f"{place}, bytes that mean something else")
+            count.check(character < "\x80" or data.isascii() != is_one, f"{place}, as itself or not")
+        count.check(todrenval.dumps(wanted, encoding=label).isascii(), f"dumps of {character!r}, ASCII only")
+    # What stands in a file stays, and after a mark of UTF-8 what is put in is ASCII.
+    named = {"encoding": "iso-8859-1", "ascii_only": False}
+    count.check(todrenval.set_value(b"# \x80\na=\x80\n", "b", "\u20ac\xe9", **named) == b"# \x80\na=\x80\nb=\\u20ac\xe9\n", "what stands")
+    came = todrenval.set_value(b"\xef\xbb\xbfa=\xc3\xa9\n", "b", "\xe9", **named)
+    count.check(came == b"\xef\xbb\xbfa=\xc3\xa9\nb=\\u00e9\n", f"after a mark: {came}")
+    came = todrenval.dumps([Comment("\u20ac\x85\xe9\0\\"), ("\xef\xbb\xbf", "\xa0")], prefix="# \u201c", ending="\r", **named)
+    count.check(came == b"# \\u201c\\u20ac\\u0085\xe9\0\\\\\r\xef\xbb\xbf=\xa0\r", f"a comment: {came}")
+    for text in ("\xef\xbb\xbf", "\xfe\xff", "\xff\xfe"):
+        for came in (todrenval.dumps({text: ""}, **named), todrenval.set_key(b"", text, "", **named)):
+            count.check(came == f"\\u00{ord(text[0]):02x}{text[1:]}=\n".encode("latin-1"), f"a front like a mark: {came}")
+
+
+# What cp1252 has and ISO 8859-1 reads as control characters.
+OTHERWISE = re.compile(rb"[\x80-\x9f]")
+
+
 def as_read_back(item):
     """An item without its line. Of a comment that is written and read, blanks at its ends are lost, which were escapes."""
     return item.text.strip(" \t\f") if isinstance(item, Comment) else item[:2]
@@ -1387,12 +1447,12 @@ def try_header(count):
     count.check(f"TODRENVAL_VERSION {todrenval.VERSION}\n" in header, "the version")
     for each, name in ((SetKey("", ""), "SET_KEY"), (RemoveKey(""), "REMOVE_KEY"), (SetValue("", ""), "SET_VALUE")):
         count.check(numbers["EDIT_" + name] == todrenval._edit_record(each)[0], name)
-    for label, name in (("cp1252", "WINDOWS_1252"), ("utf-8", "UTF_8"), ("ascii", "ASCII")):
+    for label, name in (("cp1252", "WINDOWS_1252"), ("utf-8", "UTF_8"), ("ascii", "ASCII"), ("iso8859-1", "LATIN_1")):
         count.check(numbers["TO_" + name] == todrenval._TARGETS[label], name)
     count.check(not set(todrenval._TARGETS.values()) & set(todrenval._ENCODINGS.values()), "numbers of targets of their own")
     flags = {"ASCII_ONLY": todrenval._ASCII_ONLY, "READABLE": todrenval._READABLE, "READ_COMMENTS": todrenval._READ_COMMENTS}
     flags.update(STRICT=todrenval._STRICT, RAW_COMMENTS=todrenval._RAW_COMMENTS, RAW=todrenval._RAW, SPANS=todrenval._SPANS)
-    flags.update(CRLF=todrenval._ENDINGS["\r\n"], CR=todrenval._ENDINGS["\r"])
+    flags.update(CRLF=todrenval._ENDINGS["\r\n"], CR=todrenval._ENDINGS["\r"], LATIN_1=todrenval._LATIN_1)
     for name, flag in flags.items():
         count.check(numbers[name] == flag, name)
     for line, name in ((Comment(""), "COMMENT"), (Pair("", ""), "PAIR")):
@@ -1435,7 +1495,7 @@ def main():
     for test in (
         try_arguments, try_files, try_special_files, try_file_errors, try_documents, try_operators, try_created, try_shared_documents,
         try_zeros, try_types, try_errors, try_lists, try_newer, try_room, try_findings, try_comments, try_groups, try_short_files,
-        try_round_trips, try_random, try_conversions, try_threads, try_header, try_examples, try_pages,
+        try_round_trips, try_random, try_conversions, try_latin_1, try_threads, try_header, try_examples, try_pages,
     ):
         try:
             test(count)

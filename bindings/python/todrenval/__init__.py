@@ -16,9 +16,13 @@ A file as a mapping, which is written whole or not at all:
 memoryview or an mmap. Keys and values are str.
 
 The encoding is utf-8 if none is given. Others are iso-8859-1, cp1252, utf-16, utf-16-le and utf-16-be, by any label that
-Python has for them. A byte order mark overrides the encoding. iso-8859-1 is taken as cp1252: they differ in 27 of the bytes
-from 80 to 9F. Bytes that aren't text of the encoding raise a PropertiesError with their line; with errors="replace" they
-are read as U+FFFD. A byte 0 isn't text in UTF-8 without a byte order mark, since UTF-16 looks so when its mark is missing.
+Python has for them. A byte order mark overrides the encoding. Bytes that aren't text of the encoding raise a PropertiesError
+with their line; with errors="replace" they are read as U+FFFD. A byte 0 isn't text in UTF-8 without a byte order mark, since
+UTF-16 looks so when its mark is missing.
+
+iso-8859-1 is for files that Java reads by `Properties.load(InputStream)`. It is read as cp1252, which has other characters
+at 27 of the bytes from 80 to 9F. What is written in it has only characters that both have at the same byte, and escapes
+for all others.
 
 What is written is ASCII-only, with escapes for other characters, as Java's `Properties.store` and `json.dumps` write it, so
 it reads the same in iso-8859-1 and utf-8. With ascii_only=False a non-ASCII character is an escape only if the encoding
@@ -297,8 +301,9 @@ _ENCODINGS = {
 }
 _DECODED = {1: "utf-8", 2: "utf-16-le", 3: "utf-16-be"}
 _MARKS = {codecs.BOM_UTF8: 1, codecs.BOM_UTF16_LE: 2, codecs.BOM_UTF16_BE: 3}
-_TARGETS = {"cp1252": 16, "utf-8": 17, "ascii": 18}
+_TARGETS = {"cp1252": 16, "utf-8": 17, "ascii": 18, "iso8859-1": 19}
 _ASCII_ONLY, _READABLE, _READ_COMMENTS, _STRICT, _RAW_COMMENTS, _RAW, _SPANS = 1, 2, 4, 32, 64, 128, 256
+_LATIN_1 = 8192
 _COMMENTS = {"skip": 0, "read": _READ_COMMENTS, "raw": _RAW_COMMENTS}
 _ERRORS = {"strict": _STRICT, "replace": 0}
 _ENDINGS = {"\n": 0, "\r\n": 8, "\r": 16}
@@ -433,6 +438,11 @@ def _number(encoding: str) -> int:
     return number
 
 
+def _is_latin_1(encoding: str) -> bool:
+    """Returns whether only what iso-8859-1 and cp1252 have at the same byte is written as it is."""
+    return codecs.lookup(encoding).name == "iso8859-1"
+
+
 def _source(data: Bytes, encoding: str, errors: str) -> Tuple[bytes, int, int]:
     """Returns a file, the number of its encoding, and the flag with which bytes that aren't text of it are an error."""
     source, number = _bytes(data), _number(encoding)
@@ -471,8 +481,10 @@ def _flags(comments: str, ascii_only: bool = False) -> int:
     return bool(ascii_only) * _ASCII_ONLY + _comments(comments, "skip", "read")
 
 
-def _edited(source: bytes, number: int, flags: int, edits: bytes) -> bytes:
+def _edited(data: Bytes, edits: bytes, encoding: str, errors: str, comments: str, ascii_only: bool = False) -> bytes:
     """Returns a file after a packed list of edits."""
+    source, number, flags = _source(data, encoding, errors)
+    flags += _flags(comments, ascii_only) + _is_latin_1(encoding) * _LATIN_1
     status, result, line = _answer("todrenval_edit", len(source) + len(edits), source, number, flags, edits)
     if status != Status.OK:
         raise _error_in(source, number, flags, status, line)
@@ -648,9 +660,7 @@ def set_value(
     >>> set_value(b"drink : tea\n", "food", "crêpe")
     b'drink : tea\nfood : cr\\u00eape\n'
     """
-    packed = _record(4, key, value)
-    source, number, flags = _source(data, encoding, errors)
-    return _edited(source, number, flags + _flags(comments, ascii_only), packed)
+    return _edited(data, _record(4, key, value), encoding, errors, comments, ascii_only)
 
 
 def set_key(
@@ -668,9 +678,7 @@ def set_key(
     >>> set_key(b"port    = 80\n", "port", "8080")
     b'port=8080\n'
     """
-    packed = _record(2, key, value)
-    source, number, flags = _source(data, encoding, errors)
-    return _edited(source, number, flags + _flags(comments, ascii_only), packed)
+    return _edited(data, _record(2, key, value), encoding, errors, comments, ascii_only)
 
 
 def remove_key(
@@ -681,9 +689,7 @@ def remove_key(
     >>> remove_key(b"# one\na = 1\nb = 2\n", "a")
     b'# one\nb = 2\n'
     """
-    packed = _record(3, key, "")
-    source, number, flags = _source(data, encoding, errors)
-    return _edited(source, number, flags + _flags(comments), packed)
+    return _edited(data, _record(3, key, ""), encoding, errors, comments)
 
 
 def edit(
@@ -707,8 +713,7 @@ def edit(
     """
     pairs: Iterable[Edit] = edits.items() if isinstance(edits, Mapping) else edits
     packed = b"".join(_edit_record(each) for each in pairs)
-    source, number, flags = _source(data, encoding, errors)
-    return _edited(source, number, flags + _flags(comments, ascii_only), packed)
+    return _edited(data, packed, encoding, errors, comments, ascii_only)
 
 
 def _edit_record(each: Edit) -> bytes:
@@ -727,8 +732,8 @@ def _edit_record(each: Edit) -> bytes:
 def convert(
     data: Bytes, to: str, *, encoding: str = "utf-8", errors: str = "strict", readable: bool = False
 ) -> bytes:
-    r"""Returns the file in another encoding: ascii, cp1252 or utf-8. Everything else stays: comments, blank lines,
-    layout, line endings, and what each key, value and comment means.
+    r"""Returns the file in another encoding: ascii, cp1252, iso-8859-1 or utf-8. Everything else stays: comments, blank
+    lines, layout, line endings, and what each key, value and comment means.
 
     A character that `to` lacks becomes an escape. Other characters and escapes stay as they are written; but if the
     result is to be readable, each non-ASCII character that `to` has becomes itself. Escapes of ASCII characters stay.
@@ -736,16 +741,19 @@ def convert(
     A byte order mark is dropped, and if the result would begin like one, its first character becomes an escape. Malformed
     escapes are no error: the result has them in the same lines.
 
-    `to` isn't iso-8859-1, from which cp1252 differs in 27 bytes. A file in ascii reads the same there.
+    In iso-8859-1 there are no bytes from 80 to 9F, at which cp1252 has other characters: what is there becomes an escape.
+    So from iso-8859-1 to iso-8859-1, a file that was written as cp1252 becomes one that Java reads as it was meant.
 
     >>> convert("# café\nprice : 3 €\n".encode("utf-8"), "ascii")
     b'# caf\\u00e9\nprice : 3 \\u20ac\n'
     >>> convert(b"# caf\\u00e9\nprice : 3 \\u20ac\n", "utf-8", readable=True).decode("utf-8")
     '# café\nprice : 3 €\n'
+    >>> convert(b"caf\xe9 : 3 \x80\n", "iso-8859-1", encoding="iso-8859-1")
+    b'caf\xe9 : 3 \\u20ac\n'
     """
     target = _TARGETS.get(codecs.lookup(to).name)
     if target is None:
-        raise LookupError(f"not an encoding that files are converted to: {to}; use ascii, cp1252 or utf-8")
+        raise LookupError(f"not an encoding that files are converted to: {to}; use ascii, cp1252, iso-8859-1 or utf-8")
     source, number, flags = _source(data, encoding, errors)
     flags += bool(readable) * _READABLE
     status, result, line = _answer("todrenval_convert", 2 * len(source) + 16, source, number, target, flags)
@@ -793,7 +801,11 @@ def dumps(
     for text, status in zip(texts, (Status.BAD_PREFIX, Status.BAD_SEPARATOR)):
         if not text:
             raise PropertiesError(status)
-    return _result("todrenval_write", len(packed), packed, _number(encoding), flags, *texts)
+    if ascii_only or not _is_latin_1(encoding):
+        return _result("todrenval_write", len(packed), packed, _number(encoding), flags, *texts)
+    # The call has no flag for this: the conversion makes escapes of what only cp1252 has.
+    written = _result("todrenval_write", len(packed), packed, _ENCODINGS["utf-8"], flags, *texts)
+    return convert(written, "iso-8859-1", errors="replace")
 
 
 def _line_record(line: Line) -> bytes:

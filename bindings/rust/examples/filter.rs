@@ -1,13 +1,14 @@
 //! Prints the pairs of standard input, a line each: `filter [LABEL]`, as in `filter utf-8 < app.properties`.
 use std::io::{self, Write};
 use std::process::ExitCode;
-use todrenval::{Comments, Encoding, LineContent, PropertiesError, PropertiesIter, PropertiesWriter, WINDOWS_1252};
+use todrenval::{Comments, ContentRef, Encoding, PropertiesError, PropertiesIter, PropertiesWriter, WINDOWS_1252};
 
 fn filter(encoding: Encoding) -> Result<(), PropertiesError> {
     let mut writer = PropertiesWriter::new_with_encoding(io::stdout(), encoding);
-    for line in PropertiesIter::new_with_encoding(io::stdin(), encoding).comments(Comments::Skip) {
-        if let LineContent::KVPair(key, value) = line?.consume_content() {
-            writer.write(&key, &value)?;
+    let mut lines = PropertiesIter::new_with_encoding(io::stdin(), encoding).comments(Comments::Skip);
+    while let Some(line) = lines.next_ref() {
+        if let ContentRef::KVPair(key, value) = line?.content() {
+            writer.write(key, value)?;
         }
     }
     writer.finish()

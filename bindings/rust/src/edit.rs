@@ -40,7 +40,7 @@ pub fn edit(source: &[u8], options: impl Into<Options>, edits: &[Edit<'_>]) -> R
             Edit::RemoveKey(key) => sys::push_record(&mut list, sys::REMOVE_KEY, key, ""),
         }
     }
-    let flags = options.strict_flag() | options.comments_flag() | options.ascii_flag();
+    let flags = options.strict_flag() | options.comments_flag() | options.putting_flags();
     let mut edited = Vec::new();
     given(sys::edit(&mut edited, source, options.encoding.number(), flags, &list))?;
     Ok(edited)
@@ -84,6 +84,8 @@ pub enum Target {
     Utf8 = 17,
     /// ASCII, which reads the same in ISO 8859-1, windows-1252 and UTF-8.
     Ascii = 18,
+    /// ISO 8859-1 without the bytes from 80 to 9F, which reads the same in windows-1252.
+    Iso8859_1 = 19,
 }
 
 /// How [`convert`] spells characters past U+007F that the target has.

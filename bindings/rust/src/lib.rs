@@ -11,7 +11,7 @@
 //!
 //! # Tasks
 //!
-//! Read a map, and write one, in the encoding that Java's `Properties.load` and `store` have for streams:
+//! Read a map, and write one, in windows-1252, as `java-properties` does:
 //!
 //! ```
 //! let map = todrenval::read(&b"# the web server\nport    = 80\n"[..])?;
@@ -85,13 +85,24 @@
 //! # Ok::<(), todrenval::PropertiesError>(())
 //! ```
 //!
-//! Change the encoding of a file and nothing else, by [`convert`]. For a Java that reads ISO 8859-1, convert to ASCII:
+//! Change the encoding of a file and nothing else, by [`convert`]. Any Java reads ASCII as it is meant:
 //!
 //! ```
 //! use todrenval::{convert, Spelling, Target, UTF_8};
 //!
 //! let ascii = convert("drink : café\n".as_bytes(), UTF_8, Target::Ascii, Spelling::Kept)?;
 //! assert_eq!(ascii, b"drink : caf\\u00e9\n");
+//! # Ok::<(), todrenval::PropertiesError>(())
+//! ```
+//!
+//! Write a file that Java reads by `Properties.load(InputStream)`, in [`ISO_8859_1`]: what that would read otherwise than it
+//! is meant becomes an escape.
+//!
+//! ```
+//! use todrenval::{edit, Edit, ISO_8859_1};
+//!
+//! let edited = edit(b"drink : tea\n", ISO_8859_1, &[Edit::SetValue("drink", "café, 2 €")])?;
+//! assert_eq!(edited, b"drink : caf\xe9, 2 \\u20ac\n");
 //! # Ok::<(), todrenval::PropertiesError>(())
 //! ```
 //!
@@ -124,14 +135,14 @@
 //!
 //! | reading | `java-properties` 2.0.0 | here |
 //! |---|---|---|
-//! | encodings | all of `encoding_rs`, by reference | [`WINDOWS_1252`], [`UTF_8`], [`UTF_16LE`] and [`UTF_16BE`], by value; [`Encoding::for_label`] |
+//! | encodings | all of `encoding_rs`, by reference | [`WINDOWS_1252`], [`ISO_8859_1`], [`UTF_8`], [`UTF_16LE`] and [`UTF_16BE`], by value; [`Encoding::for_label`], to which `latin1` is [`ISO_8859_1`] |
 //! | escapes of a surrogate pair, as Java writes them | are refused | are one character |
 //! | `\u+041` | is read as `A` | is malformed: a sign is no digit |
 //! | a last line that ends in a continuing backslash | is lost | is the last item, without the backslash |
 //! | Unicode blanks at the front of a continuation line | are dropped | stay; only spaces, tabs and form feeds are blanks |
 //! | input that ends inside a character or a byte order mark | panics | is decoded, with U+FFFD |
 //! | after an error | not said | `None`, and nothing is read |
-//! | reading | character by character, as items are asked for | to the end, when the first item is |
+//! | reading | character by character, as items are asked for | in parts of up to 64 KiB, or of what a read gives |
 //! | [`read_into`](PropertiesIter::read_into), [`read`], texts of errors | | the same |
 //!
 //! | writing | `java-properties` 2.0.0 | here |
@@ -154,8 +165,8 @@
 //! | between threads | can't be sent | can be, as all types here can if the stream can |
 //! | no memory | ends the program | ends the program; [`ErrorKind::Memory`] if the library ran out |
 //!
-//! Beyond it are [`PropertiesIter::comments`] and [`strict`](PropertiesIter::strict),
-//! [`PropertiesWriter::set_ascii_only`] and [`set_readable`](PropertiesWriter::set_readable), [`get`], [`edit`], [`convert`]
+//! Beyond it are [`PropertiesIter::comments`], [`strict`](PropertiesIter::strict) and
+//! [`next_ref`](PropertiesIter::next_ref), [`PropertiesWriter::set_ascii_only`] and [`set_readable`](PropertiesWriter::set_readable), [`get`], [`edit`], [`convert`]
 //! and [`groups`] with their [`Options`], and [`runs_here`].
 //!
 //! # Where it runs
@@ -177,10 +188,10 @@ mod sys;
 mod writer;
 
 pub use edit::{convert, edit, get, Edit, Spelling, Target};
-pub use encoding::{Encoding, UTF_16BE, UTF_16LE, UTF_8, WINDOWS_1252};
+pub use encoding::{Encoding, ISO_8859_1, UTF_16BE, UTF_16LE, UTF_8, WINDOWS_1252};
 pub use error::{ErrorKind, PropertiesError};
 pub use groups::{groups, Flaw, Group, GroupKind};
-pub use line::{Line, LineContent, LineEnding};
+pub use line::{ContentRef, Line, LineContent, LineEnding, LineRef};
 pub use options::Options;
 pub use reader::{read, Comments, PropertiesIter};
 pub use writer::{write, PropertiesWriter};

@@ -36,6 +36,49 @@ impl Line {
     }
 }
 
+/// What a line says, in texts of the reader.
+#[derive(Clone, Copy, Debug, PartialEq, Eq, PartialOrd, Ord, Hash)]
+pub enum ContentRef<'a> {
+    /// The text of a comment, without its sign and without the blanks at its ends.
+    Comment(&'a str),
+    /// A key and its value.
+    KVPair(&'a str, &'a str),
+}
+
+/// A [`Line`] whose texts are those of the reader, until it is asked for the next one.
+#[derive(Clone, Copy, Debug, PartialEq, Eq, PartialOrd, Ord, Hash)]
+pub struct LineRef<'a> {
+    pub(crate) number: usize,
+    pub(crate) content: ContentRef<'a>,
+}
+
+impl<'a> LineRef<'a> {
+    /// Returns the number of the line, counted from 1.
+    #[must_use]
+    pub fn line_number(&self) -> usize {
+        self.number
+    }
+
+    /// Returns what the line says.
+    #[must_use]
+    pub fn content(&self) -> ContentRef<'a> {
+        self.content
+    }
+}
+
+impl From<LineRef<'_>> for Line {
+    #[inline]
+    fn from(line: LineRef<'_>) -> Line {
+        Line {
+            number: line.number,
+            content: match line.content {
+                ContentRef::Comment(text) => LineContent::Comment(text.to_owned()),
+                ContentRef::KVPair(key, value) => LineContent::KVPair(key.to_owned(), value.to_owned()),
+            },
+        }
+    }
+}
+
 impl From<Line> for LineContent {
     fn from(line: Line) -> LineContent {
         line.content

@@ -58,7 +58,7 @@ impl Options {
         self
     }
 
-    // The flags of the calls that read, and of those that pass over comments or read them; and that of `edit`.
+    // The flags of the calls that read, and of those that pass over comments or read them; and those of `edit`.
 
     pub(crate) fn strict_flag(self) -> u32 {
         if self.is_strict {
@@ -75,11 +75,11 @@ impl Options {
         }
     }
 
-    pub(crate) fn ascii_flag(self) -> u32 {
-        if self.is_ascii_only {
-            sys::ASCII_ONLY
-        } else {
-            0
+    pub(crate) fn putting_flags(self) -> u32 {
+        match (self.is_ascii_only, self.encoding) {
+            (true, _) => sys::ASCII_ONLY,
+            (false, Encoding::Iso8859_1) => sys::LATIN_1,
+            (false, _) => 0,
         }
     }
 }

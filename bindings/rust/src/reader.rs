@@ -1,7 +1,7 @@
 use crate::encoding::{Encoding, WINDOWS_1252};
 use crate::error::PropertiesError;
 use crate::feed::Feed;
-use crate::line::{Line, LineContent};
+use crate::line::{ContentRef, Line, LineRef};
 use crate::sys;
 use std::collections::HashMap;
 use std::fmt::{self, Debug, Formatter};
@@ -35,9 +35,9 @@ impl Comments {
 /// before an error are given first, and so are those before a failed read, as far as no further byte could have changed
 /// them.
 ///
-/// The reader is read to its end when the first item is asked for, and then all items are held, packed: some three times
-/// the bytes that were read. A later version may read in parts, with the same items and errors. Until then, a line of a
-/// terminal or a socket is given when the stream has ended.
+/// The reader is read in parts of up to 64 KiB, or of as much as it gives, and an item is given before more is read, if the
+/// line ending after it was: so those of a terminal or a socket come line by line. (Only an item that ends in a backslash,
+/// as `a=b\\`, waits for one after it.) What is held is a part, its items, and the lines that make the longest item.
 ///
 /// ```
 /// use todrenval::{LineContent, PropertiesIter, UTF_8};
@@ -88,8 +88,8 @@ impl<R: Read> PropertiesIter<R> {
         self
     }
 
-    /// Says whether bytes that aren't text of the encoding are an error, before the first item is given. If nothing is
-    /// said, they are read as U+FFFD. In UTF-8 without a byte order mark a byte 0 isn't text: UTF-16 looks so.
+    /// Says, before the first item is given, whether bytes that aren't text of the encoding are an error: that of the first
+    /// line with such bytes, after the items before it. If nothing is said, they are read as U+FFFD. In UTF-8 without a byte order mark a byte 0 isn't text: UTF-16 looks so.
     ///
     /// ```
     /// use todrenval::{ErrorKind, PropertiesIter, UTF_8};
@@ -107,15 +107,36 @@ impl<R: Read> PropertiesIter<R> {
         self
     }
 
+    /// Returns what [`next`](Iterator::next) returns, in texts that are borrowed until the next call. So no memory is taken
+    /// for an item that is only looked at.
+    ///
+    /// ```
+    /// use todrenval::{ContentRef, PropertiesIter};
+    ///
+    /// let mut lines = PropertiesIter::new(&b"# the web server\nport = 80\n"[..]);
+    /// let mut length = 0;
+    /// while let Some(line) = lines.next_ref() {
+    ///     if let ContentRef::KVPair(key, value) = line?.content() {
+    ///         length += key.len() + value.len();
+    ///     }
+    /// }
+    /// assert_eq!(length, 6);
+    /// # Ok::<(), todrenval::PropertiesError>(())
+    /// ```
+    #[inline]
+    pub fn next_ref(&mut self) -> Option<Result<LineRef<'_>, PropertiesError>> {
+        self.feed.next()
+    }
+
     /// Calls a function with the key and the value of each pair, in order.
     ///
     /// # Errors
     ///
     /// The first error ends it. The pairs before it were passed on.
     pub fn read_into<F: FnMut(String, String)>(&mut self, mut f: F) -> Result<(), PropertiesError> {
-        for line in self {
-            if let LineContent::KVPair(key, value) = line?.content {
-                f(key, value);
+        while let Some(line) = self.next_ref() {
+            if let ContentRef::KVPair(key, value) = line?.content {
+                f(key.to_owned(), value.to_owned());
             }
         }
         Ok(())
@@ -127,7 +148,7 @@ impl<R: Read> Iterator for PropertiesIter<R> {
 
     #[inline]
     fn next(&mut self) -> Option<Self::Item> {
-        self.feed.next()
+        self.feed.next().map(|line| line.map(Line::from))
     }
 }
 

@@ -29,13 +29,16 @@ pub const STRICT: u32 = 32;
 pub const RAW_COMMENTS: u32 = 64;
 pub const RAW: u32 = 128;
 pub const SPANS: u32 = 256;
+pub const MORE: u32 = 512;
 pub const GOES_ON: u32 = 4096;
+pub const LATIN_1: u32 = 8192;
 
 pub const COMMENT: u64 = 0;
 pub const PAIR: u64 = 1;
 pub const SET_KEY: u64 = 2;
 pub const REMOVE_KEY: u64 = 3;
 pub const SET_VALUE: u64 = 4;
+const END: u64 = 6;
 
 /// The version of the interface that this file is written for.
 const VERSION: u32 = 4;
@@ -119,6 +122,14 @@ mod exports {
 pub struct Answer {
     pub status: i32,
     pub line: usize,
+}
+
+impl Answer {
+    /// The same for what so many lines come before.
+    pub fn after(self, lines: usize) -> Self {
+        let line = if self.line > 0 { self.line + lines } else { 0 };
+        Answer { line, ..self }
+    }
 }
 
 /// Where a call puts its result, and how long it is.
@@ -302,6 +313,7 @@ pub fn write(lines: &mut Vec<u8>, list: &[u8], encoding: u32, flags: u32, prefix
 const RECORD: usize = 32;
 const SPANS_SIZE: usize = 96;
 const WITH_SPANS: u64 = 16;
+const END_SIZE: usize = RECORD + 16;
 
 /// Appends an edit, or a line to write, to a packed list.
 pub fn push_record(list: &mut Vec<u8>, kind: u64, key: &str, value: &str) {
@@ -350,6 +362,26 @@ pub fn record(list: &[u8], at: usize) -> Record<'_> {
         spans: &list[at + RECORD..key],
         size: end - at,
     }
+}
+
+/// Where the items of a part end: how many bytes and lines they take, and the number of the encoding in force.
+pub struct End {
+    pub length: usize,
+    pub lines: usize,
+    pub encoding: u32,
+}
+
+/// Takes the end from a packed list that a call gave for a part.
+pub fn take_end(list: &mut Vec<u8>) -> End {
+    let at = list.len() - END_SIZE;
+    assert_eq!(number(list, at) as u64, END, "the library gave no end of a part");
+    let end = End {
+        length: number(list, at + RECORD),
+        lines: number(list, at + 8),
+        encoding: u32::try_from(number(list, at + RECORD + 8)).unwrap_or(u32::MAX),
+    };
+    list.truncate(at);
+    end
 }
 
 #[inline]

@@ -1,5 +1,5 @@
-use crate::edit::given;
-use crate::encoding::{Encoding, WINDOWS_1252};
+use crate::edit::{given, Target};
+use crate::encoding::{Encoding, ISO_8859_1, UTF_8, WINDOWS_1252};
 use crate::error::{ErrorKind, PropertiesError};
 use crate::line::LineEnding;
 use crate::sys;
@@ -201,7 +201,23 @@ impl<W: Write> PropertiesWriter<W> {
     fn make(&self, made: &mut Vec<u8>, packed: &[u8]) -> sys::Answer {
         let flags = self.flags | if self.has_begun { sys::GOES_ON } else { 0 };
         let (prefix, separator) = (self.prefix.as_bytes(), self.separator.as_bytes());
-        sys::write(made, packed, self.encoding.number(), flags, prefix, separator)
+        if self.encoding != ISO_8859_1 || flags & sys::ASCII_ONLY > 0 {
+            return sys::write(made, packed, self.encoding.number(), flags, prefix, separator);
+        }
+        // The call has no flag for this: a conversion makes escapes of what only windows-1252 has. Behind other lines, no
+        // line looks like a byte order mark.
+        let front: &[u8] = if self.has_begun { b"#\n" } else { b"" };
+        let mut lines = front.to_vec();
+        let answer = sys::write(&mut lines, packed, UTF_8.number(), flags, prefix, separator);
+        if answer.status != sys::OK {
+            return answer;
+        }
+        let start = made.len();
+        let answer = sys::convert(made, &lines, UTF_8.number(), Target::Iso8859_1 as u32, 0);
+        if answer.status == sys::OK {
+            made.drain(start..start + front.len());
+        }
+        answer
     }
 
     fn make_packed(&mut self) -> Result<(), PropertiesError> {

@@ -5,8 +5,8 @@ use std::error::Error;
 use std::io;
 use streams::{cases, Chance, Pieces};
 use todrenval::{
-    read, Comments, Encoding, ErrorKind, Line, LineContent, PropertiesError, PropertiesIter, UTF_16BE, UTF_16LE, UTF_8,
-    WINDOWS_1252,
+    read, Comments, Encoding, ErrorKind, GroupKind, Line, LineContent, PropertiesError, PropertiesIter, ISO_8859_1,
+    UTF_16BE, UTF_16LE, UTF_8, WINDOWS_1252,
 };
 
 const ENCODINGS: [Encoding; 4] = [WINDOWS_1252, UTF_8, UTF_16LE, UTF_16BE];
@@ -65,7 +65,7 @@ fn source(chance: &mut Chance, encoding: Encoding) -> Vec<u8> {
     ];
     let text = chance.string(&PARTS, 20);
     let mut bytes: Vec<u8> = match encoding {
-        Encoding::Windows1252 => text
+        Encoding::Windows1252 | Encoding::Iso8859_1 => text
             .chars()
             .map(|character| u8::try_from(character).unwrap_or(0x80))
             .collect(),
@@ -124,11 +124,118 @@ fn pieces_of_any_size_give_the_same() {
         let encoding = ENCODINGS[round % 4];
         let bytes = source(&mut chance, encoding);
         for comments in COMMENTS {
-            let whole = came_from(&bytes, encoding, comments, false);
+            let is_strict = chance.below(2) == 0;
+            let whole = came_from(&bytes, encoding, comments, is_strict);
+            let mut iter = PropertiesIter::new_with_encoding(&bytes[..], encoding)
+                .comments(comments)
+                .strict(is_strict);
+            let borrowed = std::iter::from_fn(|| iter.next_ref().map(|line| line.map(Line::from)));
+            assert_eq!(came(borrowed), whole, "{bytes:?} {encoding} {comments:?} {is_strict}");
             for size in 1..4 {
                 let pieces = Pieces::cut(&bytes, size, None);
                 let iter = PropertiesIter::new_with_encoding(pieces, encoding).comments(comments);
-                assert_eq!(came(iter), whole, "{bytes:?} {encoding} {comments:?}");
+                assert_eq!(
+                    came(iter.strict(is_strict)),
+                    whole,
+                    "{bytes:?} {encoding} {comments:?} {is_strict}"
+                );
+            }
+        }
+    }
+}
+
+/// Sources of many parts have the items of their groups, which are not read in parts.
+#[test]
+fn many_parts_give_the_same() {
+    let mut chance = Chance(5);
+    for round in cases(8) {
+        let mut bytes: Vec<u8> = if round % 8 == 0 {
+            b"\xef\xbb\xbf".to_vec()
+        } else {
+            Vec::new()
+        };
+        let longest = [150_000, 70_000, 9_000, 80_000][round % 4];
+        while bytes.len() < longest {
+            let part: Vec<u8> = source(&mut chance, UTF_8).into_iter().filter(u8::is_ascii).collect();
+            // Few are malformed.
+            let is_sound = !part.contains(&0)
+                && todrenval::groups(&part, UTF_8)
+                    .unwrap()
+                    .iter()
+                    .all(|it| it.flaw.is_none());
+            if is_sound || round % 2 == 0 && chance.below(3000) == 0 {
+                bytes.extend(part);
+                bytes.extend(chance.pick(&[&b""[..], "é\u{1f41e}".as_bytes(), b"\n", b"\r\n"]));
+            }
+        }
+        let wanted: Vec<_> = todrenval::groups(&bytes, UTF_8)
+            .unwrap()
+            .into_iter()
+            .filter(|group| group.kind != GroupKind::Blank)
+            .map(|group| {
+                let is_error = group.kind == GroupKind::Pair && group.flaw.is_some();
+                (group.line_number, group.key_text, group.value_text, is_error)
+            })
+            .collect();
+        let malformed = wanted
+            .iter()
+            .position(|(.., is_error)| *is_error)
+            .unwrap_or(wanted.len());
+        for encoding in [UTF_8, UTF_16LE, UTF_16BE] {
+            let text = String::from_utf8(bytes.clone()).unwrap();
+            let bytes: Vec<u8> = match encoding {
+                Encoding::Utf16Le => text.encode_utf16().flat_map(u16::to_le_bytes).collect(),
+                Encoding::Utf16Be => text.encode_utf16().flat_map(u16::to_be_bytes).collect(),
+                _ => text.into_bytes(),
+            };
+            for size in [usize::MAX, 500 + chance.below(3000)] {
+                let iter = PropertiesIter::new_with_encoding(Pieces::cut(&bytes, size, None), encoding);
+                let (lines, _) = came(iter.comments(Comments::Raw).strict(round % 2 == 0));
+                for (line, (number, key, value, _)) in lines.iter().zip(&wanted) {
+                    let content = match line.content() {
+                        LineContent::Comment(_) => LineContent::Comment(value.clone()),
+                        LineContent::KVPair(..) => pair(key, value),
+                    };
+                    assert_eq!((line.line_number(), line.content()), (*number, &content));
+                }
+                assert_eq!(lines.len(), malformed, "{encoding} {size}");
+            }
+        }
+    }
+}
+
+/// An item comes before anything is read that comes after its line ending.
+#[test]
+fn an_item_comes_before_more_is_read() {
+    /// Gives a line at a time, and counts them.
+    struct Lines<'a>(&'a [Vec<u8>], &'a std::cell::Cell<usize>);
+    impl io::Read for Lines<'_> {
+        fn read(&mut self, out: &mut [u8]) -> io::Result<usize> {
+            let Some(line) = self.0.get(self.1.get()) else {
+                return Ok(0);
+            };
+            self.1.set(self.1.get() + 1);
+            out[..line.len()].copy_from_slice(line);
+            Ok(line.len())
+        }
+    }
+    for mark in ["", "\u{feff}"] {
+        for ending in ["\n", "\r", "\r\n"] {
+            for encoding in ENCODINGS {
+                let lines: Vec<Vec<u8>> = ["a = 1", "#c", "", "b\\", "  = 2", "c"]
+                    .iter()
+                    .enumerate()
+                    .map(|(number, line)| format!("{}{line}{ending}", if number == 0 { mark } else { "" }))
+                    .map(|line| match encoding {
+                        Encoding::Utf16Le => line.encode_utf16().flat_map(u16::to_le_bytes).collect(),
+                        Encoding::Utf16Be => line.encode_utf16().flat_map(u16::to_be_bytes).collect(),
+                        _ => line.into_bytes(),
+                    })
+                    .collect();
+                let read = std::cell::Cell::new(0);
+                let iter = PropertiesIter::new_with_encoding(Lines(&lines, &read), encoding);
+                let came: Vec<_> = iter.map(|line| (line.unwrap().line_number(), read.get())).collect();
+                assert_eq!(came, [(1, 1), (2, 2), (4, 5), (6, 6)], "{lines:?}");
             }
         }
     }
@@ -275,6 +382,17 @@ fn what_is_not_text_is_an_error_if_asked() {
             assert_eq!((lines.len(), error), (before, wanted), "{bytes:?} {comments:?}");
         }
     }
+    // The first line that isn't text counts, in whatever parts it is read, and behind a mark a byte 0 is text.
+    for size in [1, 2, 5, 9] {
+        let strict = |bytes: &[u8]| {
+            let pieces = Pieces::cut(bytes, size, None);
+            came(PropertiesIter::new_with_encoding(pieces, UTF_8).strict(true))
+        };
+        let (lines, error) = strict(b"a\r\nb\nc=\xff\n\nd=\0\n");
+        assert_eq!((lines.len(), error.unwrap().contains("line_number = 3")), (2, true));
+        let (lines, error) = strict(b"\xef\xbb\xbfa=\0\nb=\0\nc=\0\nd\n\ne=\xff");
+        assert_eq!((lines.len(), error.unwrap().contains("line_number = 6")), (4, true));
+    }
     // The first error is the one of the earlier group.
     let (lines, error) = came_from(b"a\nb=\\u1\nc=\xff\n", UTF_8, Comments::Skip, true);
     assert_eq!((lines.len(), error.unwrap().contains("digits")), (1, true));
@@ -285,10 +403,16 @@ fn what_is_not_text_is_an_error_if_asked() {
 #[test]
 fn labels_are_those_of_the_standard() {
     assert_eq!(Encoding::for_label(" UTF8\n"), Some(UTF_8));
-    assert_eq!(Encoding::for_label("latin1"), Some(WINDOWS_1252));
+    for label in ["latin1", "\tISO-8859-1 ", "L1", "cp819", "ISO_8859-1:1987"] {
+        assert_eq!(Encoding::for_label(label), Some(ISO_8859_1));
+    }
+    for label in ["cp1252", "ascii", "Windows-1252", "\x0cx-cp1252\r"] {
+        assert_eq!(Encoding::for_label(label), Some(WINDOWS_1252));
+    }
     assert_eq!(Encoding::for_label(b"utf-16"), Some(UTF_16LE));
     assert_eq!(Encoding::for_label("ebcdic"), None);
-    for encoding in ENCODINGS {
+    assert_eq!(Encoding::for_label(b"\xe9latin1"), None);
+    for encoding in ENCODINGS.into_iter().chain([ISO_8859_1]) {
         assert_eq!(Encoding::for_label(encoding.name()), Some(encoding));
         assert_eq!(encoding.to_string(), encoding.name());
     }

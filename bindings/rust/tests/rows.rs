@@ -12,7 +12,7 @@ use std::path::Path;
 use streams::{Pieces, Sink};
 use todrenval::{
     convert, edit, get, groups, write, Comments, Edit, Encoding, ErrorKind, Line, LineContent, LineEnding, Options,
-    PropertiesError, PropertiesIter, PropertiesWriter, Spelling, Target, WINDOWS_1252,
+    PropertiesError, PropertiesIter, PropertiesWriter, Spelling, Target, ISO_8859_1, WINDOWS_1252,
 };
 
 /// What stands between two semicolons: words, and texts in quotes.
@@ -477,7 +477,9 @@ fn run(kind: &str, encoding: Encoding, left: &str, right: &str) -> Row {
         "compare" => compared(encoding, left, right),
         "view" => viewed(encoding, left, right),
         "label" => {
-            let is_label = Encoding::for_label(&clauses(left)[0].texts[0]) == Some(encoding);
+            // ISO 8859-1 is read as windows-1252 is, and a label of that to the standard.
+            let meant = Encoding::for_label(&clauses(left)[0].texts[0]);
+            let is_label = meant == Some(encoding) || encoding == WINDOWS_1252 && meant == Some(ISO_8859_1);
             Ok((vec![clause(if is_label { "yes" } else { "no" }, &[])], clauses(right)))
         }
         other => panic!("no such rows: {other}"),

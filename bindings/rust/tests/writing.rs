@@ -7,7 +7,8 @@ use std::io::{self, Write};
 use streams::{cases, Chance, Sink};
 use todrenval::{
     convert, edit, get, groups, read, write, Comments, Edit, Encoding, ErrorKind, GroupKind, LineContent, LineEnding,
-    Options, PropertiesError, PropertiesIter, PropertiesWriter, Spelling, Target, UTF_16LE, UTF_8, WINDOWS_1252,
+    Options, PropertiesError, PropertiesIter, PropertiesWriter, Spelling, Target, ISO_8859_1, UTF_16LE, UTF_8,
+    WINDOWS_1252,
 };
 
 const TEXTS: [&str; 14] = [
@@ -50,8 +51,8 @@ fn set(writer: &mut PropertiesWriter<impl Write>, chance: &mut Chance) {
 fn gathered_lines_are_the_same_and_read_back() {
     let mut chance = Chance(3);
     for round in cases(200) {
-        let encoding = [WINDOWS_1252, UTF_8, UTF_16LE][round % 3];
-        let count = if round % 10 == 0 { 2000 } else { 12 };
+        let encoding = [WINDOWS_1252, UTF_8, UTF_16LE, ISO_8859_1][round % 4];
+        let count = if round % 10 < 2 { 2000 } else { 12 };
         let (gathered, single) = (Sink::new(7), Sink::new(usize::MAX));
         let mut pairs = Vec::new();
         {
@@ -239,6 +240,77 @@ fn a_front_like_a_mark_is_escaped_in_the_first_line_alone() {
         writer.write("\u{feff}a", "1").unwrap();
     });
     assert_eq!(bytes, "\\ufeffa=1\n\u{feff}a=1\n\u{feff}a=1\n".as_bytes());
+    let bytes = written(ISO_8859_1, |writer| {
+        for key in ["\u{ef}\u{bb}\u{bf}a", "\u{feff}a", "\u{ef}\u{bb}\u{bf}a", "\u{feff}a"] {
+            writer.write(key, "1").unwrap();
+            writer.flush().unwrap();
+        }
+    });
+    assert_eq!(bytes, b"\\u00ef\xbb\xbfa=1\n\\ufeffa=1\n\xef\xbb\xbfa=1\n\\ufeffa=1\n");
+}
+
+/// Every character of ISO 8859-1 and of windows-1252, and others: what is written in ISO 8859-1 is read as it was meant by
+/// whoever takes a byte for the character with its number.
+#[test]
+fn java_reads_iso_8859_1_as_it_was_meant() {
+    let bytes: Vec<u8> = (0x80..=0x9f).collect();
+    let only_in_windows = get(&[b"k=", &bytes[..]].concat(), WINDOWS_1252, "k").unwrap().unwrap();
+    let others = "\u{100}\u{2028}あ\u{feff}\u{fffd}\u{1f41e}".chars();
+    for character in (0..=255).map(char::from).chain(only_in_windows.chars()).chain(others) {
+        let text = String::from(character);
+        let pairs = [("first", "1"), (&text[..], &text[..])];
+        let file = b"first=1\n";
+        let written = written(ISO_8859_1, |writer| {
+            for (key, value) in pairs {
+                writer.write(key, value).unwrap();
+            }
+        });
+        let windows = edit(file, WINDOWS_1252, &[Edit::SetKey(&text, &text)]).unwrap();
+        for bytes in [
+            &edit(file, ISO_8859_1, &[Edit::SetValue(&text, &text)]).unwrap(),
+            &edit(file, ISO_8859_1, &[Edit::SetKey(&text, &text)]).unwrap(),
+            &convert(&windows, ISO_8859_1, Target::Iso8859_1, Spelling::Kept).unwrap(),
+            &convert(&windows, WINDOWS_1252, Target::Iso8859_1, Spelling::Readable).unwrap(),
+            &written,
+        ] {
+            let decoded: String = bytes.iter().copied().map(char::from).collect();
+            for (source, encoding) in [(decoded.as_bytes(), UTF_8), (bytes, ISO_8859_1), (bytes, WINDOWS_1252)] {
+                let mut came = Vec::new();
+                PropertiesIter::new_with_encoding(source, encoding)
+                    .read_into(|key, value| came.push((key, value)))
+                    .unwrap();
+                let came: Vec<_> = came.iter().map(|(key, value)| (&key[..], &value[..])).collect();
+                assert_eq!(came, pairs, "{character:?} in {encoding}: {bytes:?}");
+            }
+            assert!(
+                !bytes.iter().any(|byte| (0x80..=0x9f).contains(byte)),
+                "{character:?}: {bytes:?}"
+            );
+            assert_eq!(
+                bytes.is_ascii(),
+                !('\u{a0}'..='\u{ff}').contains(&character),
+                "{character:?}: {bytes:?}"
+            );
+        }
+        let ascii = Options::new(ISO_8859_1).ascii_only(true);
+        assert!(edit(file, ascii, &[Edit::SetKey(&text, &text)]).unwrap().is_ascii());
+    }
+    // What stands in the file stays.
+    let file = b"# \x80\na=\x80\n";
+    assert_eq!(
+        edit(file, ISO_8859_1, &[Edit::SetKey("b", "€é")]).unwrap(),
+        b"# \x80\na=\x80\nb=\\u20ac\xe9\n"
+    );
+    let ascii = self::written(ISO_8859_1, |writer| {
+        writer.set_ascii_only(true);
+        writer.write("k", "é").unwrap();
+    });
+    assert_eq!(ascii, b"k=\\u00e9\n");
+    let comment = self::written(ISO_8859_1, |writer| {
+        writer.set_comment_prefix("# €").unwrap();
+        writer.write_comment("\u{85}é\0\\").unwrap();
+    });
+    assert_eq!(comment, b"# \\u20ac\\u0085\xe9\0\\\\\n");
 }
 
 #[test]
