@@ -296,9 +296,6 @@ walk-ended walk w all =
       | inr k ↦ rw (k, none) (nothing-left e (editable-bytes e w.bytes))
     ]
 
-pub walk-done : (walk : Walk) → walk.reader.scanner.is_done ≡ true → with_bytes (groups_to_come walk) ≡ []
-walk-done walk done = rw done refl
-
 -- ---- places
 
 -- the lines of groups are those of the body

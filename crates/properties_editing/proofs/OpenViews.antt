@@ -26,8 +26,6 @@ use Rattle.properties_text.specs.Encoding.{encoding_of}
 use Rattle.properties_text.specs.Escaping.{malformed_in}
 use Rattle.properties_text.specs.Parsing.{bytes_in}
 use Rattle.properties_lines.specs.LogicalLine as lines
-use Rattle.properties_lines.specs.LineSearch.{unit_size}
-use Rattle.properties_lines.specs.Private.HeldLines.{IsInBody}
 use Rattle.properties_lines.specs.declared.scanner.Scanner.{Scanner}
 use Rattle.properties_items.specs.Errors.{malformed_kind}
 use Rattle.properties_items.specs.declared.error.ErrorKind.{ErrorKind}
@@ -35,7 +33,7 @@ use Rattle.properties_editing.specs.Views.{ArePlaces, AreTexts, EndsAt, IsCutBeh
 use Rattle.properties_editing.specs.Views as public
 use Rattle.properties_editing.specs.Private.BodyCuts.{added_lines, adds, cut_size, is_first_after}
 use Rattle.properties_editing.specs.Private.BodyViews as walked
-use Rattle.properties_editing.specs.Private.BodyViews.{IsViewed, IsWalkOf, KeepsWalk, TakesWalk, counts_by, cut_in, groups_to_come, lines_of, place_in, places_by, places_in, text_in}
+use Rattle.properties_editing.specs.Private.BodyViews.{IsViewed, IsWalkOf, TakesWalk, counts_by, cut_in, groups_to_come, lines_of, place_in, places_by, places_in, text_in}
 use Rattle.properties_editing.specs.Private.OpenViews.{HasGroup, IsView, open_view}
 use Rattle.properties_editing.specs.declared.group.ViewedGroup.{ViewedGroup}
 use Rattle.properties_editing.specs.declared.walk.FoundFlaw.{FoundFlaw}
@@ -125,25 +123,6 @@ past-view walk None h =
     let passed : s.passed + 0 ≡ s.passed = omega arith in
     ap₂ (λ a p. record (shown walk None) { start = a; passed = p }) at passed
 past-view walk (Some group) v = let p = is-passed v in rw (p.at, p.passed, p.encoding) refl
-
-pub encoding-seen : (walk : Walk) (group : Option WalkedGroup) → HasGroup group walk
-    → encoding_of walk.reader.scanner.encoding ≡ (shown walk group).encoding
-encoding-seen walk None h = refl
-encoding-seen walk (Some group) v = sym (is-passed v).encoding
-
--- No group was returned.
-pub view-kept : (old new : Walk) (group : Option WalkedGroup) → IsView (record { walk = old; group = group }) → KeepsWalk old new
-    → IsView (record { walk = new; group = None }) × (shown new None ≡ past (shown old group))
-view-kept old new group v k = (
-  record {
-    opened = record {
-      bytes = subst (λ s. let w : Scanner = s in unit_size (encoding_of w.encoding) ≡ 1) (sym k.state) v.opened.bytes;
-      within_body = subst (λ s. IsInBody s new.source.now) (sym k.state) (subst (IsInBody old.reader.scanner) (sym k.source_is) v.opened.within_body);
-    };
-    has_group = tt;
-  },
-  rw (k.source_is, k.state) refl ∙ sym (past-view old group v.has_group),
-)
 
 abbrev told : WalkedGroup → ℕ → ViewedGroup
 told group count =

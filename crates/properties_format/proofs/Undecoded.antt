@@ -1,17 +1,15 @@
 -- What looks at no non-ASCII character sees the same in bytes of windows-1252 and in their characters.
-use Rattle.std.proofs.Common.{rules, ◌≡◌, ℕ, suc, ◌<◌, ◌≤◌, ◌==◌, ◌%◌, Bool, true, false, List, [], ◌∷◌, ◌++◌, length, map, reverse, refl, sym, ap, ap₂, ◌∙◌, inl, inr, arith}
+use Rattle.std.proofs.Common.{rules, ◌≡◌, ℕ, suc, ◌<◌, ◌≤◌, ◌==◌, ◌%◌, Bool, true, false, List, [], ◌∷◌, length, reverse, refl, ap, ◌∙◌, inl, inr, arith}
 use Rattle.std.proofs.lemmas.Bool.{cases_Bool}
-use Rattle.std.proofs.lemmas.List.{map-append}
 use mathlib.Core.List.{reverse_aux}
 use Rattle.properties_format.specs.Text.{backslash, is_blank, is_separator, is_comment_sign, without_leading_blanks, characters, begins}
 use Rattle.properties_format.specs.Windows1252.{windows_1252_character}
-use Rattle.properties_format.specs.Lines.{leading_backslashes, ending_backslashes, is_open, is_comment_line, without_last, without_open_backslash, addition, joined_after, last_group, Line, InputEnd, joined}
+use Rattle.properties_format.specs.Lines.{leading_backslashes, ending_backslashes, is_open, is_comment_line, without_last, without_open_backslash, addition}
 use Rattle.properties_format.specs.Split.{comment, pair, Logical, blank}
 use Rattle.properties_format.specs.Encoding.{windows_1252}
 use Rattle.properties_format.specs.Computed.Encoding.{pieces_within, pieces_of}
 use Rattle.properties_format.specs.Computed.Cut.{decoded_line, characters_of}
 use Rattle.properties_format.specs.Computed.Split.{without_trailing_blanks, unless_last_blank, trimmed, Cut, with_front, cut_key, past_separator, pair_of, split_full, split_of}
-use Rattle.properties_format.specs.Computed.Lines.{groups_after, groups_of}
 use Rattle.properties_format.proofs.Encodings.Windows1252.{windows_1252-ascii}
 
 -- ---- one character
@@ -83,31 +81,6 @@ closed d = grind (arith, opens, last-off)
 
 pub adds : (d : List ℕ) → addition (characters_of d) ≡ characters_of (addition d)
 adds d = ap without_open_backslash (leading-blanks d) ∙ closed (without_leading_blanks d)
-
--- ---- groups
-
--- a line of bytes as a line of text
-abbrev pub decoded : Line → Line
-decoded l = record { number = l.number; text = characters_of l.text }
-
-after : (ls : List Line) → joined_after (map decoded ls) ≡ characters_of (joined_after ls)
-after [] = refl
-after (l ∷ ls) = ap₂ (λ x y. x ++ y) (adds l.text) (after ls) ∙ sym (map-append windows_1252_character (addition l.text) (joined_after ls))
-
-last-one : (p : List Line) (e : InputEnd) → last_group (map decoded p) e ≡ map (map decoded) (last_group p e)
-last-one p e = grind (arith)
-
-after-group : (p ls : List Line) (e : InputEnd) → groups_after (map decoded p) (map decoded ls) e ≡ map (map decoded) (groups_after p ls e)
-after-group p [] e = last-one p e
-after-group p (l ∷ ls) e = search (rules, map-append, after-group [] ls e, after-group (p ++ l ∷ []) ls e, comments, opens)
-
--- Lines are joined alike,
-pub joined-text : (ls : List Line) → joined (map decoded ls) ≡ characters_of (joined ls)
-joined-text ls = search (rules, comments, closed, after, map-append)
-
--- and divided into groups alike.
-pub groups-text : (ls : List Line) (e : InputEnd) → groups_of (map decoded ls) e ≡ map (map decoded) (groups_of ls e)
-groups-text ls e = after-group [] ls e
 
 -- ---- splitting
 

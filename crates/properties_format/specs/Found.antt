@@ -1,7 +1,7 @@
 -- What is found in an input, one logical line after another, such as its malformed escapes, its pairs or their keys.
-use Rattle.std.specs.Prelude.{◌≡◌, ℕ, List, [], ◌∷◌, ◌+◌, Bool}
-use Rattle.properties_format.specs.Encoding.{Encoding, IsDecoded}
-use Rattle.properties_format.specs.Lines.{InputEnd, Line, HasGroups, joined, first_number, end, Lines, IsLines, line_endings, is_comment_line}
+use Rattle.std.specs.Prelude.{◌≡◌, ℕ, List, [], ◌∷◌, Bool}
+use Rattle.properties_format.specs.Encoding.{Encoding}
+use Rattle.properties_format.specs.Lines.{InputEnd, Line, HasGroups, joined, first_number, end, is_comment_line}
 use Rattle.properties_format.specs.Items.{Outcome, IsOutcome, broken}
 use Rattle.properties_format.specs.Escapes.{Malformed}
 
@@ -37,11 +37,3 @@ escapes_from number x outcome rest = rest
 -- These are the malformed escapes of an input in an encoding.
 abbrev pub AreMalformedEscapes : Encoding → List ℕ → List MalformedEscape → Type 0
 AreMalformedEscapes e bytes escapes = AreFound escapes_from e bytes end escapes
-
--- If no more bytes can be read, the line with this number is cut off.
-pub record IsCutLine (e : Encoding) (bytes : List ℕ) (number : ℕ) : Type 0 where
-  pub text : List ℕ
-  pub lines : Lines
-  pub decoded : IsDecoded e bytes text
-  pub divided : IsLines text lines
-  pub is : number ≡ line_endings lines + 1

@@ -1,19 +1,16 @@
 -- A group with another last line ending, or without one: it has the same parts, and its bytes without one are one group.
-use Rattle.std.proofs.Common.{◌≡◌, ℕ, ◌≤◌, true, false, List, [], ◌∷◌, ◌++◌, length, drop, Option, None, refl, ap, sym, ◌∙◌, inl, inr, append-nil, arith, length-append, length-drop}
+use Rattle.std.proofs.Common.{◌≡◌, ℕ, ◌≤◌, true, false, List, [], ◌∷◌, ◌++◌, length, drop, Option, None, refl, ap, ◌∙◌, inl, inr, append-nil, arith, length-append, length-drop}
 use Rattle.std.specs.Prelude.{Bool, nat_le}
 use Rattle.std.proofs.lemmas.Bool.{cases_Bool, le-leb, leb-false}
 use Rattle.properties_format.specs.Text.{LineEnding}
 use Rattle.properties_format.specs.Encoding.{Encoding}
 use Rattle.properties_format.specs.Lines.{joined}
 use Rattle.properties_format.specs.Split.{IsPair}
-use Rattle.properties_format.specs.Body.{HeldLine, as_lines, AreGroupsOf, ending_bytes, group_bytes}
-use Rattle.properties_format.specs.Edited.{is_editable}
-use Rattle.properties_format.specs.Computed.Body.{held_groups_of, unended_bytes}
+use Rattle.properties_format.specs.Body.{HeldLine, as_lines, ending_bytes, group_bytes}
+use Rattle.properties_format.specs.Computed.Body.{unended_bytes}
 use Rattle.properties_format.specs.Computed.Valued.{added_by, before_value, between_in, front_in, front_of, between_of, is_pair_to, has_value}
 use Rattle.properties_format.specs.Computed.Items.{outcome_of}
-use Rattle.properties_format.proofs.Body.Groups.{held_groups_of-only}
-use Rattle.properties_format.proofs.InTurn.Lines.{texts-with, with_ending, lines-with}
-use Rattle.properties_format.proofs.InTurn.Merged.{AreInTurn, in-turn, turn-at, merged-groups}
+use Rattle.properties_format.proofs.InTurn.Lines.{texts-with, with_ending}
 use Rattle.properties_format.proofs.Valued.Fronts.{joined_by, joined-by, pair-unmarked, front-here, front-later}
 use Rattle.properties_format.proofs.Valued.Parts.{pair-line, before_value-pair}
 
@@ -25,15 +22,6 @@ without_ending g = with_ending None g
 pub unended-bytes : (g : List HeldLine) → group_bytes (without_ending g) ≡ unended_bytes g
 unended-bytes (h ∷ i ∷ g) = ap (λ v. h.bytes ++ (ending_bytes h.ending ++ v)) (unended-bytes (i ∷ g))
 unended-bytes g = grind (arith, append-nil)
-
--- One group of a body, without its last line ending, is the group of its bytes.
-pub unended-groups : (e : Encoding) (body : List ℕ) (before : List (List HeldLine)) (g : List HeldLine) (after : List (List HeldLine)) → is_editable e ≡ true
-    → AreGroupsOf e body (before ++ g ∷ after) → held_groups_of e (unended_bytes g) ≡ without_ending g ∷ []
-unended-groups e body before g after ok h =
-    let (o, a, f) = turn-at e before g after (in-turn e body (before ++ g ∷ after) ok h) in
-    let alone : AreInTurn e (without_ending g ∷ []) = (lines-with e o None g a (λ c. refl), rw (texts-with None g) f) in
-    let are = merged-groups e (without_ending g ∷ []) ok alone in
-    sym (held_groups_of-only e (unended_bytes g) (without_ending g ∷ []) (rw (append-nil, unended-bytes g) at are))
 
 -- ---- its parts
 
@@ -82,6 +70,3 @@ front-with e o (i ∷ is) key value h =
 -- All of this holds without a last line ending.
 pub unended-joined : (g : List HeldLine) → joined (as_lines (without_ending g)) ≡ joined (as_lines g)
 unended-joined g = joined-with None g
-
-pub unended-value : (value : List ℕ) (g : List HeldLine) → has_value value (without_ending g) ≡ has_value value g
-unended-value value g = has-with None value g
