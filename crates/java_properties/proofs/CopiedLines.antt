@@ -1,5 +1,6 @@
 -- How the line of a pair is built from the bytes of a logical line, in either encoding.
-use Rattle.std.proofs.Common.{◌≡◌, ◌≤◌, ◌==◌, ◌-◌, ◌+◌, ℕ, List, [], ◌∷◌, ◌++◌, length, map, take, drop, refl, sym, ap, ap₂, ◌∙◌, subst, inl, inr, arith, eqb-true}
+use Rattle.std.proofs.Common.{◌≡◌, ◌≤◌, ◌==◌, ◌-◌, ◌+◌, ℕ, List, [], ◌∷◌, ◌++◌, length, map, take, drop, refl, sym, ap, ap₂, ◌∙◌, subst, inl, inr, arith}
+use Rattle.std.proofs.Common.{eqb-true}
 use lib.Utf8.{encodes}
 use Rattle.std.specs.Prelude.{Option, Some, None, All, Result, Ok, Err}
 use Rattle.std.specs.Str.{IsUtf8, chars}
@@ -67,7 +68,8 @@ in-utf8 (split.comment text) = refl
 in-utf8 (split.pair key value) = refl
 
 -- the text of a line is split where its bytes are
-pub split-in : (e : LineEncoding) (line : List ℕ) (parts : Option ParsedSpans) → IsWell e line → IsSplit line (spanned line parts) → (IsUtf8 line → AreFoundInText line parts)
+pub split-in : (e : LineEncoding) (line : List ℕ) (parts : Option ParsedSpans) → IsWell e line → IsSplit line (spanned line parts)
+    → (IsUtf8 line → AreFoundInText line parts)
     → split_of (text_in e line) ≡ texts_in e (spanned line parts)
 split-in Windows1252 line parts w h t =
     splits line ∙ ap in_text (sym (split_of-only line (spanned line parts) h)) ∙ in-windows (spanned line parts)
@@ -155,7 +157,8 @@ none-means : (text : List ℕ) (c : ℕ) (key : List ℕ) → text ≡ [] → me
 none-means text c key e m = let k : means (c ∷ key) ≡ means [] = sym m ∙ ap meaning_of e ∙ meaning_of-empty in absurd (cc)
 
 -- a pair is accepted if its span is taken
-pub span-accepts : (s : Settings) (e : LineEncoding) (line : List ℕ) (span : Span) (key value : List ℕ) → IsWithin (length line) span → IsWell e (bytes_in line span)
+pub span-accepts : (s : Settings) (e : LineEncoding) (line : List ℕ) (span : Span) (key value : List ℕ) → IsWithin (length line) span
+    → IsWell e (bytes_in line span)
     → meaning_of (text_in e (bytes_in line span)) ≡ means key → takes_span s span ≡ is_accepted s (pair_call key value)
 span-accepts s e line span [] value h w m =
     let raw = bytes_in line span in
@@ -189,7 +192,8 @@ pub record AreFound (e : LineEncoding) (line bytes : List ℕ) (parts : Option P
   pub spans : IsUtf8 line → AreSpans line parts
 
 pub found-in : (e : LineEncoding) (line bytes : List ℕ) (n : ℕ) (parts : Option ParsedSpans) → IsWell e line → take (length line) bytes ≡ line → n ≡ length line
-    → IsSplit (take n bytes) (spanned (take n bytes) parts) → AreInPlace (take n bytes) parts → (IsUtf8 (take n bytes) → AreFoundInText (take n bytes) parts) → AreFound e line bytes parts
+    → IsSplit (take n bytes) (spanned (take n bytes) parts) → AreInPlace (take n bytes) parts → (IsUtf8 (take n bytes) → AreFoundInText (take n bytes) parts)
+    → AreFound e line bytes parts
 found-in e line bytes n parts w front same h places t =
     let is = ap (λ n. take n bytes) same ∙ front in
     let text = rw is at t in
@@ -233,7 +237,8 @@ module _ (e : LineEncoding) (line bytes : List ℕ) (key value : Span) (f : AreF
   pub value-well : IsWell e (bytes_in bytes value)
   value-well = subst (IsWell e) (sym same-value) (well-in e line value f.well (λ u. (f.spans u).1))
 
-  module _ (old w : Engine) (p : Pair) (k : key_of p ≡ meaning_of (text_in e (bytes_in bytes key))) (v : value_of p ≡ meaning_of (text_in e (bytes_in bytes value))) where
+  module _ (old w : Engine) (p : Pair) (k : key_of p ≡ meaning_of (text_in e (bytes_in bytes key)))
+      (v : value_of p ≡ meaning_of (text_in e (bytes_in bytes value))) where
     key-means : meaning_of (text_in e (bytes_in line key)) ≡ key_of p
     key-means = sym (k ∙ ap (λ x. meaning_of (text_in e x)) same-key)
 
@@ -266,7 +271,8 @@ module _ (e : LineEncoding) (line bytes : List ℕ) (key value : Span) (f : AreF
     pair-unbuilt error.Memory b = tt
 
 -- why nothing was built says why a line has no item
-pub unbuilt-no_item : (text : List ℕ) (number : ℕ) (why : UnescapeError) (w : Engine) (e : PropertiesError) → BuildsLine text (Err why) w → IsUnresolvedError why number e
+pub unbuilt-no_item : (text : List ℕ) (number : ℕ) (why : UnescapeError) (w : Engine) (e : PropertiesError) → BuildsLine text (Err why) w
+    → IsUnresolvedError why number e
     → IsNoItem number text e
 unbuilt-no_item text number (error.Malformed kind) w e b says = inl (malformed_in kind, b, says)
 unbuilt-no_item text number error.Memory w e b says = inr says

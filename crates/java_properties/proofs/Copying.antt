@@ -49,7 +49,8 @@ module _ {W : Type 0} {sink : Sink W} (w : Engine) (from : W) {text : List ℕ} 
 -- ---- item after item
 
 -- Items were copied so far. What is copied from here on, after some blank lines, is copied from the start.
-pub record IsCopiedTo {R W : Type 0} (reader : Reader R) (sink : Sink W) (old : Iteration R) (writer : Writing W) (state : ReaderState) (to : R) (so_far : Writing W) : Type 0 where
+pub record IsCopiedTo {R W : Type 0} (reader : Reader R) (sink : Sink W) (old : Iteration R) (writer : Writing W) (state : ReaderState) (to : R)
+    (so_far : Writing W) : Type 0 where
   pub between : Iteration R
   pub bytes : List ℕ
   pub passed : Passed reader between.state between.reader bytes state to
@@ -61,12 +62,14 @@ module _ {R W : Type 0} {reader : Reader R} {sink : Sink W} {old : Iteration R} 
   copied-start = record { between = old; bytes = []; passed = passed-start old.state old.reader; along = λ result new written h. h }
 
   -- what is built changes nothing that callers see
-  pub copied-same : {state : ReaderState} {to : R} {from : W} (a b : Engine) → b ≡ record a { line = b.line } → IsCopiedTo reader sink old writer state to (writing a from)
+  pub copied-same : {state : ReaderState} {to : R} {from : W} (a b : Engine) → b ≡ record a { line = b.line }
+      → IsCopiedTo reader sink old writer state to (writing a from)
       → IsCopiedTo reader sink old writer state to (writing b from)
   copied-same {state} {to} {from} a b same h = subst (IsCopiedTo reader sink old writer state to) (sym (ap (λ (w : Engine). writing w from) same)) h
 
   -- an item was copied
-  copied-item : {state : ReaderState} {to : R} {so_far : Writing W} (h : IsCopiedTo reader sink old writer state to so_far) (new : ReaderState) (next : R) (after : Writing W)
+  copied-item : {state : ReaderState} {to : R} {so_far : Writing W} (h : IsCopiedTo reader sink old writer state to so_far) (new : ReaderState) (next : R)
+      (after : Writing W)
       → CopiesItem reader sink h.between so_far (record { reader = next; state = new; line = [] }) after → IsCopiedTo reader sink old writer new next after
   copied-item h new next after item =
       let between : Iteration R = record { reader = next; state = new; line = [] } in
@@ -77,7 +80,8 @@ module _ {R W : Type 0} {reader : Reader R} {sink : Sink W} {old : Iteration R} 
         along = λ result last written more. h.along result last written (Copies.goes_on between after item more);
       }
 
-  module _ {state : ReaderState} {to : R} {so_far : Writing W} (h : IsCopiedTo reader sink old writer state to so_far) {line : Line} {new : ReaderState} {next : R}
+  module _ {state : ReaderState} {to : R} {so_far : Writing W} (h : IsCopiedTo reader sink old writer state to so_far) {line : Line} {new : ReaderState}
+      {next : R}
       (joins : JoinsLine reader state to line new next) where
     -- a line came that is no pair
     pub copied-no_pair : IsNoPair line.text → IsCopiedTo reader sink old writer new next so_far
@@ -130,7 +134,8 @@ module _ {R W : Type 0} {reader : Reader R} {sink : Sink W} {old : Iteration R} 
   module _ {to : R} {so_far : Writing W} (before lines : LineJoining) (next : R) (h : IsCopiedTo reader sink old writer before.at.state to so_far)
       (quiet : before.error ≡ None) (joins : JoinsNoLine reader before to lines next) where
     -- no more lines come
-    pub copied-all : (bytes : List ℕ) → lines.error ≡ None → Copies reader sink old writer (Ok tt) (record { reader = next; state = lines.at.state; line = bytes }) so_far
+    pub copied-all : (bytes : List ℕ) → lines.error ≡ None
+        → Copies reader sink old writer (Ok tt) (record { reader = next; state = lines.at.state; line = bytes }) so_far
     copied-all bytes none =
         let end = ended joins none in
         let state = ap (λ (l : LineJoining). l.at.state) end.1 in

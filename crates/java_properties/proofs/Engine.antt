@@ -7,7 +7,8 @@ use Rattle.std.specs.Str.{chars}
 use Rattle.properties_format.specs.Text.{line_ending_text, is_blanks}
 use Rattle.properties_format.specs.Items.{Content, comment, pair}
 use Rattle.properties_format.specs.Writing.{is_accepted}
-use Rattle.properties_format.specs.Printing.{encoded_text, printed_characters, printed_key, printed_value, written_value, in_prefix, in_comment, in_key_or_value}
+use Rattle.properties_format.specs.Printing.{encoded_text, printed_characters, printed_key, printed_value, written_value, in_prefix, in_comment}
+use Rattle.properties_format.specs.Printing.{in_key_or_value}
 use Rattle.properties_format.proofs.Printing.Characters.{AreAscii, encoded_text-ascii, printed-comment, printed-pair}
 use Rattle.properties_text.specs.Encoding.{line_of}
 use Rattle.properties_items.specs.Errors.{IsError, IsBareError, cause_of_write}
@@ -20,7 +21,8 @@ use Rattle.java_properties.specs.Private.Engine.{writing, NumbersLine, SendsLine
 use Rattle.properties_format.specs.Encoding.{Encoding, utf_8}
 use Rattle.properties_format.specs.Encoding as meant
 use Rattle.properties_format.specs.Settings.{repertoire_of as format_repertoire}
-use Rattle.properties_format.proofs.AsciiOnly.{printed_characters-ascii, printed_characters-same, printed_key-ascii, printed_key-same, printed_value-ascii, printed_value-same}
+use Rattle.properties_format.proofs.AsciiOnly.{printed_characters-ascii, printed_characters-same, printed_key-ascii, printed_key-same, printed_value-ascii}
+use Rattle.properties_format.proofs.AsciiOnly.{printed_value-same}
 use Rattle.properties_text.specs.Printing.{text_bytes, key_bytes, puts_of, value_bytes, place_of, in_format}
 use Rattle.properties_text.specs.PrintedTexts.{PrintsPair}
 use Rattle.properties_text.specs.declared.encoding.line_encoding.LineEncoding.{LineEncoding}
@@ -45,7 +47,8 @@ ending_bytes w = encoded_text (line_of w.encoding) (line_ending_text w.settings.
 -- ---- what a line can contain without escapes
 
 -- a repertoire that has all of an encoding
-repertoire-by : (to : Repertoire) (e : LineEncoding) → (in_format to).encoding ≡ line_of e → (in_format to).characters ≡ meant.all_characters → to ≡ repertoire_in false e
+repertoire-by : (to : Repertoire) (e : LineEncoding) → (in_format to).encoding ≡ line_of e → (in_format to).characters ≡ meant.all_characters → to
+    ≡ repertoire_in false e
 repertoire-by repertoire.Windows1252 line.Windows1252 same h = refl
 repertoire-by repertoire.Windows1252 line.Utf8 same h = absurd (cc)
 repertoire-by repertoire.Utf8 line.Windows1252 same h = absurd (cc)
@@ -65,27 +68,31 @@ text-alike : (only : Bool) (e : LineEncoding) (p : Place) (text : List ℕ)
 text-alike false line.Windows1252 p text = refl
 text-alike false line.Utf8 p text = refl
 text-alike true e p text =
-    alike (line_of e) _ _ (printed_characters-ascii utf_8 (place_of p) text) (printed_characters-ascii _ (place_of p) text) (printed_characters-same utf_8 (line_of e) (place_of p) text)
+    alike (line_of e) _ _ (printed_characters-ascii utf_8 (place_of p) text) (printed_characters-ascii _ (place_of p) text)
+    (printed_characters-same utf_8 (line_of e) (place_of p) text)
 
 value-alike : (only : Bool) (e : LineEncoding) (text : List ℕ)
     → puts_of (repertoire_in only e) text ≡ encoded_text (line_of e) (printed_characters (meant.repertoire (line_of e) only) in_key_or_value text)
 value-alike false line.Windows1252 text = refl
 value-alike false line.Utf8 text = refl
 value-alike true e text =
-    alike (line_of e) _ _ (printed_characters-ascii utf_8 in_key_or_value text) (printed_characters-ascii _ in_key_or_value text) (printed_characters-same utf_8 (line_of e) in_key_or_value text)
+    alike (line_of e) _ _ (printed_characters-ascii utf_8 in_key_or_value text) (printed_characters-ascii _ in_key_or_value text)
+    (printed_characters-same utf_8 (line_of e) in_key_or_value text)
 
 key-alike : (only : Bool) (e : LineEncoding) (first : Bool) (key : List ℕ)
     → key_bytes (repertoire_in only e) first key ≡ encoded_text (line_of e) (printed_key (meant.repertoire (line_of e) only) first key)
 key-alike false line.Windows1252 first key = refl
 key-alike false line.Utf8 first key = refl
-key-alike true e first key = alike (line_of e) _ _ (printed_key-ascii utf_8 first key) (printed_key-ascii _ first key) (printed_key-same utf_8 (line_of e) first key)
+key-alike true e first key = alike (line_of e) _ _ (printed_key-ascii utf_8 first key) (printed_key-ascii _ first key)
+    (printed_key-same utf_8 (line_of e) first key)
 
 readable-alike : (only : Bool) (e : LineEncoding) (after_blanks : Bool) (text : List ℕ)
     → value_bytes (repertoire_in only e) after_blanks text ≡ encoded_text (line_of e) (printed_value (meant.repertoire (line_of e) only) after_blanks text)
 readable-alike false line.Windows1252 after_blanks text = refl
 readable-alike false line.Utf8 after_blanks text = refl
 readable-alike true e after_blanks text =
-    alike (line_of e) _ _ (printed_value-ascii utf_8 after_blanks text) (printed_value-ascii _ after_blanks text) (printed_value-same utf_8 (line_of e) after_blanks text)
+    alike (line_of e) _ _ (printed_value-ascii utf_8 after_blanks text) (printed_value-ascii _ after_blanks text)
+    (printed_value-same utf_8 (line_of e) after_blanks text)
 
 -- the value that is written, with readable output off
 plain-chosen : (w : Engine) (value : List ℕ) → w.settings.readable ≡ false
@@ -99,7 +106,8 @@ plain-chosen w value off =
 
 -- and on
 readable-chosen : (w : Engine) (value : List ℕ) → w.settings.readable ≡ true
-    → value_bytes (repertoire_of w) (is_blanks w.settings.kv_separator) value ≡ encoded_text (line_of w.encoding) (written_value (line_of w.encoding) w.settings value)
+    → value_bytes (repertoire_of w) (is_blanks w.settings.kv_separator) value
+    ≡ encoded_text (line_of w.encoding) (written_value (line_of w.encoding) w.settings value)
 readable-chosen w value on =
     let e = line_of w.encoding in
     let s = w.settings in
@@ -141,7 +149,8 @@ pair-built w key value cleared separator ending all off h s m n =
 -- and on
 pub readable-built : (w : Engine) (key value cleared separator ending all : List ℕ) → w.settings.readable ≡ true → cleared ≡ []
     → separator ≡ encoded_text (line_of w.encoding) w.settings.kv_separator → chars separator ≡ w.settings.kv_separator → ending ≡ ending_bytes w
-    → all ≡ cleared ++ (key_bytes (repertoire_of w) (w.lines == 0) key ++ (separator ++ (value_bytes (repertoire_of w) (is_blanks (chars separator)) value ++ ending)))
+    → all ≡ cleared ++ (key_bytes (repertoire_of w) (w.lines == 0) key
+    ++ (separator ++ (value_bytes (repertoire_of w) (is_blanks (chars separator)) value ++ ending)))
     → all ≡ line_bytes w (pair key value)
 readable-built w key value cleared separator ending all on h s t m n =
     let valued = ap (λ x. value_bytes (repertoire_of w) (is_blanks x) value) t ∙ readable-chosen w value on in

@@ -37,7 +37,8 @@ use Rattle.properties_items.specs.BorrowedItems.{found_content, FindsIn, IsNoIte
 use Rattle.properties_items.specs.declared.found.Found as found
 use Rattle.properties_items.proofs.FoundItems.{found-item}
 use Rattle.properties_items.proofs.TextMaps.Values.{at_chars-sorted, at_chars-updated}
-use Rattle.java_properties.specs.Findings.{KeyPlace, keys_from, HasNoKey, HasFirstNumber, KeyEntry, AreFirstsOf, AreKeyLines, key_line_entry, key_line_entries, HasKeys}
+use Rattle.java_properties.specs.Findings.{KeyPlace, keys_from, HasNoKey, HasFirstNumber, KeyEntry, AreFirstsOf, AreKeyLines, key_line_entry, key_line_entries}
+use Rattle.java_properties.specs.Findings.{HasKeys}
 use Rattle.java_properties.specs.Private.LineByLine.{number_at, KeepsFirst, AddsKeyLine, AddsIfKey, PushesKey, Collected}
 use Rattle.properties_items.specs.declared.findings.KeyLine as code
 use Rattle.java_properties.proofs.MalformedEscapes.{collected-start, collected-next}

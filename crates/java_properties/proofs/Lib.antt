@@ -17,3 +17,6 @@ pub mod FewLines
 pub mod SliceReads
 pub mod SourceFindings
 pub mod TakenPairs
+pub mod KeyComments
+pub mod CommentTexts
+pub mod ViewedComments

@@ -7,7 +7,8 @@ use Rattle.std.specs.declared.io.Error.{Error}
 use Rattle.counted_io.specs.Streams.{Reader, HasRead, HasFailed}
 use Rattle.counted_io.proofs.Streams.{read-none, read-more, failed-more}
 use Rattle.properties_format.specs.Encoding.{Encoding}
-use Rattle.properties_format.specs.Lines.{InputEnd, end, Line, numbered_lines, IsGroups, HasGroups, AreWhole, IsWhole, IsUnfinished, lines_in, joined, first_number}
+use Rattle.properties_format.specs.Lines.{InputEnd, end, Line, numbered_lines, IsGroups, HasGroups, AreWhole, IsWhole, IsUnfinished, lines_in, joined}
+use Rattle.properties_format.specs.Lines.{first_number}
 use Rattle.properties_format.specs.Computed.Encoding.{decoded_of}
 use Rattle.properties_format.specs.Computed.Lines.{lines_of, groups_of, groups_in}
 use Rattle.properties_format.specs.Escapes.{means}

@@ -11,7 +11,8 @@ use Rattle.counted_io.proofs.Streams.{read-none, read-more}
 use Rattle.properties_format.specs.Lines.{end}
 use Rattle.properties_items.specs.Line.{content_of}
 use Rattle.java_properties.specs.PropertiesIter.{Iteration, Gives, NextGives, entry_of}
-use Rattle.java_properties.specs.ReadLines.{entries_in, KeyAndValue, pair_in, pairs_among, GivesLines, IsCalledOn, CallableOnPairs, last_answer, HasReadAll, HasReadFirst, WereToCome, ReadsInto}
+use Rattle.java_properties.specs.ReadLines.{entries_in, KeyAndValue, pair_in, pairs_among, GivesLines, IsCalledOn, CallableOnPairs, last_answer, HasReadAll}
+use Rattle.java_properties.specs.ReadLines.{HasReadFirst, WereToCome, ReadsInto}
 use Rattle.properties_items.specs.declared.error.PropertiesError.{PropertiesError}
 use Rattle.properties_items.specs.declared.line.Line.{Line}
 use Rattle.properties_items.specs.declared.line.LineContent.{LineContent}

@@ -25,7 +25,8 @@ WritesIfPair sink old (comment text) result new = (result ≡ Ok tt) × (new ≡
 WritesIfPair sink old (pair key value) result new = WritesLine sink old (pair key value) result new
 
 -- The next item was read. If it is a pair, it was written.
-pub record CopiesItem {R W : Type 0} (reader : Reader R) (sink : Sink W) (old : Iteration R) (writer : Writing W) (new : Iteration R) (written : Writing W) : Type 0 where
+pub record CopiesItem {R W : Type 0} (reader : Reader R) (sink : Sink W) (old : Iteration R) (writer : Writing W) (new : Iteration R)
+    (written : Writing W) : Type 0 where
   pub number : ℕ
   pub content : Content
   pub gives : GivesEntry reader old.state old.reader (item number content) new.state new.reader
@@ -38,14 +39,16 @@ pub record CopiesNone {R W : Type 0} (reader : Reader R) (old : Iteration R) (wr
   pub same : written ≡ writer
 
 -- No item could be read, nothing was written, and the iterator is at its end.
-pub record FailsToRead {R W : Type 0} (reader : Reader R) (old : Iteration R) (writer : Writing W) (error : PropertiesError) (new : Iteration R) (written : Writing W) : Type 0 where
+pub record FailsToRead {R W : Type 0} (reader : Reader R) (old : Iteration R) (writer : Writing W) (error : PropertiesError) (new : Iteration R)
+    (written : Writing W) : Type 0 where
   pub live : old.state.is_done ≡ false
   pub done : new.state.is_done ≡ true
   pub why : GivesError reader old.state old.reader error new.reader
   pub same : written ≡ writer
 
 -- The next item is a pair, and writing it failed.
-pub record FailsToWrite {R W : Type 0} (reader : Reader R) (sink : Sink W) (old : Iteration R) (writer : Writing W) (error : PropertiesError) (new : Iteration R) (written : Writing W) : Type 0 where
+pub record FailsToWrite {R W : Type 0} (reader : Reader R) (sink : Sink W) (old : Iteration R) (writer : Writing W) (error : PropertiesError)
+    (new : Iteration R) (written : Writing W) : Type 0 where
   pub number : ℕ
   pub key : List ℕ
   pub value : List ℕ
@@ -55,8 +58,10 @@ pub record FailsToWrite {R W : Type 0} (reader : Reader R) (sink : Sink W) (old 
 
 -- Items were copied in turn. Then no more came; or reading the next one failed; or writing it did.
 pub data Copies {R W : Type 0} (reader : Reader R) (sink : Sink W) : Iteration R → Writing W → Result Unit CopyError → Iteration R → Writing W → Type 0 where
-  goes_on : {old : Iteration R} {writer : Writing W} {result : Result Unit CopyError} {new : Iteration R} {written : Writing W} (between : Iteration R) (so_far : Writing W)
-      → CopiesItem reader sink old writer between so_far → Copies reader sink between so_far result new written → Copies reader sink old writer result new written
+  goes_on : {old : Iteration R} {writer : Writing W} {result : Result Unit CopyError} {new : Iteration R} {written : Writing W} (between : Iteration R)
+      (so_far : Writing W)
+      → CopiesItem reader sink old writer between so_far → Copies reader sink between so_far result new written
+      → Copies reader sink old writer result new written
   ends : {old : Iteration R} {writer : Writing W} {result : Result Unit CopyError} {new : Iteration R} {written : Writing W}
       → result ≡ Ok tt → CopiesNone reader old writer new written → Copies reader sink old writer result new written
   stops_reading : {old : Iteration R} {writer : Writing W} {result : Result Unit CopyError} {new : Iteration R} {written : Writing W} (error : PropertiesError)

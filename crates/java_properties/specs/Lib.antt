@@ -16,3 +16,4 @@ pub mod Maps
 pub mod WholeSources
 pub mod Private
 pub mod Findings
+pub mod Commented

@@ -99,7 +99,8 @@ WritesPairs sink a pairs old (Ok done) new = PutsWhole sink old (wrote a default
 WritesPairs sink a pairs old (Err error) new = StopsInPairs sink a pairs old error new
 
 -- The result of writing a map: its pairs were written, in the order of their keys, or why that stopped.
-pub record WritesEntries {W Y Z : Type 0} (sink : Sink W) (a : Encoding) (entries : Entries Y Z) (old : W) (result : Result Unit PropertiesError) (new : W) : Type 0 where
+pub record WritesEntries {W Y Z : Type 0} (sink : Sink W) (a : Encoding) (entries : Entries Y Z) (old : W) (result : Result Unit PropertiesError)
+    (new : W) : Type 0 where
   pub pairs : List Texts
   pub in_order : AreInOrder entries pairs
   pub writes : WritesPairs sink a pairs old result new
@@ -134,7 +135,8 @@ pub record IsMapReadBack {W Y Z : Type 0} (sink : Sink W) (a : Encoding) (entrie
 -- Writing stopped as it stops for a new writer that is asked to write the map's pairs in order and then to flush. What
 -- the calls before the failed one wrote reads back as their pairs, one per line, and as nothing else. What the sink
 -- took after that, at most a part of the next line, is determined by the call that failed.
-pub record IsMapReadBackBefore {W Y Z : Type 0} (sink : Sink W) (a : Encoding) (entries : Entries Y Z) (old : W) (error : PropertiesError) (new : W) : Type 0 where
+pub record IsMapReadBackBefore {W Y Z : Type 0} (sink : Sink W) (a : Encoding) (entries : Entries Y Z) (old : W) (error : PropertiesError)
+    (new : W) : Type 0 where
   pub pairs : List Texts
   pub in_order : AreInOrder entries pairs
   pub writer : Writing W
@@ -172,7 +174,8 @@ WritesLines sink old pairs (Ok done) new = HasWrittenLines sink old pairs new
 WritesLines sink old pairs (Err error) new = StopsAtLine sink old pairs error new
 
 -- The lines of a map's pairs were written, in the order of their keys, or why that stopped.
-pub record WritesEntryLines {W Y Z : Type 0} (sink : Sink W) (old : Writing W) (entries : Entries Y Z) (result : Result Unit PropertiesError) (new : Writing W) : Type 0 where
+pub record WritesEntryLines {W Y Z : Type 0} (sink : Sink W) (old : Writing W) (entries : Entries Y Z) (result : Result Unit PropertiesError)
+    (new : Writing W) : Type 0 where
   pub pairs : List Texts
   pub in_order : AreInOrder entries pairs
   pub writes : WritesLines sink old pairs result new
@@ -203,7 +206,8 @@ pub record AreAllReadBack {W Y Z : Type 0} (sink : Sink W) (first : Writing W) (
   pub read_back : IsReadBack sink first (calls ++ calls_for pairs) new
 
 -- The line of one of the map's pairs was refused or failed, and what was written before it reads back.
-pub record AreReadBackBefore {W Y Z : Type 0} (sink : Sink W) (first : Writing W) (calls : List Call) (entries : Entries Y Z) (error : PropertiesError) (new : Writing W) : Type 0 where
+pub record AreReadBackBefore {W Y Z : Type 0} (sink : Sink W) (first : Writing W) (calls : List Call) (entries : Entries Y Z) (error : PropertiesError)
+    (new : Writing W) : Type 0 where
   pub before : List Texts
   pub texts : Texts
   pub others : List Texts
@@ -213,13 +217,15 @@ pub record AreReadBackBefore {W Y Z : Type 0} (sink : Sink W) (first : Writing W
   pub fails : WritesLine sink middle (pair (chars texts.0) (chars texts.1)) (Err error) new
 
 -- The writer had failed, and what the calls wrote reads back.
-pub record IsFailedReadBack {W : Type 0} (sink : Sink W) (first : Writing W) (calls : List Call) (old : Writing W) (error : PropertiesError) (new : Writing W) : Type 0 where
+pub record IsFailedReadBack {W : Type 0} (sink : Sink W) (first : Writing W) (calls : List Call) (old : Writing W) (error : PropertiesError)
+    (new : Writing W) : Type 0 where
   pub refuses : RefusesAsFailed old error new
   pub read_back : IsReadBack sink first calls new
 
 -- What was written before and what is written now read back together, one item a line, if all of it was written cleanly.
 abbrev pub LinesReadBackAfter : {W Y Z : Type 0} → Sink W → Writing W → Entries Y Z → Result Unit PropertiesError → Writing W → Type 0
-LinesReadBackAfter sink old entries (Ok done) new = (first : Writing _) (calls : List Call) → IsWrittenCleanly sink first calls old → AreAllReadBack sink first calls entries new
+LinesReadBackAfter sink old entries (Ok done) new = (first : Writing _) (calls : List Call) → IsWrittenCleanly sink first calls old
+    → AreAllReadBack sink first calls entries new
 LinesReadBackAfter sink old entries (Err error) new =
     (first : Writing _) (calls : List Call) → IsWrittenCleanly sink first calls old
     → IsFailedReadBack sink first calls old error new ⊎ AreReadBackBefore sink first calls entries error new

@@ -1,3 +1,4 @@
 pub mod Engine
 pub mod GivenItems
 pub mod LineByLine
+pub mod PassedGroups

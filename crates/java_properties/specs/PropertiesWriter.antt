@@ -30,7 +30,13 @@ separator_of None = default_settings.kv_separator
 separator_of (Some text) = chars (string_bytes text)
 
 abbrev pub settings_of : Inside → Settings
-settings_of s = record { comment_prefix = prefix_of s.comment_prefix; kv_separator = separator_of s.kv_separator; line_ending = ending_of s.line_ending; ascii_only = s.ascii_only; readable = s.readable }
+settings_of s = record {
+  comment_prefix = prefix_of s.comment_prefix;
+  kv_separator = separator_of s.kv_separator;
+  line_ending = ending_of s.line_ending;
+  ascii_only = s.ascii_only;
+  readable = s.readable;
+}
 
 -- The prefix and the separator are always good, and `separator_is_blank` says whether the separator consists only of
 -- blanks.

@@ -33,7 +33,8 @@ pub record IsReading (e : Encoding) (bytes : List ℕ) (ending : InputEnd) (entr
   pub only : (others : List Entry) → IsItems e bytes ending others → others ≡ entries
   pub ascend : NumbersAscend 0 entries
   pub one : HasOneReading e bytes ending
-  pub splitting : (text : List ℕ) (lines : Lines) → IsDecoded e bytes text → (IsByline e bytes lines → IsLines text lines) × (IsLines text lines → IsByline e bytes lines)
+  pub splitting : (text : List ℕ) (lines : Lines) → IsDecoded e bytes text → (IsByline e bytes lines → IsLines text lines)
+      × (IsLines text lines → IsByline e bytes lines)
 
 -- The items or the reading of the bytes begin with these items, whatever comes after the bytes; or the reader is at its
 -- end, and those of the bytes as the whole input begin with these.
@@ -115,7 +116,8 @@ abbrev pub IsCalledOn : {F : Type 0} → (F → String Global → String Global 
 IsCalledOn step = FoldsTo (λ before entry after. step before entry.0 entry.1 tt after)
 
 -- The closure may be called on the next pair, after it was called on the pairs before it and on nothing else.
-abbrev pub CallableOnPairs : {R F : Type 0} → Reader R → (F → String Global → String Global → Unit {0} → F → Type 0) → (F → String Global → String Global → Type 0)
+abbrev pub CallableOnPairs : {R F : Type 0} → Reader R → (F → String Global → String Global → Unit {0} → F → Type 0)
+    → (F → String Global → String Global → Type 0)
     → Iteration R → F → Type 0
 CallableOnPairs {R} {F} reader step pre old f = (lines : List Line) (line : Line) (before after : Iteration R) (g : F) (key value : String Global)
     → GivesLines reader old lines before → IsCalledOn step f (pairs_among lines) g

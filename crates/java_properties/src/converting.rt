@@ -17,7 +17,7 @@ use std::alloc::Global;
 /// Converts a source to another encoding, or makes its escapes readable. Everything else stays: comments, blank lines,
 /// layout, line endings, and the meaning of each key, value and comment.
 ///
-/// A character that the target lacks becomes a `\u` escape, unless it is one already. Characters that the target has
+/// A character that the target doesn't have becomes a `\u` escape, unless it is one already. Characters that the target has
 /// keep their spelling, or become themselves with [`Spelling::Readable`]. Escapes of ASCII characters always stay: an
 /// equals sign in place of `\u003d` might end a key.
 ///
@@ -40,7 +40,8 @@ pub fn convert(
     spelling: Spelling,
 ) -> Result<Vec<u8>, PropertiesError>
     ensures converted { IfOk result (λ bytes.
-        IsConverted (encoding_of encoding) (in_format target) (is_readable spelling) source.now bytes.items) }
+        IsConverted (encoding_of encoding) (in_format target) (is_readable spelling) source.now
+        bytes.items) }
     ensures refused { IfErr result (λ error. IsBareError Memory error) }
 {
     let bytes = convert::convert(alloc, source, encoding, target, spelling)?;

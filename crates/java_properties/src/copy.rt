@@ -61,7 +61,7 @@ impl<W: CountedWrite> PropertiesWriter<W> {
     /// Reads the items to their end and writes each pair, as [`advance`](PropertiesIter::advance),
     /// [`get`](PropertiesIter::get) and [`write`](PropertiesWriter::write) would.
     ///
-    /// After an error of the writing, a further call goes on with the next item.
+    /// After a write error, another call continues with the next item.
     ///
     /// ```text
     /// writer.copy_pairs(&mut items)?;

@@ -60,7 +60,8 @@ impl<R: CountedRead> PropertiesIter<R> {
     /// Creates an iterator that reads windows-1252, unless a byte order mark selects another encoding. It reads nothing
     /// and allocates nothing until the first item is requested. Always returns `Ok`.
     pub fn new(alloc: Global, input: R) -> Result<PropertiesIter<R>, PropertiesError>
-        ensures { IsOkAnd result (λ it. it ≡ record { reader = input; state = start windows_1252; line = [] }) }
+        ensures { IsOkAnd result
+            (λ it. it ≡ record { reader = input; state = start windows_1252; line = [] }) }
     {
         PropertiesIter::new_with_encoding(alloc, input, Encoding::WINDOWS_1252)
     }
@@ -72,7 +73,12 @@ impl<R: CountedRead> PropertiesIter<R> {
         input: R,
         encoding: Encoding,
     ) -> Result<PropertiesIter<R>, PropertiesError>
-        ensures { IsOkAnd result (λ it. it ≡ record { reader = input; state = start (encoding_of encoding); line = [] }) }
+        ensures { IsOkAnd result
+            (λ it. it ≡ record {
+              reader = input;
+              state = start (encoding_of encoding);
+              line = [];
+            }) }
     {
         Ok(PropertiesIter {
             reader: input,

@@ -11,8 +11,13 @@ ghost use Rattle.properties_format.specs.Split.{IsSplit};
 ghost use Rattle.properties_format.specs.Escapes.{IsMeaning};
 ghost use Rattle.properties_format.specs.Settings.{Settings};
 ghost use Rattle.properties_format.specs.Writing.{Call, Pair};
-ghost use Rattle.properties_format.specs.Laws.{HasOne, HasOneReading, ReadingInvertsWriting, EqualBytesOfEqualPairs, WritingAnewChangesNothing, MapIsReadBack, SplittingCommutes, LineEndingsSeparatePieces};
-ghost use Rattle.properties_format.specs.Converting.{ConvertingKeepsItems, ConvertingKeepsLogicalLines, ConvertingKeepsEndings, ConvertsToOne, ConvertingGivesAscii, ConvertingTwiceIsConvertingOnce, ReadableAnyway, KeptIsItself, AsciiIsItself};
+ghost use Rattle.properties_format.specs.Laws.{HasOne, HasOneReading, ReadingInvertsWriting, EqualBytesOfEqualPairs};
+ghost use Rattle.properties_format.specs.Laws.{WritingAnewChangesNothing, MapIsReadBack, SplittingCommutes};
+ghost use Rattle.properties_format.specs.Laws.{LineEndingsSeparatePieces};
+ghost use Rattle.properties_format.specs.Converting.{ConvertingKeepsItems, ConvertingKeepsLogicalLines};
+ghost use Rattle.properties_format.specs.Converting.{ConvertingKeepsEndings, ConvertsToOne, ConvertingGivesAscii};
+ghost use Rattle.properties_format.specs.Converting.{ConvertingTwiceIsConvertingOnce, ReadableAnyway, KeptIsItself};
+ghost use Rattle.properties_format.specs.Converting.{AsciiIsItself};
 ghost use Rattle.java_properties.specs.ReadBack.{IsGoodWriter};
 
 use crate::writer::PropertiesWriter;
@@ -29,7 +34,8 @@ pub use properties_editing::laws::editing;
 /// // A proof that comes after may take any two lists of items of the same bytes to be one.
 /// ```
 pub fn one_reading()
-    ensures input { (e : Encoding) (bytes : List ℕ) (ending : InputEnd) → HasOneReading e bytes ending }
+    ensures input { (e : Encoding) (bytes : List ℕ) (ending : InputEnd)
+        → HasOneReading e bytes ending }
     ensures pieces { (e : Encoding) (bytes : List ℕ) → HasOne (IsPieces e bytes) }
     ensures text { (e : Encoding) (bytes : List ℕ) → HasOne (IsDecoded e bytes) }
     ensures lines { (text : List ℕ) → HasOne (IsLines text) }
@@ -50,9 +56,12 @@ pub fn one_reading()
 /// // Proofs that come after may use that what `run_calls` wrote has exactly the items of its calls.
 /// ```
 pub fn reading_inverts_writing()
-    ensures items { (e : Encoding) (s : Settings) (calls : List Call) → ReadingInvertsWriting e s calls }
-    ensures equal { (e : Encoding) (s : Settings) (ps qs : List Pair) → EqualBytesOfEqualPairs e s ps qs }
-    ensures anew { (e : Encoding) (s : Settings) (ps : List Pair) → WritingAnewChangesNothing e s ps }
+    ensures items { (e : Encoding) (s : Settings) (calls : List Call)
+        → ReadingInvertsWriting e s calls }
+    ensures equal { (e : Encoding) (s : Settings) (ps qs : List Pair)
+        → EqualBytesOfEqualPairs e s ps qs }
+    ensures anew { (e : Encoding) (s : Settings) (ps : List Pair)
+        → WritingAnewChangesNothing e s ps }
     ensures map { (e : Encoding) (s : Settings) (ps : List Pair) → MapIsReadBack e s ps }
 {}
 
@@ -82,7 +91,8 @@ pub fn settings_are_good<W>(writer: &PropertiesWriter<W>)
 /// ```
 pub fn splitting_commutes_with_decoding()
     ensures lines { (e : Encoding) (bytes : List ℕ) → SplittingCommutes e bytes }
-    ensures parts { (e : Encoding) (before : List ℕ) (c : ℕ) (after : List ℕ) → LineEndingsSeparatePieces e before c after }
+    ensures parts { (e : Encoding) (before : List ℕ) (c : ℕ) (after : List ℕ)
+        → LineEndingsSeparatePieces e before c after }
 {}
 
 /// Converting keeps items, logical lines and line endings. The result of a conversion, read in its own encoding, has
@@ -97,9 +107,12 @@ pub fn splitting_commutes_with_decoding()
 /// // A proof that comes after may take what `convert` returned to have the items of the source.
 /// ```
 pub fn converting_keeps_items()
-    ensures items { (e : Encoding) (to : Repertoire) (readable : Bool) (source : List ℕ) (ending : InputEnd) → ConvertingKeepsItems e to readable source ending }
-    ensures lines { (e : Encoding) (to : Repertoire) (readable : Bool) (source : List ℕ) (ending : InputEnd) → ConvertingKeepsLogicalLines e to readable source ending }
-    ensures endings { (e : Encoding) (to : Repertoire) (readable : Bool) (source : List ℕ) → ConvertingKeepsEndings e to readable source }
+    ensures items { (e : Encoding) (to : Repertoire) (readable : Bool) (source : List ℕ)
+        (ending : InputEnd) → ConvertingKeepsItems e to readable source ending }
+    ensures lines { (e : Encoding) (to : Repertoire) (readable : Bool) (source : List ℕ)
+        (ending : InputEnd) → ConvertingKeepsLogicalLines e to readable source ending }
+    ensures endings { (e : Encoding) (to : Repertoire) (readable : Bool) (source : List ℕ)
+        → ConvertingKeepsEndings e to readable source }
 {}
 
 /// Each source has exactly one result. With ASCII as the target, every byte of it is ASCII, and it has the same items in
@@ -116,10 +129,15 @@ pub fn converting_keeps_items()
 /// // A proof that comes after may take a source that was converted twice to be one that was converted once.
 /// ```
 pub fn converting_gives_one()
-    ensures one { (e : Encoding) (to : Repertoire) (readable : Bool) (source : List ℕ) → ConvertsToOne e to readable source }
-    ensures ascii { (e to : Encoding) (readable : Bool) (source : List ℕ) → ConvertingGivesAscii e to readable source }
-    ensures twice { (e : Encoding) (to : Repertoire) (readable : Bool) (source : List ℕ) → ConvertingTwiceIsConvertingOnce e to readable source }
-    ensures anyway { (e : Encoding) (to : Repertoire) (readable : Bool) (source : List ℕ) → ReadableAnyway e to readable source }
+    ensures one { (e : Encoding) (to : Repertoire) (readable : Bool) (source : List ℕ)
+        → ConvertsToOne e to readable source }
+    ensures ascii { (e to : Encoding) (readable : Bool) (source : List ℕ)
+        → ConvertingGivesAscii e to readable source }
+    ensures twice { (e : Encoding) (to : Repertoire) (readable : Bool) (source : List ℕ)
+        → ConvertingTwiceIsConvertingOnce e to readable source }
+    ensures anyway { (e : Encoding) (to : Repertoire) (readable : Bool) (source : List ℕ)
+        → ReadableAnyway e to readable source }
     ensures kept { (e : Encoding) (source : List ℕ) → KeptIsItself e source }
-    ensures kept_ascii { (e : Encoding) (to : Repertoire) (source : List ℕ) → AsciiIsItself e to source }
+    ensures kept_ascii { (e : Encoding) (to : Repertoire) (source : List ℕ)
+        → AsciiIsItself e to source }
 {}

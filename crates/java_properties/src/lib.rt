@@ -17,6 +17,7 @@
 //! ```
 #![tactic(auto)]
 
+mod comments;
 mod converting;
 mod copy;
 mod iter;
@@ -25,6 +26,7 @@ mod maps;
 mod sources;
 mod writer;
 
+pub use comments::comment_of;
 pub use converting::convert;
 pub use copy::CopyError;
 pub use iter::{

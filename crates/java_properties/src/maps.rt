@@ -8,7 +8,9 @@ ghost use Rattle.counted_io.specs.Streams.{IsSameReader, IsSameSink};
 ghost use Rattle.properties_format.specs.Encoding.{output_encoding, windows_1252};
 ghost use Rattle.properties_text.specs.Encoding.{encoding_of, line_of};
 ghost use Rattle.properties_items.specs.Texts.{characters, Entries};
-ghost use Rattle.java_properties.specs.Maps.{texts_of, HasPut, ReadsEntries, ReadsMap, ReadsSorted, WritesPairs, WritesMap, MapReadsBack, WritesMapLines, LinesReadBack, LinesReadBackAfter};
+ghost use Rattle.java_properties.specs.Maps.{texts_of, HasPut, ReadsEntries, ReadsMap, ReadsSorted, WritesPairs};
+ghost use Rattle.java_properties.specs.Maps.{WritesMap, MapReadsBack, WritesMapLines, LinesReadBack};
+ghost use Rattle.java_properties.specs.Maps.{LinesReadBackAfter};
 
 use crate::iter::items::ItemReader;
 use crate::laws;
@@ -78,7 +80,8 @@ pub(crate) trait TextMap: Drop {
 
     // Puts a value at a key.
     fn put(&mut self, key: String, value: String) -> Result<(), AllocError>
-        ensures puts { OnOk result (HasPut (entries self.old) (characters key) (characters value) (entries self.new)) }
+        ensures puts { OnOk result (HasPut (entries self.old) (characters key) (characters value)
+            (entries self.new)) }
         ensures ordered { is_ordered self.new };
 }
 

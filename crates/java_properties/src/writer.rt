@@ -6,7 +6,8 @@ ghost use Rattle.counted_io.specs.Streams.{IsSameSink};
 ghost use Rattle.properties_format.specs.Encoding.{windows_1252, output_encoding};
 ghost use Rattle.properties_format.specs.Items as entry;
 ghost use Rattle.properties_text.specs.Encoding.{encoding_of};
-ghost use Rattle.java_properties.specs.PropertiesWriter.{new_writer, WritesLine, Flushes, SetsPrefix, SetsSeparator, SetsEnding, SetsAsciiOnly, SetsReadable};
+ghost use Rattle.java_properties.specs.PropertiesWriter.{new_writer, WritesLine, Flushes, SetsPrefix, SetsSeparator};
+ghost use Rattle.java_properties.specs.PropertiesWriter.{SetsEnding, SetsAsciiOnly, SetsReadable};
 
 use counted_io::CountedWrite;
 use engine::{Content, Engine};
@@ -88,7 +89,7 @@ impl<W: CountedWrite> PropertiesWriter<W> {
         ensures writes { WritesLine W.CountedWrite self.old (entry.comment (chars comment.now)) result self.new }
         ensures same_sink { IsSameSink W.CountedWrite self.old.sink self.new.sink }
     {
-        // `Ok` is built anew, because passing the result on would copy the space for its error.
+        // A new `Ok`, because passing the result on would copy the space for its error.
         self.engine
             .write_line(&mut self.sink, Content::Comment(comment))?;
         Ok(())
@@ -103,7 +104,7 @@ impl<W: CountedWrite> PropertiesWriter<W> {
             WritesLine W.CountedWrite self.old line result self.new }
         ensures same_sink { IsSameSink W.CountedWrite self.old.sink self.new.sink }
     {
-        // `Ok` is built anew, because passing the result on would copy the space for its error.
+        // A new `Ok`, because passing the result on would copy the space for its error.
         self.engine
             .write_line(&mut self.sink, Content::KVPair(key, value))?;
         Ok(())

@@ -1,14 +1,17 @@
 -- Calls that were made, one after another.
-use Rattle.std.proofs.Common.{◌≡◌, Bool, true, false, ℕ, List, [], ◌∷◌, ◌++◌, refl, ap, sym, ◌∙◌, append-nil, cond, subst, ◌+◌, ◌<◌, ◌≤◌, zero, suc, length, take, drop, get_or, add-one, arith, inl, inr}
+use Rattle.std.proofs.Common.{◌≡◌, Bool, true, false, ℕ, List, [], ◌∷◌, ◌++◌, refl, ap, sym, ◌∙◌, append-nil, cond, subst, ◌+◌, ◌<◌, ◌≤◌, zero, suc, length}
+use Rattle.std.proofs.Common.{take, drop, get_or, add-one, arith, inl, inr}
 use Rattle.std.specs.Prelude.{Some, None, is_some, map, Result, Ok, Err}
 use Rattle.counted_io.specs.Streams.{Sink}
 use Rattle.counted_io.proofs.Streams.{written-none, written-more}
 use Rattle.properties_format.specs.Items.{Content, pair}
 use Rattle.properties_format.specs.Settings.{Settings}
-use Rattle.properties_format.specs.Writing.{Call, comment_call, pair_call, flush_call, is_accepted, settings_after_call, settings_after, line_count_after, written_line, answers, prefix_call, separator_call}
+use Rattle.properties_format.specs.Writing.{Call, comment_call, pair_call, flush_call, is_accepted, settings_after_call, settings_after, line_count_after}
+use Rattle.properties_format.specs.Writing.{written_line, answers, prefix_call, separator_call}
 use Rattle.properties_format.proofs.Writing.{settings_after-append, line_count_after-append, wrote-append, answers-append}
 use Rattle.java_properties.specs.PropertiesWriter.{Writing, HasWrittenLine, with_settings, SetsPrefix, SetsSeparator, with_prefix, with_separator}
-use Rattle.java_properties.specs.Calls.{after_calls, flushed_after, MayMake, MayMakeAll, HasMade, HasMadeCall, FailsInCall, StopsAtCall, is_not_accepted, IsAcceptedResult, Fails, MakesCall}
+use Rattle.java_properties.specs.Calls.{after_calls, flushed_after, MayMake, MayMakeAll, HasMade, HasMadeCall, FailsInCall, StopsAtCall, is_not_accepted}
+use Rattle.java_properties.specs.Calls.{IsAcceptedResult, Fails, MakesCall}
 use Rattle.std.proofs.lemmas.List.{take_all, length-map}
 use Rattle.properties_items.specs.declared.error.PropertiesError.{PropertiesError}
 use Rattle.std.proofs.lemmas.Bool.{false_from_ne_true}
@@ -161,7 +164,8 @@ module _ {W : Type 0} (sink : Sink W) (old new : Writing W) (result : Result Boo
 
   -- the call was accepted or not, and set what it says
   answered : (call : Call) (accepted : Bool) (settings : Settings) → MayMake old.failed call → is_accepted old.settings call ≡ accepted
-      → written_line old.settings call ≡ None → (call ≡ flush_call → ⊥) → settings_after_call old.settings call ≡ settings → new ≡ with_settings old settings → result ≡ Ok accepted
+      → written_line old.settings call ≡ None → (call ≡ flush_call → ⊥) → settings_after_call old.settings call ≡ settings → new ≡ with_settings old settings
+      → result ≡ Ok accepted
       → MakesCall sink old call result new
   answered call accepted settings live said none other set after is = rw is (record {
     answer = sym said;

@@ -5,7 +5,8 @@ use Rattle.std.specs.Global.{Vec}
 use Rattle.counted_io.specs.Streams.{Sink, HasWritten}
 use Rattle.properties_format.specs.Encoding.{output_encoding}
 use Rattle.properties_format.specs.Settings.{Settings}
-use Rattle.properties_format.specs.Writing.{Call, comment_call, settings_after_call, settings_after, wrote, ArePrefixesClean, AreOfScalars, Pair, calls_of, ArePairsOfScalars}
+use Rattle.properties_format.specs.Writing.{Call, comment_call, settings_after_call, settings_after, wrote, ArePrefixesClean, AreOfScalars, Pair, calls_of}
+use Rattle.properties_format.specs.Writing.{ArePairsOfScalars}
 use Rattle.properties_format.specs.Laws.{wrote_pairs, ArePairsReadBack}
 use Rattle.properties_format.proofs.Items.Unique.{items_of-only}
 use Rattle.properties_format.proofs.Laws.{equal-bytes, writing-anew}

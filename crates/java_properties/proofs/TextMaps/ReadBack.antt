@@ -23,7 +23,8 @@ use Rattle.properties_format.specs.Lines.{end}
 use Rattle.properties_format.specs.Items.{IsItems}
 use Rattle.properties_format.specs.Maps.{IsValue}
 use Rattle.properties_format.specs.Settings.{Settings, default_settings}
-use Rattle.properties_format.specs.Writing.{Call, pair_call, flush_call, settings_after, wrote, ArePrefixesClean, AreOfScalars, AreGoodSettings, Pair, calls_of, items_after, AreAccepted, ArePairsOfScalars}
+use Rattle.properties_format.specs.Writing.{Call, pair_call, flush_call, settings_after, wrote, ArePrefixesClean, AreOfScalars, AreGoodSettings, Pair, calls_of}
+use Rattle.properties_format.specs.Writing.{items_after, AreAccepted, ArePairsOfScalars}
 use Rattle.properties_format.specs.Laws.{HasPair, HasNoKey, AreDistinct}
 use Rattle.properties_format.proofs.Items.Unique.{items_of-meets, items_of-only}
 use Rattle.properties_format.proofs.Maps.{value_in-meets, value_in-only, value_in}
@@ -35,7 +36,8 @@ use Rattle.counted_io.proofs.Streams.{written-more}
 use Rattle.java_properties.specs.PropertiesWriter.{Writing}
 use Rattle.java_properties.specs.Calls.{HasMade}
 use Rattle.java_properties.specs.ReadBack.{IsGoodWriter, IsReadBack}
-use Rattle.java_properties.specs.Maps.{WritesMapLines, LinesReadBack, IsWrittenCleanly, LinesReadBackAfter, Texts, entry_texts, calls_for, character_pair, items_for, AreInOrder, IsMapReadBack, WritesPairs, WritesMap, MapReadsBack}
+use Rattle.java_properties.specs.Maps.{WritesMapLines, LinesReadBack, IsWrittenCleanly, LinesReadBackAfter, Texts, entry_texts, calls_for, character_pair}
+use Rattle.java_properties.specs.Maps.{items_for, AreInOrder, IsMapReadBack, WritesPairs, WritesMap, MapReadsBack}
 use Rattle.properties_items.specs.Texts.{Entries, characters, value_at}
 use Rattle.properties_items.specs.declared.error.PropertiesError.{PropertiesError}
 use Rattle.properties_items.proofs.Scalars.{string-scalars}

@@ -59,7 +59,8 @@ AddsIfKey number None old new firsts firsts' = (new ≡ old) × (firsts' ≡ fir
 AddsIfKey number (Some key) old new firsts firsts' = AddsKeyLine number key old new firsts firsts'
 
 -- The key that a logical line with this number and text adds; or memory ran out.
-abbrev pub PushesKey : {Z : Type 0} → ℕ → List ℕ → List code.KeyLine → List (String Z × ℕ) → Result Unit PropertiesError → List code.KeyLine → List (String Z × ℕ) → Type 0
+abbrev pub PushesKey : {Z : Type 0} → ℕ → List ℕ → List code.KeyLine → List (String Z × ℕ) → Result Unit PropertiesError → List code.KeyLine
+    → List (String Z × ℕ) → Type 0
 PushesKey number x old firsts (Ok done) new firsts' = AddsIfKey number (outcome_key (outcome_of x)) old new firsts firsts'
 PushesKey number x old firsts (Err error) new firsts' = IsBareError kind.Memory error
 

@@ -53,7 +53,8 @@ impl ItemReader {
         &mut self,
         reader: &mut R,
     ) -> Option<Result<Found, PropertiesError>>
-        ensures finds { AdvancesTo R.CountedRead (iteration_of self.old reader.old) result (iteration_of self.new reader.new) }
+        ensures finds { AdvancesTo R.CountedRead (iteration_of self.old reader.old) result
+            (iteration_of self.new reader.new) }
         ensures same_reader { IsSameReader R.CountedRead reader.old reader.new }
         ensures nearer { OnSome result (lines_left self.new.state < lines_left self.old.state) }
     {

@@ -102,7 +102,8 @@ trait PairTaker: Drop {
     fn take(&mut self, alloc: Global, key: &str, value: &str) -> Result<(), AllocError>
         ensures { OnOk result ((first : Self) (values : List ℕ → Option (List ℕ))
             → has first self.old values
-            → has first self.new (update bytes_eq values (chars key.now) (Some (chars value.now)))) };
+            → has first self.new (update bytes_eq values (chars key.now)
+            (Some (chars value.now)))) };
 }
 
 // A key that is looked up, and its value.

@@ -7,7 +7,8 @@ ghost use Rattle.properties_format.specs.Settings.{default_settings};
 ghost use Rattle.properties_format.specs.Writing.{is_accepted};
 ghost use Rattle.counted_io.specs.Streams.{IsSameSink};
 ghost use Rattle.properties_text.specs.PrintedTexts.{IsPair};
-ghost use Rattle.java_properties.specs.Private.Engine.{entry_content, writing, repertoire_of, line_bytes, comment_bytes, NumbersLine, SendsLine, takes_span, BuildsPair};
+ghost use Rattle.java_properties.specs.Private.Engine.{entry_content, writing, repertoire_of, line_bytes};
+ghost use Rattle.java_properties.specs.Private.Engine.{comment_bytes, NumbersLine, SendsLine, takes_span, BuildsPair};
 ghost use Rattle.properties_text.specs.Printing.{AppendsOnOk};
 ghost use Rattle.java_properties.specs.PropertiesWriter.{call_of, WritesLine, Flushes};
 
@@ -73,7 +74,8 @@ impl Engine {
         content: Content<'_>,
     ) -> Result<(), PropertiesError>
         ensures writes { let old = writing self.old sink.old in
-            WritesLine W.CountedWrite old (entry_content content.entry) result (writing self.new sink.new) }
+            WritesLine W.CountedWrite old (entry_content content.entry) result
+            (writing self.new sink.new) }
         ensures same_sink { IsSameSink W.CountedWrite sink.old sink.new }
     {
         let number = match self.next_number(self.accepts(content)) {
@@ -81,7 +83,7 @@ impl Engine {
             Err(why) => return Err(make::bare(why)),
         };
         self.build(content)?;
-        // Built anew, as in `write`: passing the result on would copy the space for its error.
+        // A new `Ok`, as in `write`: passing the result on would copy the space for its error.
         match self.send_line(sink, number) {
             Ok(()) => Ok(()),
             Err(fault) => Err(make::write_fault(Some(number), fault)),
@@ -223,7 +225,8 @@ impl Engine {
     #[tactic(auto, using(crate::proofs::Engine::building))]
     fn build_readable(&mut self, key: &str, value: &str) -> Result<(), AllocError>
         requires { self.old.settings.readable ≡ true }
-        ensures printed { let bytes = line_bytes self.old (format.pair (chars key.now) (chars value.now)) in
+        ensures printed { let bytes = line_bytes self.old
+            (format.pair (chars key.now) (chars value.now)) in
             OnOk result (self.new.line ≡ bytes) }
         ensures same { self.new ≡ record self.old { line = self.new.line } }
     {

@@ -6,7 +6,8 @@ ghost use Rattle.properties_format.specs.Text.{is_blanks, is_empty};
 ghost use Rattle.properties_format.specs.Settings.{default_settings};
 ghost use Rattle.properties_format.specs.Computed.Settings.{is_good_prefix, is_good_separator};
 ghost use Rattle.properties_format.specs.Writing.{AreGoodSettings};
-ghost use Rattle.java_properties.specs.PropertiesWriter.{with_ending, with_ascii_only, with_readable, TakesPrefix, TakesSeparator};
+ghost use Rattle.java_properties.specs.PropertiesWriter.{with_ending, with_ascii_only, with_readable, TakesPrefix};
+ghost use Rattle.java_properties.specs.PropertiesWriter.{TakesSeparator};
 ghost use Rattle.properties_items.specs.Line.{ending_of};
 
 use properties_items::error::{PropertiesError, make};

@@ -5,18 +5,21 @@ use Rattle.std.proofs.lemmas.Result.{err_from_is_err_and}
 use Rattle.properties_text.specs.declared.escape.UnescapeError.{UnescapeError}
 use Rattle.properties_text.specs.declared.parse.ParsedSpans.TheVariants.{Comment, KVPair}
 use Rattle.java_properties.specs.Private.Engine.{BuildsPair}
-use Rattle.java_properties.proofs.CopiedLines.{AreFound, empty-is, found-in, blank-is, comment-well, comment-read, comment-unread, key-well, value-well, pair-built, pair-unbuilt}
+use Rattle.java_properties.proofs.CopiedLines.{AreFound, empty-is, found-in, blank-is, comment-well, comment-read, comment-unread, key-well, value-well}
+use Rattle.java_properties.proofs.CopiedLines.{pair-built, pair-unbuilt}
 use Rattle.java_properties.proofs.copy.build_line.Goals as goal
 use Rattle.java_properties.proofs.copy.build_line.Goals.{In-Some-Comment, In-Some-KVPair}
 
 -- where the text of a comment is
-comment : (c : In-Some-Comment) → AreFound c.args.lines.now.encoding c.args.lines.now.at.line c.with_room-bytes.result.now (Some (Comment c.in-Some-Comment.text))
+comment : (c : In-Some-Comment) → AreFound c.args.lines.now.encoding c.args.lines.now.at.line c.with_room-bytes.result.now
+    (Some (Comment c.in-Some-Comment.text))
 comment c =
     let lines = c.args.lines.now in
     let bytes = c.with_room-bytes.result.now in
     let found = c.in-Some-Comment.ensures in
     rw c.in-Some-Comment.field-0-is at
-    (found-in lines.encoding lines.at.line bytes _ (Some c.in-Some-Comment.field-0) c.requires.well c.with_room-bytes.ensures.front c.length-length.ensures found.slices found.places found.text)
+    (found-in lines.encoding lines.at.line bytes _ (Some c.in-Some-Comment.field-0) c.requires.well c.with_room-bytes.ensures.front c.length-length.ensures
+    found.slices found.places found.text)
 
 -- where the key and the value of a pair are
 pair : (c : In-Some-KVPair)
@@ -26,7 +29,8 @@ pair c =
     let bytes = c.with_room-bytes.result.now in
     let found = c.in-Some-KVPair.ensures in
     rw c.in-Some-KVPair.field-0-is at
-    (found-in lines.encoding lines.at.line bytes _ (Some c.in-Some-KVPair.field-0) c.requires.well c.with_room-bytes.ensures.front c.length-length.ensures found.slices found.places found.text)
+    (found-in lines.encoding lines.at.line bytes _ (Some c.in-Some-KVPair.field-0) c.requires.well c.with_room-bytes.ensures.front c.length-length.ensures
+    found.slices found.places found.text)
 
 pub returns-then-length-eq0-clause-builds : goal.returns-then-length-eq0-clause-builds
 returns-then-length-eq0-clause-builds c = grind (arith, empty-is)
@@ -36,13 +40,15 @@ returns-in-None-clause-builds c =
     let lines = c.args.lines.now in
     let bytes = c.with_room-bytes.result.now in
     blank-is lines.encoding lines.at.line bytes
-    (found-in lines.encoding lines.at.line bytes _ None c.requires.well c.with_room-bytes.ensures.front c.length-length.ensures c.in-None.ensures.slices c.in-None.ensures.places c.in-None.ensures.text)
+    (found-in lines.encoding lines.at.line bytes _ None c.requires.well c.with_room-bytes.ensures.front c.length-length.ensures c.in-None.ensures.slices
+    c.in-None.ensures.places c.in-None.ensures.text)
 
 pub check_escapes-requires : goal.check_escapes-requires
 check_escapes-requires c = rw c.encoding.ensures (comment-well _ _ _ _ (comment (goal.at.check_escapes-requires c).In-Some-Comment))
 
 pub returns-in-Ok-clause-builds : goal.returns-in-Ok-clause-builds
-returns-in-Ok-clause-builds c = comment-read _ _ _ _ (comment (goal.at.returns-in-Ok-clause-builds c).In-Some-Comment) (rw c.encoding.ensures at c.in-Ok.ensures)
+returns-in-Ok-clause-builds c = comment-read _ _ _ _ (comment (goal.at.returns-in-Ok-clause-builds c).In-Some-Comment)
+    (rw c.encoding.ensures at c.in-Ok.ensures)
 
 pub returns-in-Err-clause-builds : goal.returns-in-Err-clause-builds
 returns-in-Err-clause-builds c =
@@ -63,7 +69,8 @@ returns-in_err-build_pair-in-Some-KVPair-clause-builds c =
     let error = err_from_is_err_and c.from_residual.result c.from_residual.ensures.1 in
     let Q : UnescapeError → Type 0 = λ v. BuildsPair c.args.engine.now c.spelt.result (Err v) w.line in
     rw error.1
-    (pair-unbuilt _ _ _ _ _ found c.args.engine.now w c.spelt.result key value error.0 (subst Q (sym error.2) c.in_err-build_pair-in-Some-KVPair.ensures.printed))
+    (pair-unbuilt _ _ _ _ _ found c.args.engine.now w c.spelt.result key value error.0
+    (subst Q (sym error.2) c.in_err-build_pair-in-Some-KVPair.ensures.printed))
 
 pub returns-in_ok-build_pair-in-Some-KVPair-clause-builds : goal.returns-in_ok-build_pair-in-Some-KVPair-clause-builds
 returns-in_ok-build_pair-in-Some-KVPair-clause-builds c =

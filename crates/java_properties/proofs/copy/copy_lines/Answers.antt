@@ -5,7 +5,8 @@ use Rattle.java_properties.specs.Private.Engine.{writing}
 use Rattle.java_properties.specs.declared.writer.engine.Engine.{Engine}
 use Rattle.java_properties.specs.Private.GivenItems.{in_utf_8}
 use Rattle.java_properties.proofs.CopiedLines.{unbuilt-no_item}
-use Rattle.java_properties.proofs.Copying.{built-sent, built-unsent, built-refused, copied-start, copied-same, copied-no_pair, copied-pair, copied-unwritten, copied-unread, copied-all, copied-error}
+use Rattle.java_properties.proofs.Copying.{built-sent, built-unsent, built-refused, copied-start, copied-same, copied-no_pair, copied-pair, copied-unwritten}
+use Rattle.java_properties.proofs.Copying.{copied-unread, copied-all, copied-error}
 use Rattle.java_properties.proofs.copy.copy_lines.Goals as goal
 
 pub loop-number-init : goal.loop-number-init
@@ -34,7 +35,8 @@ loop-number-preserved g c =
     record {
       copied = copied-pair h advances.joins built.key built.value after built.outcome built.scalars writes;
       error = advances.error;
-      readable = ap (λ (w : Writing _). w.settings.readable) c.in_default-send_line.ensures.sends.1 ∙ ap (λ (w : Engine). w.settings.readable) c.build_line.ensures.same ∙ c.loop-number.invariant.readable;
+      readable = ap (λ (w : Writing _). w.settings.readable) c.in_default-send_line.ensures.sends.1 ∙ ap (λ (w : Engine). w.settings.readable)
+          c.build_line.ensures.same ∙ c.loop-number.invariant.readable;
       same_reader = c.next_line.ensures.same_reader ∙ c.loop-number.invariant.same_reader;
       same_sink = c.send_line.ensures.same_sink ∙ c.loop-number.invariant.same_sink;
     }

@@ -9,7 +9,8 @@ use Rattle.java_properties.proofs.copy.copy_lines.Given as goal
 
 abbrev pub invariant-loop-number : goal.invariant-loop-number
 invariant-loop-number g l = record {
-  copied : IsCopiedTo (reader g.R.Read g.R.CountedRead) (sink g.W.Write g.W.CountedWrite) (iteration_of (as_text l.fn.lines.at) l.fn.reader) (writing l.fn.engine l.fn.sink)
+  copied : IsCopiedTo (reader g.R.Read g.R.CountedRead) (sink g.W.Write g.W.CountedWrite) (iteration_of (as_text l.fn.lines.at) l.fn.reader)
+      (writing l.fn.engine l.fn.sink)
       l.lines.at.state l.reader (writing l.engine l.sink);
   error : l.lines.error ≡ None;
   readable : l.engine.settings.readable ≡ l.fn.readable;

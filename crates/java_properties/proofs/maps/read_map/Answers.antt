@@ -13,7 +13,8 @@ use Rattle.java_properties.proofs.TextMaps.Reading.{Takes, passed-none, passed-m
 use Rattle.java_properties.proofs.maps.read_map.Goals as goal
 
 -- what is no pair changes nothing
-takes-other : (m : Entries Global Global) (content : LineContent) → ((key value : String Global) → content ≡ KVPair key value → ⊥) → Takes m (format_content content) m
+takes-other : (m : Entries Global Global) (content : LineContent) → ((key value : String Global) → content ≡ KVPair key value → ⊥)
+    → Takes m (format_content content) m
 takes-other m (Comment text) other = refl
 takes-other m (KVPair key value) other = absurd (other key value refl)
 
@@ -41,7 +42,8 @@ loop-item-preserved g c =
 pub loop-item-preserved-in_default-consume_content : goal.loop-item-preserved-in_default-consume_content
 loop-item-preserved-in_default-consume_content g c =
     let next = rw c.in_ok-line.was at c.in-Some.ensures.gives in
-    let other = rw c.consume_content.ensures at (takes-other (g.M.TextMap.entries c.loop-item.map) c.consume_content.result c.in_default-consume_content.not-KVPair) in
+    let other = rw c.consume_content.ensures at (takes-other (g.M.TextMap.entries c.loop-item.map) c.consume_content.result
+    c.in_default-consume_content.not-KVPair) in
     record {
       passed = passed-more c.in_ok-line.line c.loop-item.invariant.passed next other;
       ordered = c.loop-item.invariant.ordered;

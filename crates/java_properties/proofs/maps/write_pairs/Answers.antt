@@ -39,8 +39,10 @@ loop-key-preserved g c =
     let below : c.loop-key.key-index < length items = omega arith in
     let line = rw c.in_ok-write_line.was at c.write_line.ensures.writes in
     record {
-      written = first-more s (line_of c.args.encoding) c.args.writer.now items c.loop-key.key-index c.loop-key-item.result _ _ (writing c.loop-key.engine c.loop-key.writer)
-          (writing c.write_line.new.self c.write_line.new.sink) below c.loop-key-item.is c.as_str.ensures.value c.as_str-in-loop-key.ensures.value held.written line;
+      written = first-more s (line_of c.args.encoding) c.args.writer.now items c.loop-key.key-index c.loop-key-item.result _ _
+          (writing c.loop-key.engine c.loop-key.writer)
+          (writing c.write_line.new.self c.write_line.new.sink) below c.loop-key-item.is c.as_str.ensures.value c.as_str-in-loop-key.ensures.value
+          held.written line;
       same_sink = c.write_line.ensures.same_sink ∙ held.same_sink;
     }
 

@@ -16,7 +16,8 @@ returns-clause-writes g c =
     let all = rw c.in_ok-pairs.was at (map_from_collect c.collect.result c.collect.ensures.ran (YieldsList-from_rest entries c.iter.ensures.rest)) in
     let ordered = sorted-in-order entries pairs all c.iter.ensures.ordered in
     let writes = rw (c.deref.ensures.value, c.from.ensures) at c.write_pairs.ensures.writes in
-    writes-map (sink g.W.Write g.W.CountedWrite) (output_encoding (encoding_of c.args.encoding)) entries (texts_of pairs) c.args.writer.now _ c.write_pairs.result ordered writes
+    writes-map (sink g.W.Write g.W.CountedWrite) (output_encoding (encoding_of c.args.encoding)) entries (texts_of pairs) c.args.writer.now _
+    c.write_pairs.result ordered writes
 
 pub returns-clause-reads_back : goal.returns-clause-reads_back
 returns-clause-reads_back g c = grind (arith, writes-read_back, output_encoding-own, returns-clause-writes)

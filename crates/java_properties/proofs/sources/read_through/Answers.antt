@@ -8,7 +8,11 @@ pub returns-in_err-extend_from_slice-in-Ok-clause-reads : goal.returns-in_err-ex
 returns-in_err-extend_from_slice-in-Ok-clause-reads g c =
     let error = err_from_is_err_and c.from_residual.result c.from_residual.ensures.1 in
     let part = take c.in-Ok.count c.read_counted.new.buf in
-    rw error.1 (inr (record { bytes = c.loop-bytes.bytes.items ++ part; read = read-more c.loop-bytes.invariant.read (record { moved = c.in-Ok.ensures.bytes.0; faultless = c.in-Ok.ensures.faults }); is = error.2 }))
+    rw error.1 (inr (record {
+      bytes = c.loop-bytes.bytes.items ++ part;
+      read = read-more c.loop-bytes.invariant.read (record { moved = c.in-Ok.ensures.bytes.0; faultless = c.in-Ok.ensures.faults });
+      is = error.2;
+    }))
 
 pub returns-in-Err-clause-reads : goal.returns-in-Err-clause-reads
 returns-in-Err-clause-reads g c = inl (record {

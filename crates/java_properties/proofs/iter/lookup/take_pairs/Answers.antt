@@ -8,7 +8,8 @@ use Rattle.properties_format.specs.Items.{given}
 use Rattle.java_properties.specs.Private.LineByLine.{values_after}
 use Rattle.properties_items.proofs.FoundItems.{plain-blank}
 use Rattle.java_properties.proofs.Items.{stopped, ended}
-use Rattle.java_properties.proofs.TakenPairs.{HasTaken, source-memory, taken-start, taken-passed, taken-blank, taken-item, taken-all, taken-refused, taken-error}
+use Rattle.java_properties.proofs.TakenPairs.{HasTaken, source-memory, taken-start, taken-passed, taken-blank, taken-item, taken-all, taken-refused}
+use Rattle.java_properties.proofs.TakenPairs.{taken-error}
 use Rattle.java_properties.proofs.iter.lookup.take_pairs.Given.{Over}
 use Rattle.java_properties.proofs.iter.lookup.take_pairs.Goals as goal
 use Rattle.java_properties.proofs.iter.lookup.take_pairs.Goals.{After-take_found, then-has_backslash+in-Ok, else-has_backslash}

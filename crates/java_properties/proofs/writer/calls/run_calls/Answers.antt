@@ -27,7 +27,8 @@ returns-in_err-accepted-clause-reads_back g c = grind (arith, calls-scalars, run
 pub returns-in_err-accepted-clause-ascii : goal.returns-in_err-accepted-clause-ascii
 returns-in_err-accepted-clause-ascii g c =
     let s = sink g.W.Write g.W.CountedWrite in
-    runs-ascii s c.args.writer.now _ (calls_in c.args.calls.now) _ c.settings_are_good.ensures (calls-scalars c.args.calls.now) (returns-in_err-accepted-clause-runs g c)
+    runs-ascii s c.args.writer.now _ (calls_in c.args.calls.now) _ c.settings_are_good.ensures (calls-scalars c.args.calls.now)
+    (returns-in_err-accepted-clause-runs g c)
 
 pub returns-clause-only : goal.returns-clause-only
 returns-clause-only g c = grind (arith, calls-all, calls-scalars, made-only)

@@ -45,7 +45,8 @@ gives-found g c item found =
 
 -- and a blank line is passed
 passes-blank : (g : Over) (c : After-line-line g) → outcome_of (chars c.line-line.result.now) ≡ ignored
-    → (bytes : List ℕ) × Passed (reader g.R.Read g.R.CountedRead) c.args.self.now.state c.args.reader.now bytes c.next_text.new.self.at.state c.next_text.new.reader
+    → (bytes : List ℕ) × Passed (reader g.R.Read g.R.CountedRead) c.args.self.now.state c.args.reader.now bytes c.next_text.new.self.at.state
+    c.next_text.new.reader
 passes-blank g c none =
     let next = c.in-Some.ensures.joins.0 in
     let new = c.next_text.new.self.at in

@@ -1,0 +1,233 @@
+-- How the comment of a key is found, group by group.
+use Rattle.std.proofs.Common.{◌≡◌, ◌≢◌, ℕ, ◌+◌, ◌==◌, true, false, List, [], ◌∷◌, ◌++◌, length, refl, ap, sym, ◌∙◌, subst, inl, inr, append-nil, append_assoc, length-append, arith}
+use Rattle.std.specs.Prelude.{Bool, ◌&&◌, ◌⊎◌, Option, Some, None}
+use Rattle.std.proofs.lemmas.Bool.{cases_Bool}
+use Rattle.properties_format.specs.Text.{is_blank, is_comment_sign, begins, without_leading_blanks}
+use Rattle.properties_format.specs.Encoding.{Encoding}
+use Rattle.properties_format.specs.Lines.{is_comment_line, is_open, joined, without_last, without_open_backslash}
+use Rattle.properties_format.specs.Split.{Logical, IsComment, IsSplit}
+use Rattle.properties_format.specs.Body.{HeldLine, HasKey, NoneHasKey, as_lines}
+use Rattle.properties_format.specs.Edited.{final_group}
+use Rattle.properties_format.specs.Computed.Body.{has_key, is_pair_with}
+use Rattle.properties_format.specs.Computed.Items.{outcome_of}
+use Rattle.properties_format.proofs.Edited.Made.{has_key-true, has_key-false}
+use Rattle.properties_format.proofs.Edited.Steps.{final_group-push}
+use Rattle.properties_format.proofs.Groups.Joined.{joined-comment_line, joined-one}
+use Rattle.properties_format.proofs.Split.Blanks.{without_leading_blanks-blanks, without_leading_blanks-only}
+use Rattle.properties_format.proofs.Split.Unique.{sign-full}
+use Rattle.properties_format.proofs.Valued.Parts.{comment_line-no_pair}
+use Rattle.properties_editing.specs.Private.Sound.{AreSound}
+use Rattle.properties_editing.specs.Views.{kind_of}
+use Rattle.properties_editing.specs.declared.group.GroupKind.{GroupKind}
+use Rattle.properties_editing.specs.declared.group.GroupKind.TheVariants as kind
+use Rattle.properties_editing.specs.declared.source.Comments.TheVariants.{PassedOver}
+use Rattle.properties_editing.proofs.PassedOver.{sound-join}
+use Rattle.java_properties.specs.Commented.{AreCommentGroups, AreCommentTexts, AreTextsOf, IsCommentGroup, IsCommentLine, IsCommentOf}
+use Rattle.java_properties.specs.Private.PassedGroups.{ArePassed, IsKindOf, IsSoundLine, Texts, after_other, is_comment}
+
+-- ---- comment lines
+
+line-kind : (x : List ℕ) (what : Logical) → is_comment_line x ≡ true → IsSplit x what → kind_of what ≡ kind.Comment
+line-kind x Logical.blank c s = let none : false ≡ true = ap (begins is_comment_sign) (sym (without_leading_blanks-blanks x s)) ∙ c in absurd (cc)
+line-kind x (Logical.comment text) c s = refl
+line-kind x (Logical.pair key value) c s = absurd (comment_line-no_pair x key value c s)
+
+comment-line : (x text : List ℕ) → IsComment x text → is_comment_line x ≡ true
+comment-line x text h =
+    ap (begins is_comment_sign) (ap without_leading_blanks h.whole ∙ without_leading_blanks-only h.indent (h.sign ∷ h.rest) h.indent_blank (sign-full h.sign h.is_sign))
+    ∙ h.is_sign
+
+-- A logical line that is shown as a comment begins with a sign.
+pub shown-comment : (k : GroupKind) (x : List ℕ) → IsKindOf k x → is_comment k ≡ true → is_comment_line x ≡ true
+shown-comment k x (what, s, is) c = by what s (sym (ap is_comment is) ∙ c)
+  where
+    by : (w : Logical) → IsSplit x w → is_comment (kind_of w) ≡ true → is_comment_line x ≡ true
+    by Logical.blank s h = absurd (cc)
+    by (Logical.comment text) s h = comment-line x text s
+    by (Logical.pair key value) s h = absurd (cc)
+
+pub line-comment : (k : GroupKind) (count : ℕ) → (is_comment k && (count == 1)) ≡ true → is_comment k ≡ true
+line-comment k count h = elim (cases_Bool (is_comment k)) [
+  | inl c ↦ c
+  | inr c ↦ let none = rw c at h in absurd (cc)
+]
+
+-- A line that begins with a sign without its last character begins with it.
+last-comment : (x : List ℕ) → begins is_comment_sign (without_leading_blanks (without_last x)) ≡ true → begins is_comment_sign (without_leading_blanks x) ≡ true
+last-comment [] h = absurd (cc)
+last-comment (c ∷ []) h = absurd (cc)
+last-comment (c ∷ d ∷ ds) h = elim (cases_Bool (is_blank c)) [
+  | inl b ↦ rw b (last-comment (d ∷ ds) (rw b at h))
+  | inr b ↦ rw b (rw b at h)
+]
+
+open-comment : (x : List ℕ) → is_comment_line (without_open_backslash x) ≡ true → is_comment_line x ≡ true
+open-comment x h = elim (cases_Bool (is_open x)) [
+  | inl o ↦ last-comment x (rw o at h)
+  | inr o ↦ rw o at h
+]
+
+-- A group of one line that is shown as a comment is a comment line,
+pub group-comment : (k : GroupKind) (g : List HeldLine) (count : ℕ) → IsKindOf k (joined (as_lines g)) → count ≡ length g
+    → (is_comment k && (count == 1)) ≡ true → IsCommentGroup g
+group-comment k [] count is size h = let s = rw size at h in absurd (grind (arith))
+group-comment k (l ∷ []) count is size h =
+    let c : is_comment k ≡ true = grind (arith) in
+    let y = shown-comment k (joined (as_lines (l ∷ []))) is c in
+    elim (cases_Bool (is_comment_line l.text)) [
+      | inl t ↦ t
+      | inr t ↦ open-comment l.text (sym (ap is_comment_line (joined-one (record { number = 0; text = l.text }) t)) ∙ y)
+    ]
+group-comment k (l ∷ m ∷ g) count is size h = let s = rw size at h in absurd (grind (arith))
+
+-- and any other isn't.
+pub group-other : (k : GroupKind) (g : List HeldLine) (count : ℕ) → IsKindOf k (joined (as_lines g)) → count ≡ length g
+    → (is_comment k && (count == 1)) ≡ false → ¬ (IsCommentGroup g)
+group-other k [] count is size h = λ c. c
+group-other k (l ∷ []) count is size h = λ c.
+    let x = joined (as_lines (l ∷ [])) in
+    let y : is_comment_line x ≡ true = ap is_comment_line (joined-comment_line (record { number = 0; text = l.text }) [] c) ∙ c in
+    let t : is_comment k ≡ true = ap is_comment (is.2 ∙ line-kind x is.0 y is.1) in
+    let s = rw (size, t) at h in absurd (grind (arith))
+group-other k (l ∷ m ∷ g) count is size h = λ c. c
+
+-- A comment line makes no pair.
+pub comment-joined : (g : List HeldLine) → IsCommentGroup g → is_comment_line (joined (as_lines g)) ≡ true
+comment-joined [] c = absurd c
+comment-joined (l ∷ []) c = ap is_comment_line (joined-comment_line (record { number = 0; text = l.text }) [] c) ∙ c
+comment-joined (l ∷ m ∷ g) c = absurd c
+
+comment-no_key : (key : List ℕ) (g : List HeldLine) → IsCommentGroup g → ¬ (HasKey key g)
+comment-no_key key g c = λ h. let m = h.1 in comment_line-no_pair (joined (as_lines g)) m.raw_key m.raw_value (comment-joined g c) m.split
+
+-- ---- one group more
+
+none-more : (key : List ℕ) (gs : List (List HeldLine)) (g : List HeldLine) → NoneHasKey key gs → ¬ (HasKey key g) → NoneHasKey key (gs ++ g ∷ [])
+none-more key [] g n h = (h, tt)
+none-more key (f ∷ gs) g n h = (n.0, none-more key gs g n.1 h)
+
+-- A group that isn't a pair with the key leaves its comment as it is.
+pub texts-more : (key : List ℕ) (gs : List (List HeldLine)) (g : List HeldLine) (texts : Option (List (List ℕ))) → ¬ (HasKey key g) → AreTextsOf gs key texts
+    → AreTextsOf (gs ++ g ∷ []) key texts
+texts-more key gs g None h t = none-more key gs g t h
+texts-more key gs g (Some texts) h (is, t) = (
+  record {
+    before = is.before;
+    run = is.run;
+    group = is.group;
+    after = is.after ++ g ∷ [];
+    division = ap (λ v. v ++ g ∷ []) is.division ∙ append_assoc is.before (is.run ++ is.group ∷ is.after) (g ∷ [])
+        ∙ ap (λ v. is.before ++ v) (append_assoc is.run (is.group ∷ is.after) (g ∷ []));
+    has_key = is.has_key;
+    no_later = none-more key is.after g is.no_later h;
+    are_comments = is.are_comments;
+    no_earlier = is.no_earlier;
+  },
+  t,
+)
+
+comments-more : (gs : List (List HeldLine)) (g : List HeldLine) → AreCommentGroups gs → IsCommentGroup g → AreCommentGroups (gs ++ g ∷ [])
+comments-more [] g c h = (h, tt)
+comments-more (f ∷ gs) g c h = (c.0, comments-more gs g c.1 h)
+
+above-more : (gs : List (List HeldLine)) (g : List HeldLine) (texts : List (List ℕ)) (text : List ℕ) → AreCommentTexts gs texts → IsCommentLine (joined (as_lines g)) text
+    → AreCommentTexts (gs ++ g ∷ []) (texts ++ text ∷ [])
+above-more [] g texts text none h = (text, [], h, ap (λ v. v ++ text ∷ []) none, refl)
+above-more (f ∷ gs) g texts text (first, more, is, whole, rest) h =
+    (first, more ++ text ∷ [], is, ap (λ v. v ++ text ∷ []) whole, above-more gs g more text rest h)
+
+-- ---- the groups that were passed
+
+-- These texts are what is known after these groups, in the pairs of which no escape is malformed.
+pub record HavePassed (key : List ℕ) (passed : List (List HeldLine)) (texts : Texts) : Type 0 where
+  pub before : List (List HeldLine)
+  pub run : List (List HeldLine)
+  pub division : passed ≡ before ++ run
+  pub are_comments : AreCommentGroups run
+  pub no_earlier : ¬ (IsCommentGroup (final_group before))
+  pub are_above : AreCommentTexts run texts.above
+  pub are_texts : AreTextsOf passed key texts.comment
+  pub sound : AreSound passed
+
+pub passed-none : (key : List ℕ) → HavePassed key [] (record { above = []; comment = None })
+passed-none key = record {
+  before = [];
+  run = [];
+  division = refl;
+  are_comments = tt;
+  no_earlier = λ c. c;
+  are_above = refl;
+  are_texts = tt;
+  sound = tt;
+}
+
+-- a comment line
+passed-line : {key : List ℕ} {passed : List (List HeldLine)} {texts : Texts} (g : List HeldLine) (text : List ℕ) → HavePassed key passed texts → IsCommentGroup g
+    → IsCommentLine (joined (as_lines g)) text → HavePassed key (passed ++ g ∷ []) (record { above = texts.above ++ text ∷ []; comment = texts.comment })
+passed-line {key} {passed} {texts} g text h c is = record {
+  before = h.before;
+  run = h.run ++ g ∷ [];
+  division = ap (λ v. v ++ g ∷ []) h.division ∙ append_assoc h.before h.run (g ∷ []);
+  are_comments = comments-more h.run g h.are_comments c;
+  no_earlier = h.no_earlier;
+  are_above = above-more h.run g texts.above text h.are_above is;
+  are_texts = texts-more key passed g texts.comment (comment-no_key key g c) h.are_texts;
+  sound = sound-join PassedOver passed (g ∷ []) h.sound (inr (comment-joined g c), tt);
+}
+
+-- another group
+passed-other : {key : List ℕ} {passed : List (List HeldLine)} {texts : Texts} (g : List HeldLine) (comment : Option (List (List ℕ))) → HavePassed key passed texts
+    → ¬ (IsCommentGroup g) → IsSoundLine (joined (as_lines g)) → AreTextsOf (passed ++ g ∷ []) key comment
+    → HavePassed key (passed ++ g ∷ []) (record { above = []; comment = comment })
+passed-other {key} {passed} {texts} g comment h other sound are = record {
+  before = passed ++ g ∷ [];
+  run = [];
+  division = sym (append-nil (passed ++ g ∷ []));
+  are_comments = tt;
+  no_earlier = subst (λ l. ¬ (IsCommentGroup l)) (sym (final_group-push passed g)) other;
+  are_above = refl;
+  are_texts = are;
+  sound = sound-join PassedOver passed (g ∷ []) h.sound (sound, tt);
+}
+
+-- A pair with the key has the comment lines directly above it.
+texts-above : {key : List ℕ} {passed : List (List HeldLine)} {texts : Texts} (g : List HeldLine) → HavePassed key passed texts → HasKey key g
+    → AreTextsOf (passed ++ g ∷ []) key (Some texts.above)
+texts-above {key} {passed} {texts} g h k = (
+  record {
+    before = h.before;
+    run = h.run;
+    group = g;
+    after = [];
+    division = ap (λ v. v ++ g ∷ []) h.division ∙ append_assoc h.before h.run (g ∷ []);
+    has_key = k;
+    no_later = tt;
+    are_comments = h.are_comments;
+    no_earlier = h.no_earlier;
+  },
+  h.are_above,
+)
+
+-- One more group was passed.
+pub passed-more : {key : List ℕ} {passed : List (List HeldLine)} {old : Texts} (k : GroupKind) (count : ℕ) (g : List HeldLine) (new : Texts) → HavePassed key passed old
+    → IsKindOf k (joined (as_lines g)) → count ≡ length g → ArePassed (is_comment k && (count == 1)) (joined (as_lines g)) key old new
+    → HavePassed key (passed ++ g ∷ []) new
+passed-more {key} {passed} {old} k count g new h is size p = elim (cases_Bool (is_comment k && (count == 1))) [
+  | inl l ↦
+      let q = rw l at p in
+      subst (HavePassed key (passed ++ g ∷ [])) (sym q.2) (passed-line g q.0 h (group-comment k g count is size l) q.1)
+  | inr l ↦
+      let q = rw l at p in
+      let other = group-other k g count is size l in
+      elim (cases_Bool (has_key key g)) [
+        | inl has ↦ subst (HavePassed key (passed ++ g ∷ [])) (sym (q.1 ∙ ap (λ b. after_other b old) has))
+            (passed-other g (Some old.above) h other q.0 (texts-above g h (has_key-true key g has)))
+        | inr has ↦ subst (HavePassed key (passed ++ g ∷ [])) (sym (q.1 ∙ ap (λ b. after_other b old) has))
+            (passed-other g old.comment h other q.0 (texts-more key passed g old.comment (has_key-false key g has) h.are_texts))
+      ]
+]
+
+-- A group that isn't a comment line, given whether it is a pair with the key.
+pub passed-pair : (key x : List ℕ) (is_line has : Bool) (old new : Texts) → is_line ≡ false → (has ≡ is_pair_with key (outcome_of x)) × IsSoundLine x
+    → new ≡ after_other has old → ArePassed is_line x key old new
+passed-pair key x is_line has old new l h n = rw l (h.1, n ∙ ap (λ b. after_other b old) h.0)

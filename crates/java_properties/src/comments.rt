@@ -1,0 +1,161 @@
+// The comments of keys: the comment lines directly above a pair.
+
+ghost use Rattle.std.specs.Prelude.{◌≡◌, bytes_eq, true, OnOk};
+ghost use Rattle.std.specs.Str.{chars};
+ghost use Rattle.properties_format.specs.Lines.{is_comment_line};
+ghost use Rattle.properties_text.specs.Encoding.{encoding_of};
+ghost use Rattle.java_properties.specs.Commented.{IsCommentLine, TellsComment};
+ghost use Rattle.java_properties.specs.Private.PassedGroups.{AddsLine, IsKindOf, PassesGroup, TellsKey, after_other, is_line_of_comment, texts_of, without_first_blank};
+
+use properties_editing::{GroupKind, View, ViewedGroup};
+use properties_items::error::PropertiesError;
+use properties_items::found::{find_item, pair_texts};
+use properties_text::encoding::Encoding;
+use properties_text::parse::leading_blanks;
+use std::alloc::{AllocError, Global};
+use std::mem;
+
+/// Returns the comment of a key: the texts of all comment lines directly above the last pair with the key, or `None` if
+/// no pair has it.
+///
+/// No blank line and no pair is between them. A text is what follows the sign and one blank, as it is written: escapes
+/// stay, since Java resolves none in a comment. A byte order mark at the front overrides the encoding.
+///
+/// UTF-16 is refused. A source with a malformed escape in a pair is refused with the error of the first one; a comment
+/// may have any text.
+///
+/// ```text
+/// let source = b"# the user\n# of C:\\data\nuser = app\n";
+/// if let Some(texts) = comment_of(alloc, source, Encoding::UTF_8, "user")? {
+///     // They are `the user` and `of C:\data`.
+///     assert!(rt; texts.len() == 2);
+/// }
+/// ```
+pub fn comment_of(
+    alloc: Global,
+    source: &[u8],
+    encoding: Encoding,
+    key: &str,
+) -> Result<Option<Vec<String>>, PropertiesError>
+    ensures { TellsComment (encoding_of encoding) source.now (chars key.now) result }
+{
+    let mut view = View::open(alloc, source, encoding)?;
+    let mut passed = Passed {
+        above: Vec::new(alloc),
+        comment: None,
+    };
+    while let Some(group) = view.next()? {
+        passed.pass(alloc, group, view.line(), key)?;
+    }
+    Ok(passed.comment)
+}
+
+// What is known of a key after some groups.
+#[derive(Drop)]
+struct Passed {
+    // The texts of the comment lines that came last, with no other group behind them.
+    above: Vec<String>,
+    // The comment of the last pair with the key.
+    comment: Option<Vec<String>>,
+}
+
+impl Passed {
+    // Passes one more group, of which this is the logical line.
+    fn pass(
+        &mut self,
+        alloc: Global,
+        group: ViewedGroup,
+        line: &str,
+        key: &str,
+    ) -> Result<(), PropertiesError>
+        requires kind { IsKindOf group.kind (chars line.now) }
+        ensures { PassesGroup (is_line_of_comment group) group.line_number (chars line.now) (chars key.now)
+            (texts_of self.old) result (texts_of self.new) }
+    {
+        if is_comment_line(group) {
+            return Ok(self.add_line(alloc, line)?);
+        }
+        if has_key(alloc, group, line, key)? {
+            self.keep(alloc);
+        } else {
+            self.above.clear();
+        }
+        Ok(())
+    }
+
+    // Adds the text of a comment line.
+    fn add_line(&mut self, alloc: Global, line: &str) -> Result<(), AllocError>
+        requires { is_comment_line (chars line.now) ≡ true }
+        ensures { OnOk result (AddsLine (chars line.now) (texts_of self.old) (texts_of self.new)) }
+    {
+        self.above
+            .push(String::from_str(alloc, comment_text(line))?)?;
+        Ok(())
+    }
+
+    // Makes the comment lines that came last the comment of the key.
+    fn keep(&mut self, alloc: Global)
+        ensures { texts_of self.new ≡ after_other true (texts_of self.old) }
+    {
+        let above = mem::replace(&mut self.above, Vec::new(alloc));
+        self.comment = Some(above);
+    }
+}
+
+// Returns whether a group is a comment line. A comment that joining lines makes is none.
+fn is_comment_line(group: ViewedGroup) -> bool
+    ensures { result ≡ is_line_of_comment group }
+{
+    match group.kind {
+        GroupKind::Comment => group.line_count == 1,
+        _ => false,
+    }
+}
+
+// Returns the text of a comment line: what follows its sign and one blank.
+fn comment_text(line: &str) -> &str
+    requires { is_comment_line (chars line.now) ≡ true }
+    ensures { IsCommentLine (chars line.now) (chars result.now) }
+{
+    let sign = leading_blanks(line.as_bytes());
+    without_first_blank(&line[sign + 1..])
+}
+
+// Returns the text without the blank that it begins with, if it begins with one.
+fn without_first_blank(text: &str) -> &str
+    ensures { chars result.now ≡ without_first_blank (chars text.now) }
+{
+    let blanks = leading_blanks(text.as_bytes());
+    if blanks == 0 {
+        return text;
+    }
+    &text[1..]
+}
+
+// Returns whether a group, of which this is the logical line, is a pair with the key.
+fn has_key(
+    alloc: Global,
+    group: ViewedGroup,
+    line: &str,
+    key: &str,
+) -> Result<bool, PropertiesError>
+    requires { IsKindOf group.kind (chars line.now) }
+    ensures { TellsKey group.line_number (chars line.now) (chars key.now) result }
+{
+    let GroupKind::Pair = group.kind else {
+        return Ok(false);
+    };
+    let Some(found) = find_item(alloc, group.line_number, line)? else {
+        return Ok(false);
+    };
+    match pair_texts(&found, line) {
+        Some((found_key, _)) => Ok(is_same(found_key, key)),
+        None => Ok(false),
+    }
+}
+
+fn is_same(found: &str, key: &str) -> bool
+    ensures { result ≡ bytes_eq (chars found.now) (chars key.now) }
+{
+    found == key
+}

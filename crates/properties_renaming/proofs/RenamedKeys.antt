@@ -1,0 +1,564 @@
+-- How a key is renamed, group after group of a view.
+use Rattle.std.proofs.Common.{inl, inr, ◌≡◌, ◌≢◌, ◌<◌, ◌≤◌, ℕ, zero, suc, ◌+◌, ◌-◌, Bool, true, false, List, [], ◌∷◌, ◌++◌, length, take, drop, refl, sym, ap, ap₂, ◌∙◌, subst, arith, append_assoc, append-nil, length-append, lit<}
+use Rattle.std.specs.Prelude.{◌⊎◌, ◌==◌, ◌&&◌, not, bytes_eq, Option, Some, None, Ok}
+use Rattle.std.specs.Global.{Vec}
+use Rattle.std.specs.Option.{unwrap_or}
+use Rattle.std.specs.Str.{chars}
+use Rattle.std.proofs.Math.Seq.{drop-append-add, drop-append_seam, take-add, take-append_seam}
+use Rattle.std.proofs.lemmas.Bool.Decides.{nat_tests}
+use Rattle.std.proofs.lemmas.List.{drop-append-le, drop-drop, length-drop, length-take-le, take-append-drop, take-append-le}
+use Rattle.std.proofs.lemmas.Str.{chars-nil}
+use Rattle.std.proofs.lemmas.Slice.Eq.{bytes_eq-Decides}
+use Rattle.properties_format.specs.Text.{equals_sign, is_blanks, is_empty}
+use Rattle.properties_format.specs.Encoding.{Characters, Encoding, InForce, Repertoire, byte_order_mark, in_encoding, in_force, output_encoding}
+use Rattle.properties_format.specs.Split.{Logical, blank, comment, pair, IsSplit}
+use Rattle.properties_format.specs.Printing.{encoded_text, printed_key}
+use Rattle.properties_format.specs.Lines.{joined}
+use Rattle.properties_format.specs.Body.{HeldLine, HasKey, NoneHasKey, as_lines, group_bytes, groups_bytes, held_in}
+use Rattle.properties_format.specs.Items as entry
+use Rattle.properties_format.specs.Items.{Outcome, broken, given, ignored}
+use Rattle.properties_items.specs.BorrowedItems.{outcome_pair}
+use Rattle.properties_format.specs.Computed.Body.{has_key}
+use Rattle.properties_format.specs.Computed.Valued.{between_if_pair, between_in}
+use Rattle.properties_format.specs.Edited.{bom_of, is_editable}
+use Rattle.properties_format.proofs.Edited.ByteOrderMarks.{source-whole}
+use Rattle.properties_format.proofs.Edited.Pair.{editable-own}
+use Rattle.properties_format.proofs.Edited.Made.{has_key-true, HasKey-test}
+use Rattle.properties_format.proofs.Printing.Characters.{encoded-ascii}
+use Rattle.properties_format.proofs.Split.Unique.{split_of-only}
+use Rattle.properties_format.proofs.Valued.Parts.{between_in-pair}
+use Rattle.properties_text.specs.Parsing.{bytes_in}
+use Rattle.properties_text.specs.Printing.{in_format, key_bytes, puts_of}
+use Rattle.properties_text.specs.declared.parse.Span.{Span}
+use Rattle.properties_text.specs.declared.print.Repertoire as code
+use Rattle.properties_editing.specs.Private.BodyValues.{IsBetweenAt}
+use Rattle.properties_editing.specs.Private.Sources.{PrintsIn}
+use Rattle.properties_editing.specs.Editing.{MakesEditsFor}
+use Rattle.properties_editing.specs.declared.source.Comments.{Comments}
+use Rattle.properties_editing.specs.declared.source.Comments.TheVariants.{PassedOver, Read}
+use Rattle.properties_editing.specs.Views.{GivesNext, AreGiven, AreOfPair, IsViewOf, ArePlaces, OpenView, TakesNext, line_of, past, size_before}
+use Rattle.properties_editing.specs.declared.group.PartPlaces.{PartPlaces}
+use Rattle.properties_editing.specs.declared.group.ViewedGroup.{ViewedGroup}
+use Rattle.properties_renaming.specs.Renaming.{AreAlike, ArePrinted, AreRekeyed, IsRekeyed, IsRenamed, Replaced, with_new, with_old, is_join, key_text, later, past_joins}
+use Rattle.properties_renaming.specs.Private.Copied.{IsNew, IsReplacedIn, copied_to}
+use Rattle.properties_renaming.specs.Private.Renaming.{Names, PrintsKeys, IsAnyPair, IsRekeyedIn, IsSlice, TellsTaken, TellsThere, AreRenamed}
+use Rattle.properties_renaming.specs.declared.copied.Copied.{Copied}
+use Rattle.properties_renaming.specs.declared.renaming.Named.{Named}
+use Rattle.properties_renaming.specs.declared.renaming.Named.TheVariants.{Old, New, Other}
+use Rattle.properties_renaming.specs.declared.renaming.NewKey.{NewKey}
+
+-- ---- what joins lines before a key
+
+pub join-more : (bytes : List ℕ) (at : ℕ) → is_join (drop at bytes) ≡ true
+    → (past_joins (drop (at + 1) bytes) ≡ past_joins (drop at bytes)) × (at < length bytes)
+join-more [] zero h = absurd (cc)
+join-more [] (suc at) h = absurd (cc)
+join-more (b ∷ bs) zero h = (rw h refl, omega arith)
+join-more (b ∷ bs) (suc at) h =
+    let more = join-more bs at h in
+    let same : suc at + 1 ≡ suc (at + 1) = omega arith in (ap (λ n. past_joins (drop n (b ∷ bs))) same ∙ more.0, omega arith)
+
+pub join-stops : (bytes : List ℕ) → is_join bytes ≡ false → past_joins bytes ≡ bytes
+join-stops [] h = refl
+join-stops (b ∷ bs) h = rw h refl
+
+-- ---- places
+
+pub later-add : (a m n : ℕ) → later (a + m) (a + n) ≡ a + later m n
+later-add a m n = grind (arith, nat_tests)
+
+pub later-bound : (m n most : ℕ) → m ≤ most → n ≤ most → later m n ≤ most
+later-bound m n most h k = grind (arith, nat_tests)
+
+pub later-first : (m n : ℕ) → m ≤ later m n
+later-first m n = grind (arith, nat_tests)
+
+pub front-empty : (bytes : List ℕ) (start n : ℕ) → n ≤ length bytes → (start + n == start) ≡ is_empty (take n bytes)
+front-empty bytes start zero h = grind (arith, nat_tests)
+front-empty [] start (suc n) h = absurd (omega arith)
+front-empty (b ∷ bs) start (suc n) h = grind (arith, nat_tests)
+
+-- ---- a group that is a pair
+
+pub has-pair : (key : List ℕ) (g : List HeldLine) → has_key key g ≡ true → IsAnyPair (joined (as_lines g))
+has-pair key g h = let k = (has_key-true key g h).1 in (k.raw_key, k.raw_value, k.split)
+
+same-split : (x : List ℕ) (p q : Logical) → IsSplit x p → IsSplit x q → p ≡ q
+same-split x p q h k = split_of-only x p h ∙ sym (split_of-only x q k)
+
+pub pair-places : (v : OpenView) (places : PartPlaces) → ArePlaces v places → IsAnyPair (line_of v)
+    → (key : List ℕ) × (value : List ℕ) × AreOfPair v key value places
+pair-places v places (blank, d) (k, w, p) = let same = same-split (line_of v) blank (pair k w) d.0 p in absurd (cc)
+pair-places v places (comment text, d) (k, w, p) = let same = same-split (line_of v) (comment text) (pair k w) d.is_comment p in absurd (cc)
+pair-places v places (pair key value, d) p = (key, value, d)
+
+-- ---- copies of the source
+
+pub copied-more : (c : Copied) (place n : ℕ) → c.done ≤ place → copied_to c (place + n) ≡ copied_to c place ++ take n (drop place c.source.now)
+copied-more c place n h =
+    let s = c.source.now in
+    let count : place + n - c.done ≡ (place - c.done) + n = omega arith in
+    let at : c.done + (place - c.done) ≡ place = omega arith in
+    let rest : drop (place - c.done) (drop c.done s) ≡ drop place s = drop-drop (place - c.done) c.done s ∙ ap (λ k. drop k s) at in
+    ap (λ v. c.bytes.items ++ v)
+    (ap (λ k. take k (drop c.done s)) count ∙ take-add (place - c.done) n (drop c.done s) ∙ ap (λ v. take (place - c.done) (drop c.done s) ++ take n v) rest)
+    ∙ sym (append_assoc c.bytes.items (take (place - c.done) (drop c.done s)) (take n (drop place s)))
+
+-- the source from a group on begins with the group
+slice-front : (v : OpenView) (s : List ℕ) → IsSlice v s
+    → drop v.start s ≡ group_bytes v.group ++ drop (length (group_bytes v.group)) (drop v.start s)
+slice-front v s h =
+    let size = length (group_bytes v.group) in
+    sym (take-append-drop size (drop v.start s)) ∙ ap (λ w. w ++ drop size (drop v.start s)) h.bytes
+
+-- A group is copied as it stands.
+pub copied-group : (v : OpenView) (c : Copied) → IsSlice v c.source.now → c.done ≤ v.start
+    → copied_to c (v.start + length (group_bytes v.group)) ≡ copied_to c v.start ++ group_bytes v.group
+copied-group v c h k = copied-more c v.start (length (group_bytes v.group)) k ∙ ap (λ w. copied_to c v.start ++ w) h.bytes
+
+-- Another key is put in.
+pub rekeyed-in : (characters : Characters) (v : OpenView) (old new : Copied) (key : NewKey) (places : PartPlaces) (name value text : List ℕ) (n : ℕ)
+    (first : Bool)
+    → (let t : Repertoire = record { encoding = v.encoding; characters = characters } in
+    IsSlice v old.source.now → old.done ≤ v.start → n ≤ length (group_bytes v.group) → drop n (group_bytes v.group) ≡ past_joins (group_bytes v.group)
+    → AreOfPair v name value places → places.key_end ≤ v.start + length (group_bytes v.group)
+    → first ≡ (key.first && (v.start + n == v.start))
+    → text ≡ encoded_text t.encoding (key_text t first (between_in (line_of v)) (chars key.text.now))
+    → IsReplacedIn old (v.start + n) (later (v.start + n) places.key_end) text new → IsRekeyedIn t v old key new)
+rekeyed-in characters v old new key places name value text n first slice done within rest at ends is_first printed replaced =
+    let t : Repertoire = record { encoding = v.encoding; characters = characters } in
+    let gb = group_bytes v.group in
+    let s = old.source.now in
+    let size = size_before at.key_end.0 in
+    let m = later n size in
+    let end : later (v.start + n) places.key_end ≡ v.start + m = ap (later (v.start + n)) at.key_end.1 ∙ later-add v.start n size in
+    let place = at.key_end.1 in
+    let bound : m ≤ length gb = later-bound n size (length gb) within (omega arith) in
+    let after = drop (length gb) (drop v.start s) in
+    let whole = slice-front v s slice in
+    let front : take n (drop v.start s) ≡ take n gb = ap (take n) whole ∙ take-append-le n gb after within in
+    let count : v.start + length gb - (v.start + m) ≡ length (drop m gb) = let left = length-drop m gb in omega arith in
+    let back : take (v.start + length gb - (v.start + m)) (drop (v.start + m) s) ≡ drop m gb =
+    ap₂ take count (sym (drop-drop m v.start s) ∙ ap (drop m) whole ∙ drop-append-le m gb after bound) ∙ take-append_seam (drop m gb) after in
+    let length_front : length (take n gb) ≡ n = length-take-le n gb within in
+    let key_bytes : text ≡ encoded_text t.encoding (key_text t (key.first && is_empty (take n gb)) at.is_pair.between (chars key.text.now)) =
+    printed
+    ∙ ap₂ (λ f b. encoded_text t.encoding (key_text t f b (chars key.text.now)))
+    (is_first ∙ ap (λ b. key.first && b) (front-empty gb v.start n within)) (between_in-pair (line_of v) name value at.is_pair) in
+    let bytes : copied_to new (v.start + length gb) ≡ (copied_to old (v.start + n) ++ text) ++ drop m gb =
+    ap₂ (λ d r. new.bytes.items ++ take (v.start + length gb - d) (drop d r)) (replaced.done ∙ end) replaced.source_is
+    ∙ ap₂ (λ a b. a ++ b) replaced.bytes_are back in
+    let began : copied_to old (v.start + n) ≡ copied_to old v.start ++ take n gb =
+    copied-more old v.start n done ∙ ap (λ w. copied_to old v.start ++ w) front in
+    record {
+      made = take n gb ++ (text ++ drop m gb);
+      rekeyed = record {
+        key = name;
+        value = value;
+        is_pair = at.is_pair;
+        front = take n gb;
+        division = sym (take-append-drop n gb) ∙ ap (λ w. take n gb ++ w) rest;
+        through = at.key_end.0;
+        bytes_are = ap₂ (λ a k. take n gb ++ (a ++ drop k gb)) key_bytes (ap (λ k. later k size) (sym length_front));
+      };
+      copied = bytes
+          ∙ ap (λ w. (w ++ text) ++ drop m gb) began
+          ∙ simp (append_assoc);
+      done = let d = replaced.done ∙ end in omega arith;
+      source_is = replaced.source_is;
+    }
+
+-- ---- group after group
+
+none-append : (key : List ℕ) (gs : List (List HeldLine)) (g : List HeldLine) → NoneHasKey key gs → ¬ (HasKey key g) → NoneHasKey key (gs ++ g ∷ [])
+none-append key [] g h k = (k, tt)
+none-append key (f ∷ gs) g h k = (h.0, none-append key gs g h.1 k)
+
+none-front : (key : List ℕ) (gs hs : List (List HeldLine)) → NoneHasKey key (gs ++ hs) → NoneHasKey key gs
+none-front key [] hs h = tt
+none-front key (f ∷ gs) hs h = (h.0, none-front key gs hs h.1)
+
+none-last : (key : List ℕ) (gs : List (List HeldLine)) (g : List HeldLine) → NoneHasKey key (gs ++ g ∷ []) → ¬ (HasKey key g)
+none-last key [] g h = h.0
+none-last key (f ∷ gs) g h = none-last key gs g h.1
+
+held-push : (gs : List (List HeldLine)) (g : List HeldLine) → length (held_in (gs ++ g ∷ [])) ≡ length (held_in gs) + length g
+held-push [] g = let same : length g ≡ 0 + length g = omega arith in ap length (append-nil g) ∙ same
+held-push (f ∷ gs) g =
+    let more = held-push gs g in
+    let a = length-append f (held_in (gs ++ g ∷ [])) in
+    let b = length-append f (held_in gs) in
+    omega arith
+
+-- What was copied, and found, of the groups that a view gave so far.
+pub record IsUpTo (characters : Characters) (source old new : List ℕ) (v now : OpenView) (c : Copied) (is_there : Bool) (taken : Option ℕ)
+    (first : Bool) : Type 0 where
+  pub passed : List (List HeldLine)
+  pub division : v.to_come ≡ passed ++ now.to_come
+  pub rest : groups_bytes now.to_come ≡ drop (past now).start source
+  pub within : (past now).start ≤ length source
+  pub number : (past now).passed ≡ length (held_in passed)
+  pub encoding : now.encoding ≡ v.encoding
+  pub source_is : c.source.now ≡ source
+  pub done : c.done ≤ (past now).start
+  pub made : List ℕ
+  pub copied : copied_to c (past now).start ≡ take v.start source ++ made
+  pub rekeyed : (more : List ℕ)
+      → AreRekeyed (record { encoding = v.encoding; characters = characters }) old new first now.to_come more
+      → AreRekeyed (record { encoding = v.encoding; characters = characters }) old new true v.to_come (made ++ more)
+  pub there : TellsThere old passed is_there
+  pub tells_taken : TellsTaken old new passed taken
+
+-- Whether the next group has the keys.
+pub there-next : (old : List ℕ) (gs : List (List HeldLine)) (g : List HeldLine) (is_there : Bool) → TellsThere old gs is_there → ¬ (HasKey old g)
+    → TellsThere old (gs ++ g ∷ []) is_there
+there-next old gs g true h k = λ none. h (none-front old gs (g ∷ []) none)
+there-next old gs g false h k = none-append old gs g h k
+
+pub there-now : (old : List ℕ) (gs : List (List HeldLine)) (g : List HeldLine) → HasKey old g → TellsThere old (gs ++ g ∷ []) true
+there-now old gs g h = λ none. none-last old gs g none h
+
+pub taken-next : (old new : List ℕ) (gs : List (List HeldLine)) (g : List HeldLine) (taken : Option ℕ) → TellsTaken old new gs taken
+    → (old ≢ new → taken ≡ None → ¬ (HasKey new g)) → TellsTaken old new (gs ++ g ∷ []) taken
+taken-next old new gs g None h k = λ apart. none-append new gs g (h apart) (k apart refl)
+taken-next old new gs g (Some number) h k = (
+  h.0,
+  record {
+    before = h.1.before;
+    group = h.1.group;
+    after = h.1.after ++ g ∷ [];
+    division = ap (λ w. w ++ g ∷ []) h.1.division ∙ append_assoc h.1.before (h.1.group ∷ h.1.after) (g ∷ []);
+    none_before = h.1.none_before;
+    has_key = h.1.has_key;
+    is_number = h.1.is_number;
+  },
+)
+
+pub taken-now : (old new : List ℕ) (gs : List (List HeldLine)) (g : List HeldLine) (number : ℕ) → old ≢ new → TellsTaken old new gs None → HasKey new g
+    → number ≡ length (held_in gs) + 1 → TellsTaken old new (gs ++ g ∷ []) (Some number)
+taken-now old new gs g number apart h k is =
+    (apart, record { before = gs; group = g; after = []; division = refl; none_before = h apart; has_key = k; is_number = is })
+
+-- A group with one key doesn't have another.
+pub one-key : (old new : List ℕ) (g : List HeldLine) → has_key old g ≡ true → old ≢ new → ¬ (HasKey new g)
+one-key old new g h apart k = apart (grind (arith, HasKey-test new g k, bytes_eq-Decides))
+
+module _ {characters : Characters} {source old new : List ℕ} {v : OpenView} where
+  -- the next group is a slice of the source
+  pub next-slice : {now next : OpenView} {c : Copied} {is_there first : Bool} {taken : Option ℕ}
+      → IsUpTo characters source old new v now c is_there taken first → (group : List HeldLine)
+      → now.to_come ≡ next.group ∷ next.to_come → next.start ≡ (past now).start → IsSlice next c.source.now
+  next-slice {now} {next} {c} h group takes start =
+      let gb = group_bytes next.group in
+      let s = c.source.now in
+      let whole : drop next.start s ≡ gb ++ groups_bytes next.to_come =
+      ap₂ drop start h.source_is ∙ sym h.rest ∙ ap groups_bytes takes in
+      let sizes : length (drop next.start s) ≡ length gb + length (groups_bytes next.to_come) =
+      ap length whole ∙ length-append gb (groups_bytes next.to_come) in
+      let left = length-drop next.start s in
+      let all : length s ≡ length source = ap length h.source_is in
+      let within = h.within in
+      record {
+        bytes = ap (take (length gb)) whole ∙ take-append_seam gb (groups_bytes next.to_come);
+        within = omega arith;
+      }
+
+  -- Another group was copied, as it stands or with another key.
+  pub next-up : {now next : OpenView} {c c' : Copied} {is_there is_there' first : Bool} {taken taken' : Option ℕ} (group : ViewedGroup) (made : List ℕ)
+      → (h : IsUpTo characters source old new v now c is_there taken first) → TakesNext now group next → c'.source.now ≡ c.source.now
+      → c'.done ≤ next.start + length (group_bytes next.group)
+      → copied_to c' (next.start + length (group_bytes next.group)) ≡ copied_to c next.start ++ made
+      → HasKey old next.group × IsRekeyed (record { encoding = next.encoding; characters = characters }) first next.group new made
+      ⊎ ¬ (HasKey old next.group) × (made ≡ group_bytes next.group)
+      → TellsThere old (h.passed ++ next.group ∷ []) is_there' → TellsTaken old new (h.passed ++ next.group ∷ []) taken'
+      → IsUpTo characters source old new v next c' is_there' taken' false
+  next-up {now} {next} {c} {c'} {first = first} group made h t same done copied step there taken =
+      let gb = group_bytes next.group in
+      let start : next.start ≡ (past now).start = ap (λ w. let o : OpenView = w in o.start) t.moves in
+      let passed : next.passed ≡ (past now).passed = ap (λ w. let o : OpenView = w in o.passed) t.moves in
+      let encoding : next.encoding ≡ v.encoding = ap (λ w. let o : OpenView = w in o.encoding) t.moves ∙ h.encoding in
+      let slice = next-slice {next = next} h next.group t.takes start in
+      let all : length c.source.now ≡ length source = ap length h.source_is in
+      let whole : drop next.start source ≡ gb ++ groups_bytes next.to_come = ap (λ k. drop k source) start ∙ sym h.rest ∙ ap groups_bytes t.takes in
+      let counted = held-push h.passed next.group in
+      let numbers = h.number in
+      let within = slice.within in
+      let Step : Encoding → Type 0 = λ e.
+      HasKey old next.group × IsRekeyed (record { encoding = e; characters = characters }) first next.group new made
+      ⊎ ¬ (HasKey old next.group) × (made ≡ gb) in
+      let r : Repertoire = record { encoding = v.encoding; characters = characters } in
+      record {
+        passed = h.passed ++ next.group ∷ [];
+        division = h.division ∙ ap (λ w. h.passed ++ w) t.takes ∙ sym (append_assoc h.passed (next.group ∷ []) next.to_come);
+        rest = sym (sym (drop-drop (length gb) next.start source) ∙ ap (drop (length gb)) whole ∙ drop-append_seam gb (groups_bytes next.to_come));
+        within = omega arith;
+        number = omega arith;
+        encoding = encoding;
+        source_is = same ∙ h.source_is;
+        done = done;
+        made = h.made ++ made;
+        copied = copied ∙ ap (λ w. w ++ made) (ap (copied_to c) start ∙ h.copied) ∙ append_assoc (take v.start source) h.made made;
+        rekeyed = λ more k.
+            subst (AreRekeyed r old new true v.to_come) (sym (append_assoc h.made made more))
+            (h.rekeyed (made ++ more) (subst (λ w. AreRekeyed r old new first w (made ++ more)) (sym t.takes) (made, more, subst Step encoding step, refl, k)));
+        there = there;
+        tells_taken = taken;
+      }
+
+  -- Nothing was copied yet,
+  pub none-yet : {requested : Encoding} {c : Copied} → IsViewOf requested source v → IsNew source c
+      → IsUpTo characters source old new v v c false None true
+  none-yet {c = c} h k =
+      let none : length (group_bytes v.group) ≡ 0 = ap (λ g. length (group_bytes g)) h.none_given in
+      let place : (past v).start ≡ v.start = omega arith in
+      let none_given : length v.group ≡ 0 = ap length h.none_given in
+      let none_passed = h.none_passed in
+      let within = h.within in
+      let zero_off : v.start - 0 ≡ v.start = omega arith in
+      record {
+        passed = [];
+        division = refl;
+        rest = h.given.together ∙ ap (λ n. drop n source) (sym place);
+        within = omega arith;
+        number = omega arith;
+        encoding = refl;
+        source_is = k.source_is;
+        done = let d = k.done in omega arith;
+        made = [];
+        copied = ap₂ (λ b s. b ++ take ((past v).start - c.done) (drop c.done s)) k.nothing k.source_is
+            ∙ ap₂ (λ n d. take (n - d) (drop d source)) place k.done
+            ∙ ap (λ n. take n source) zero_off
+            ∙ sym (append-nil (take v.start source));
+        rekeyed = λ more k. k;
+        there = tt;
+        tells_taken = λ apart. tt;
+      }
+
+-- The mark comes before the first group.
+pub mark-front : {e : Encoding} {source : List ℕ} {v : OpenView} → IsViewOf e source v → bom_of source ≡ take v.start source
+mark-front {e} {source} {v} h =
+    let body = drop v.start source in
+    let whole : source ≡ bom_of source ++ body = source-whole e source ∙ ap (λ w. let f : InForce = w in bom_of source ++ f.body) h.in_force in
+    let sizes : length source ≡ length (bom_of source) + length body = ap length whole ∙ length-append (bom_of source) body in
+    let left = length-drop v.start source in
+    let within = h.within in
+    let n : v.start ≡ length (bom_of source) = omega arith in
+    sym (ap₂ take n whole ∙ take-append_seam (bom_of source) body)
+
+-- or all groups were copied.
+pub all-up : {r : Repertoire} {source old new : List ℕ} {v now : OpenView} {c : Copied} {is_there first : Bool} {taken : Option ℕ} (bytes : Vec ℕ)
+    → IsViewOf r.encoding source v → IsUpTo r.characters source old new v now c is_there taken first → now.to_come ≡ []
+    → bytes.items ≡ copied_to c (length c.source.now)
+    → AreRenamed r source old new (record { bytes = bytes; is_there = is_there; taken = taken })
+all-up {r} {source} {old} {new} {v} {now} {c} {is_there} {first} {taken} bytes o h none is =
+    let left : drop (past now).start source ≡ [] = sym h.rest ∙ ap groups_bytes none in
+    let sizes : length source - (past now).start ≡ 0 = sym (length-drop (past now).start source) ∙ ap length left in
+    let within = h.within in
+    let place : length c.source.now ≡ (past now).start = ap length h.source_is ∙ omega arith in
+    let all : h.passed ≡ v.to_come = sym (append-nil h.passed) ∙ ap (λ w. h.passed ++ w) (sym none) ∙ sym h.division in
+    let t : Repertoire = record { encoding = v.encoding; characters = r.characters } in
+    let e : in_force r source ≡ t = ap (λ w. let f : InForce = w in in_encoding r f.encoding) o.in_force in
+    record {
+      groups = v.to_come;
+      held = subst (λ w. let f : InForce = w in AreGiven f.encoding f.body v.to_come) (sym o.in_force) o.given;
+      there = subst (λ gs. TellsThere old gs is_there) all h.there;
+      taken = subst (λ gs. TellsTaken old new gs taken) all h.tells_taken;
+      body = h.made;
+      rekeyed = subst (λ w. AreRekeyed w old new true v.to_come h.made) (sym e)
+          (subst (AreRekeyed t old new true v.to_come) (append-nil h.made)
+          (h.rekeyed [] (subst (λ gs. AreRekeyed t old new first gs []) (sym none) refl)));
+      whole = is ∙ ap (copied_to c) place ∙ h.copied ∙ ap (λ w. w ++ h.made) (sym (mark-front o));
+    }
+
+-- ---- which key a logical line has
+
+abbrev first-of : List ℕ × List ℕ → Option (List ℕ × List ℕ) → List ℕ
+first-of p None = p.0
+first-of p (Some q) = q.0
+
+pub named-pair : (o : Outcome) (key value old new : List ℕ) (n : Named) → outcome_pair o ≡ Some (key, value) → Names (given (entry.pair key [])) old new n
+    → Names o old new n
+named-pair (given (entry.pair k v)) key value old new Old h names =
+    let same : k ≡ key = ap (λ o. first-of (key, value) o) h in ap (λ w. bytes_eq w old) same ∙ names
+named-pair (given (entry.pair k v)) key value old new New h names =
+    let same : k ≡ key = ap (λ o. first-of (key, value) o) h in (ap (λ w. bytes_eq w old) same ∙ names.0, ap (λ w. bytes_eq w new) same ∙ names.1)
+named-pair (given (entry.pair k v)) key value old new Other h names =
+    let same : k ≡ key = ap (λ o. first-of (key, value) o) h in (ap (λ w. bytes_eq w old) same ∙ names.0, ap (λ w. bytes_eq w new) same ∙ names.1)
+named-pair (given (entry.comment text)) key value old new n h names = absurd (cc)
+named-pair ignored key value old new n h names = absurd (cc)
+named-pair (broken kind) key value old new n h names = absurd (cc)
+
+pub named-none : (o : Outcome) (old new : List ℕ) → outcome_pair o ≡ None → Names o old new Other
+named-none (given (entry.pair k v)) old new h = absurd (cc)
+named-none (given (entry.comment text)) old new h = (refl, refl)
+named-none ignored old new h = (refl, refl)
+named-none (broken kind) old new h = (refl, refl)
+
+pub taken-new : (old new : List ℕ) (gs : List (List HeldLine)) (g : List HeldLine) (number : ℕ) (taken : Option ℕ) → has_key old g ≡ false
+    → has_key new g ≡ true
+    → TellsTaken old new gs taken → number ≡ length (held_in gs) + 1 → TellsTaken old new (gs ++ g ∷ []) (Some (unwrap_or taken number))
+taken-new old new gs g number None h k told is =
+    taken-now old new gs g number (λ same. (let t = ap (λ w. has_key w g) same in cc)) told (has_key-true new g k) is
+taken-new old new gs g number (Some first) h k told is = taken-next old new gs g (Some first) told (λ apart none. absurd (cc))
+
+-- ---- the result
+
+pub none-taken : (old new : List ℕ) (gs : List (List HeldLine)) (taken : Option ℕ) → ((n : ℕ) → taken ≡ Some n → ⊥) → old ≢ new → TellsTaken old new gs taken
+    → NoneHasKey new gs
+none-taken old new gs None other apart h = h apart
+none-taken old new gs (Some n) other apart h = absurd (other n refl)
+
+pub edited-editable : (r : Repertoire) (source : List ℕ) (bytes : Vec ℕ) (comments : Comments) → MakesEditsFor comments r source [] (Ok bytes)
+    → is_editable (byte_order_mark r.encoding source).encoding ≡ true
+edited-editable r source bytes Read h = h.edit.result.0
+edited-editable r source bytes PassedOver h = h.result.0
+
+pub edited-same : (r : Repertoire) (source : List ℕ) (bytes : Vec ℕ) (comments : Comments) → MakesEditsFor comments r source [] (Ok bytes)
+    → bytes.items ≡ source
+edited-same r source bytes Read h = h.edit.result.2
+edited-same r source bytes PassedOver h = h.result.2
+
+-- ---- what is printed
+
+sign-printed : (e : Encoding) → encoded_text e (equals_sign ∷ []) ≡ equals_sign ∷ []
+sign-printed e = ap (λ o. unwrap_or o [] ++ []) (encoded-ascii e equals_sign (lit< tt))
+
+pub prints-keys : {t : Repertoire} {r : code.Repertoire} → PrintsIn t r → PrintsKeys t r
+prints-keys {t} h = record { keys = h.keys; sign = sign-printed t.encoding }
+
+pub prints-same : {t : Repertoire} {r : code.Repertoire} → in_format r ≡ t → PrintsKeys t r
+prints-same {t} {r} h = record {
+  keys = λ first key. ap (λ w. let m : Repertoire = w in encoded_text m.encoding (printed_key m first key)) h;
+  sign = sign-printed t.encoding;
+}
+
+-- a text with characters is printed as a key
+pub key-some : (t : Repertoire) (first : Bool) (between key : List ℕ) → key ≢ [] → key_text t first between key ≡ printed_key t first key
+key-some t first between [] some = absurd (some refl)
+key-some t first between (c ∷ cs) some = refl
+
+-- what is put in for an empty key
+pub key-signed : (t : Repertoire) (first : Bool) (between key : List ℕ) → key ≡ [] → is_blanks between ≡ false
+    → encoded_text t.encoding (key_text t first between key) ≡ []
+key-signed t first between key none h = ap (λ k. encoded_text t.encoding (key_text t first between k)) none ∙ rw h refl
+
+pub key-unsigned : (t : Repertoire) (first : Bool) (between key : List ℕ) → key ≡ [] → is_blanks between ≡ true
+    → encoded_text t.encoding (key_text t first between key) ≡ equals_sign ∷ []
+key-unsigned t first between key none h = ap (λ k. encoded_text t.encoding (key_text t first between k)) none ∙ rw h (sign-printed t.encoding)
+
+-- ---- what separates key and value
+
+pub sign-told : (line : List ℕ) (span : Span) → IsBetweenAt line span → IsAnyPair (chars line) → between_in (chars line) ≡ chars (bytes_in line span)
+sign-told line span at (key, value, p) =
+    ap (λ o. unwrap_or o []) (ap (λ w. between_if_pair w (chars line)) (split_of-only (chars line) (pair key value) p) ∙ at.of_pair)
+
+pub comment-pair : (x text : List ℕ) → IsSplit x (comment text) → IsAnyPair x → ⊥
+comment-pair x text h (key, value, p) = let same = same-split x (comment text) (pair key value) h p in cc
+
+pub blank-pair : (x : List ℕ) → IsSplit x blank → IsAnyPair x → ⊥
+blank-pair x h (key, value, p) = let same = same-split x blank (pair key value) h p in cc
+
+pub not-true : (b : Bool) → true ≡ not b → b ≡ false
+not-true true h = absurd (cc)
+not-true false h = refl
+
+pub not-false : (b : Bool) → false ≡ not b → b ≡ true
+not-false true h = refl
+not-false false h = absurd (cc)
+
+pub and-true : (a b : Bool) → a ≡ true → (a && b) ≡ b
+and-true a b h = rw h refl
+
+pub and-false : (a b : Bool) → a ≡ false → (a && b) ≡ false
+and-false a b h = rw h refl
+
+pub key-printed : (t : Repertoire) (r : code.Repertoire) (first : Bool) (between key old new : List ℕ) → PrintsKeys t r → key ≢ []
+    → new ≡ old ++ (key_bytes r first key ++ ([] ++ (puts_of r (chars []) ++ [])))
+    → new ≡ old ++ encoded_text t.encoding (key_text t first between key)
+key-printed t r first between key old new prints some h =
+    let tail : key_bytes r first key ++ ([] ++ (puts_of r (chars []) ++ [])) ≡ key_bytes r first key =
+    ap (λ w. key_bytes r first key ++ (puts_of r w ++ [])) chars-nil ∙ append-nil (key_bytes r first key) in
+    h ∙ ap (λ w. old ++ w) (tail ∙ prints.keys first key ∙ ap (encoded_text t.encoding) (sym (key-some t first between key some)))
+
+-- in the encoding of a view
+pub prints-next : (r : Repertoire) (rep : code.Repertoire) (e f g : Encoding) → e ≡ f → is_editable f ≡ true → g ≡ f
+    → PrintsKeys (in_encoding r (output_encoding e)) rep → PrintsKeys (record { encoding = g; characters = r.characters }) rep
+prints-next r rep e f g h ok k prints =
+    subst (λ x. PrintsKeys (in_encoding r x) rep) (ap output_encoding h ∙ editable-own f ok ∙ sym k) prints
+
+pub none-left : (old new : OpenView) (answer : Option ViewedGroup) → GivesNext {E = ℕ} old (Ok answer) new
+    → ((group : ViewedGroup) → answer ≡ Some group → ⊥) → old.to_come ≡ []
+none-left old new None h none = h.0
+none-left old new (Some group) h none = absurd (none group refl)
+
+pub there-none : (old : List ℕ) (gs : List (List HeldLine)) (is_there : Bool) → is_there ≡ false → TellsThere old gs is_there → NoneHasKey old gs
+there-none old gs true off h = absurd (cc)
+there-none old gs false off h = h
+
+pub there-some : (old : List ℕ) (gs : List (List HeldLine)) (is_there : Bool) → is_there ≡ true → TellsThere old gs is_there → ¬ (NoneHasKey old gs)
+there-some old gs true on h = h
+there-some old gs false on h = absurd (cc)
+
+pub same-key : (old new : List ℕ) → bytes_eq old new ≡ true → old ≡ new
+same-key old new h = (bytes_eq-Decides old new).0 h
+
+pub other-key : (old new : List ℕ) → bytes_eq old new ≡ false → old ≢ new
+other-key old new h same = let t = (bytes_eq-Decides old new).1 same in cc
+
+-- ---- what stays
+
+alike-behind : {r : Repertoire} {key old new : List ℕ} (x : List ℕ) → AreAlike r key old new → AreAlike r key (x ++ old) (x ++ new)
+alike-behind {r} {key} {old} {new} x h = by h.parts h.printed h.old_is h.new_is
+  where
+    by : (parts : List Replaced) → ArePrinted r key parts → old ≡ with_old parts h.last → new ≡ with_new parts h.last → AreAlike r key (x ++ old) (x ++ new)
+    by [] printed o n = record { parts = []; last = x ++ h.last; printed = tt; old_is = ap (λ w. x ++ w) o; new_is = ap (λ w. x ++ w) n }
+    by (p ∷ ps) printed o n = record {
+      parts = record { kept = x ++ p.kept; old = p.old; new = p.new } ∷ ps;
+      last = h.last;
+      printed = printed;
+      old_is = ap (λ w. x ++ w) o ∙ sym (append_assoc x p.kept (p.old ++ with_old ps h.last));
+      new_is = ap (λ w. x ++ w) n ∙ sym (append_assoc x p.kept (p.new ++ with_new ps h.last));
+    }
+
+-- what a pair's new key leaves behind it
+behind-key : (gb front rest : List ℕ) (m : ℕ) → gb ≡ front ++ rest → length front ≤ m → gb ≡ front ++ (take (m - length front) rest ++ drop m gb)
+behind-key gb front rest m h l =
+    let n = m - length front in
+    let count : length front + n ≡ m = omega arith in
+    let back : drop m gb ≡ drop n rest = ap₂ drop (sym count) h ∙ drop-append-add front rest n in
+    h ∙ ap (λ w. front ++ w) (sym (take-append-drop n rest) ∙ ap (λ w. take n rest ++ w) (sym back))
+
+pub renamed-alike : (r : Repertoire) (old key : List ℕ) (first : Bool) (gs : List (List HeldLine)) (bytes : List ℕ) → AreRekeyed r old key first gs bytes
+    → AreAlike r key (groups_bytes gs) bytes
+renamed-alike r old key first [] bytes h = record { parts = []; last = []; printed = tt; old_is = refl; new_is = h }
+renamed-alike r old key first (g ∷ gs) bytes (made, more, inr other, is, rest) =
+    subst (AreAlike r key (groups_bytes (g ∷ gs))) (sym (is ∙ ap (λ w. w ++ more) other.1))
+    (alike-behind (group_bytes g) (renamed-alike r old key false gs more rest))
+renamed-alike r old key first (g ∷ gs) bytes (made, more, inl has, is, rest) =
+    let k = has.1 in
+    let gb = group_bytes g in
+    let m = later (length k.front) (size_before k.through) in
+    let text = encoded_text r.encoding (key_text r (first && is_empty k.front) k.is_pair.between key) in
+    let gone = take (m - length k.front) (past_joins gb) in
+    let behind = alike-behind (drop m gb) (renamed-alike r old key false gs more rest) in
+    let whole : gb ≡ k.front ++ (gone ++ drop m gb) =
+    behind-key gb k.front (past_joins gb) m k.division (later-first (length k.front) (size_before k.through)) in
+    record {
+      parts = record { kept = k.front; old = gone; new = text } ∷ behind.parts;
+      last = behind.last;
+      printed = ((first && is_empty k.front, k.is_pair.between, refl), behind.printed);
+      old_is = ap (λ w. w ++ groups_bytes gs) whole
+          ∙ append_assoc k.front (gone ++ drop m gb) (groups_bytes gs)
+          ∙ ap (λ w. k.front ++ w) (append_assoc gone (drop m gb) (groups_bytes gs) ∙ ap (λ w. gone ++ w) behind.old_is);
+      new_is = is
+          ∙ ap (λ w. w ++ more) k.bytes_are
+          ∙ append_assoc k.front (text ++ drop m gb) more
+          ∙ ap (λ w. k.front ++ w) (append_assoc text (drop m gb) more ∙ ap (λ w. text ++ w) behind.new_is);
+    }
+
+pub source-alike : (r : Repertoire) (source old new result : List ℕ) → IsRenamed r source old new result → AreAlike (in_force r source) new source result
+source-alike r source old new result h =
+    let body = renamed-alike (in_force r source) old new true h.groups h.body h.renamed in
+    let alike = alike-behind (bom_of source) body in
+    subst (λ w. AreAlike (in_force r source) new w result) (ap (λ w. bom_of source ++ w) h.held.together ∙ sym (source-whole r.encoding source))
+    (subst (AreAlike (in_force r source) new (bom_of source ++ groups_bytes h.groups)) (sym h.whole) alike)

@@ -1,0 +1,52 @@
+use Rattle.std.proofs.Common.{◌++◌, ◌+◌, ◌-◌, ◌≡◌, ◌≤◌, ◌∙◌, ap, ap₂, arith, drop, length, subst, sym, take}
+use Rattle.std.specs.Prelude.{◌&&◌, ◌==◌}
+use Rattle.std.specs.Str.{chars}
+use Rattle.std.proofs.lemmas.Result.{on_ok_weaker}
+use Rattle.properties_format.specs.Body.{ending_bytes, group_bytes, last_ending}
+use Rattle.properties_format.specs.Encoding.{Repertoire}
+use Rattle.properties_format.specs.Printing.{encoded_text}
+use Rattle.properties_format.specs.Computed.Valued.{between_in}
+use Rattle.properties_editing.specs.Views.{line_of}
+use Rattle.properties_renaming.specs.Renaming.{key_text, later, past_joins}
+use Rattle.properties_renaming.specs.Private.Copied.{IsReplacedIn}
+use Rattle.properties_renaming.proofs.RenamedKeys.{and-false, and-true, pair-places, rekeyed-in}
+use Rattle.properties_renaming.proofs.renaming.put_key.Goals as goal
+use Rattle.properties_renaming.proofs.renaming.put_key.Goals.{then-key, else-key}
+
+pub returns : goal.returns
+returns c =
+    let v = c.args.view.now in
+    let old = c.args.copied.now in
+    let new = c.replace.new.self in
+    let gb = group_bytes v.group in
+    let n = c.joins_size.result in
+    let places = c.in_ok-places.field-0 in
+    let text = c.as_slice.result.now in
+    let start = c.requires.group.start in
+    let next = c.requires.group.next in
+    let size : c.args.group.next - c.args.group.start ≡ length gb = omega arith in
+    let same : take (c.args.group.next - c.args.group.start) (drop c.args.group.start c.source.result.now) ≡ gb =
+    ap₂ take size (ap₂ drop start c.source.ensures) ∙ c.requires.slice.bytes in
+    let within : n ≤ length gb = subst (λ w. n ≤ length w) same c.joins_size.ensures.within in
+    let rest : drop n gb ≡ past_joins gb = subst (λ w. drop n w ≡ past_joins w) same c.joins_size.ensures.rest in
+    let at = pair-places v places c.in_ok-places.ensures.places c.requires.pair in
+    let o = c.in_ok-places.ensures.ordered in
+    let between = o.between in
+    let value = o.value in
+    let after : places.value_end ≤ v.start + (length gb - length (ending_bytes (last_ending v.group))) = o.after in
+    let ends : places.key_end ≤ v.start + length gb = omega arith in
+    let first : c.if-key.is_first ≡ (c.args.key.first && (v.start + n == v.start)) = elim c.if-key.branch [
+      | then-key w ↦ w.is_first-is ∙ ap (λ s. s + n == s) start ∙ sym (and-true c.args.key.first (v.start + n == v.start) w.if-key.true)
+      | else-key w ↦ w.is_first-is ∙ w.if-key.false ∙ sym (and-false c.args.key.first (v.start + n == v.start) w.if-key.false)
+    ] in
+    let printed = rw c.line.ensures at c.in_ok-print_key.ensures in
+    on_ok_weaker c.replace.result
+    (λ replaced. λ characters prints.
+    let t : Repertoire = record { encoding = v.encoding; characters = characters } in
+    let key = encoded_text t.encoding (key_text t c.if-key.is_first (between_in (line_of v)) (chars c.args.key.text.now)) in
+    rekeyed-in characters v old new c.args.key places at.0 at.1 text n c.if-key.is_first
+    c.requires.slice (subst (λ s. old.done ≤ s) start c.requires.done) within rest at.2 ends first
+    (c.as_slice.ensures ∙ printed c.requires.pair t prints ∙ ap (λ w. w ++ key) c.new-text.ensures)
+    (subst (λ s. IsReplacedIn old (s + n) (later (s + n) places.key_end) text new) start
+    (subst (λ e. IsReplacedIn old (c.args.group.start + n) e text new) c.later-end.ensures replaced)))
+    c.replace.ensures

@@ -1,0 +1,109 @@
+-- How a key is renamed, group after group of a view.
+use Rattle.std.specs.Prelude.{◌≡◌, ◌≢◌, ◌≤◌, ◌⊎◌, ◌++◌, ℕ, ◌+◌, not, Bool, true, false, List, [], ◌∷◌, length, take, drop, Option, Some, None, Result, Ok, Err}
+use Rattle.std.specs.Str.{chars}
+use Rattle.properties_format.specs.Text.{equals_sign, is_blanks}
+use Rattle.properties_format.specs.Encoding.{Characters, Repertoire, byte_order_mark, in_force}
+use Rattle.properties_format.specs.Split.{IsPair}
+use Rattle.properties_format.specs.Printing.{encoded_text, printed_key}
+use Rattle.properties_format.specs.Items.{Outcome}
+use Rattle.properties_format.specs.Body.{HasKey, HeldLine, NoneHasKey, group_bytes, held_in}
+use Rattle.properties_format.specs.Edited.{bom_of, is_editable}
+use Rattle.properties_format.specs.Computed.Body.{is_pair_with}
+use Rattle.properties_format.specs.Computed.Valued.{between_in}
+use Rattle.properties_text.specs.Printing.{AppendsOnOk, key_bytes}
+use Rattle.properties_text.specs.declared.print.Repertoire as code
+use Rattle.properties_items.specs.declared.error.ErrorKind.TheVariants as kind
+use Rattle.properties_items.specs.declared.error.PropertiesError.{PropertiesError}
+use Rattle.properties_items.specs.Errors.{IsBareError}
+use Rattle.properties_editing.specs.Views.{OpenView}
+use Rattle.properties_renaming.specs.Renaming.{AreIn, AreRekeyed, IsRekeyed, key_text}
+use Rattle.properties_renaming.specs.Private.Copied.{copied_to}
+use Rattle.properties_renaming.specs.declared.copied.Copied.{Copied}
+use Rattle.properties_renaming.specs.declared.renaming.Named.{Named}
+use Rattle.properties_renaming.specs.declared.renaming.Named.TheVariants.{Old, New, Other}
+use Rattle.properties_renaming.specs.declared.renaming.NewKey.{NewKey}
+use Rattle.properties_renaming.specs.declared.renaming.Renamed.{Renamed}
+
+-- ---- a logical line
+
+-- which of two keys the outcome of a logical line has
+abbrev pub Names : Outcome → List ℕ → List ℕ → Named → Type 0
+Names o old new Old = is_pair_with old o ≡ true
+Names o old new New = (is_pair_with old o ≡ false) × (is_pair_with new o ≡ true)
+Names o old new Other = (is_pair_with old o ≡ false) × (is_pair_with new o ≡ false)
+
+-- The line is a pair.
+abbrev pub IsAnyPair : List ℕ → Type 0
+IsAnyPair x = (key : List ℕ) × (value : List ℕ) × IsPair x key value
+
+-- whether a sign separates key and value, if the line is a pair
+abbrev pub TellsSign : List ℕ → Bool → Type 0
+TellsSign x sign = IsAnyPair x → sign ≡ not (is_blanks (between_in x))
+
+-- Keys are printed in the first repertoire as in the second.
+pub record PrintsKeys (t : Repertoire) (r : code.Repertoire) : Type 0 where
+  pub keys : (first : Bool) (key : List ℕ) → key_bytes r first key ≡ encoded_text t.encoding (printed_key t first key)
+  pub sign : encoded_text t.encoding (equals_sign ∷ []) ≡ equals_sign ∷ []
+
+-- What is put in for the key of this pair was appended.
+abbrev pub AppendsKey : {E : Type 0} → code.Repertoire → Bool → List ℕ → List ℕ → List ℕ → Result Unit E → List ℕ → Type 0
+AppendsKey r first x key old result new =
+    IsAnyPair x → (t : Repertoire) → PrintsKeys t r → AppendsOnOk old (encoded_text t.encoding (key_text t first (between_in x) key)) result new
+
+-- ---- a group
+
+-- The bytes of the group are a part of the source.
+pub record IsSlice (v : OpenView) (source : List ℕ) : Type 0 where
+  pub bytes : take (length (group_bytes v.group)) (drop v.start source) ≡ group_bytes v.group
+  pub within : v.start + length (group_bytes v.group) ≤ length source
+
+-- Its key was replaced.
+pub record IsRekeyedIn (t : Repertoire) (v : OpenView) (old : Copied) (key : NewKey) (new : Copied) : Type 0 where
+  pub made : List ℕ
+  pub rekeyed : IsRekeyed t key.first v.group (chars key.text.now) made
+  pub copied : copied_to new (v.start + length (group_bytes v.group)) ≡ copied_to old v.start ++ made
+  pub done : new.done ≤ v.start + length (group_bytes v.group)
+  pub source_is : new.source.now ≡ old.source.now
+
+-- in the encoding of the view, and these characters of it
+abbrev pub RekeysIn : OpenView → Copied → NewKey → Copied → Type 0
+RekeysIn v old key new =
+    (characters : Characters) → let t : Repertoire = record { encoding = v.encoding; characters = characters } in
+    PrintsKeys t key.repertoire → IsRekeyedIn t v old key new
+
+-- ---- all groups
+
+-- The first of these groups that has the key has this number.
+pub record IsFirstWith (key : List ℕ) (groups : List (List HeldLine)) (number : ℕ) : Type 0 where
+  pub before : List (List HeldLine)
+  pub group : List HeldLine
+  pub after : List (List HeldLine)
+  pub division : groups ≡ before ++ group ∷ after
+  pub none_before : NoneHasKey key before
+  pub has_key : HasKey key group
+  pub is_number : number ≡ length (held_in before) + 1
+
+-- Which of them have the keys.
+abbrev pub TellsThere : List ℕ → List (List HeldLine) → Bool → Type 0
+TellsThere old groups true = ¬ (NoneHasKey old groups)
+TellsThere old groups false = NoneHasKey old groups
+
+abbrev pub TellsTaken : List ℕ → List ℕ → List (List HeldLine) → Option ℕ → Type 0
+TellsTaken old new groups None = old ≢ new → NoneHasKey new groups
+TellsTaken old new groups (Some number) = (old ≢ new) × IsFirstWith new groups number
+
+-- The pairs with the old key were renamed.
+pub record AreRenamed (r : Repertoire) (source old new : List ℕ) (renamed : Renamed) : Type 0 where
+  pub groups : List (List HeldLine)
+  pub held : AreIn r.encoding source groups
+  pub there : TellsThere old groups renamed.is_there
+  pub taken : TellsTaken old new groups renamed.taken
+  pub body : List ℕ
+  pub rekeyed : AreRekeyed (in_force r source) old new true groups body
+  pub whole : renamed.bytes.items ≡ bom_of source ++ body
+
+-- Or the encoding can't be edited, or memory ran out.
+abbrev pub RenamesGroups : Repertoire → List ℕ → List ℕ → List ℕ → Result Renamed PropertiesError → Type 0
+RenamesGroups r source old new (Ok renamed) = AreRenamed r source old new renamed
+RenamesGroups r source old new (Err error) =
+    (is_editable (byte_order_mark r.encoding source).encoding ≡ false) × IsBareError kind.Unsupported error ⊎ IsBareError kind.Memory error

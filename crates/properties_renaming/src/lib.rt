@@ -1,0 +1,21 @@
+//! Renames a key of a `.properties` source where it stands, and keeps every other byte.
+//!
+//! ```text
+//! let options = SourceOptions::new(Encoding::UTF_8);
+//! match rename_key(alloc, source, options, "login.user", "user") {
+//!     Ok(renamed) => {} // the bytes of the source, with another key
+//!     Err(RenameError::KeyTaken(line)) => {} // a pair in this line has the key `user`
+//!     Err(error) => {} // no pair has the key `login.user`, or the source can't be edited
+//! }
+//! ```
+#![tactic(auto)]
+
+mod copied;
+mod renaming;
+#[cfg(test)]
+mod rows;
+
+pub use properties_editing::{Comments, SourceOptions};
+pub use properties_items::error::{ErrorKind, PropertiesError};
+pub use properties_text::encoding::Encoding;
+pub use renaming::{RenameError, rename_key};

@@ -1,0 +1,163 @@
+// Sources in which a key is renamed, and what comes of each.
+
+use crate::{Comments, Encoding, RenameError, SourceOptions, rename_key};
+use properties_items::error::ErrorKind;
+use std::alloc::Global;
+use std::process::Abort;
+use std::test::Fail;
+
+// A source, its key, the new key, and the source after that.
+type Row = (&'static [u8], &'static str, &'static str, &'static [u8]);
+
+// A source, its key, the new key, and why that is refused.
+type Refused = (&'static [u8], &'static str, &'static str, Why);
+
+#[derive(Clone, Copy, Debug, PartialEq)]
+enum Why {
+    NoKey,
+    KeyTaken(usize),
+    Source(ErrorKind, Option<usize>),
+}
+
+fn same<T: PartialEq + Copy>(rt: &impl Abort, row: usize, found: T, wanted: T) {
+    assert!(*rt; found == wanted, "row {row}");
+}
+
+fn check(rt: &impl Abort, alloc: Global, options: SourceOptions, rows: &[Row]) -> Result<(), Fail> {
+    for (row, (source, old, new, wanted)) in rows.iter().enumerate() {
+        let renamed = rename_key(alloc, source, options, old, new)?;
+        same(rt, row, renamed.as_slice(), *wanted);
+    }
+    Ok(())
+}
+
+fn check_refused(rt: &impl Abort, alloc: Global, options: SourceOptions, rows: &[Refused]) {
+    for (row, (source, old, new, wanted)) in rows.iter().enumerate() {
+        match rename_key(alloc, source, options, old, new) {
+            Ok(_) => panic!(*rt; "row {row}"),
+            Err(error) => same(rt, row, reason_of(&error), *wanted),
+        }
+    }
+}
+
+fn reason_of(error: &RenameError) -> Why {
+    match error {
+        RenameError::NoKey => Why::NoKey,
+        RenameError::KeyTaken(number) => Why::KeyTaken(*number),
+        RenameError::Source(error) => Why::Source(error.kind(), error.line_number()),
+    }
+}
+
+#[test]
+fn only_the_bytes_of_the_key_change(rt: HostRuntime) -> Result<(), Fail> {
+    let rows: [Row; 13] = [
+        (b"  a : 1\r\nb=2", "a", "c", b"  c : 1\r\nb=2"),
+        (b"a=1\nb=2\na: 3\r", "a", "c", b"c=1\nb=2\nc: 3\r"),
+        (b"# a\na=a\n", "a", "b", b"# a\nb=a\n"),
+        (b"a b\n", "a", "c", b"c b\n"),
+        (b"a", "a", "c", b"c"),
+        (b"ke\\\n  y = 1\\\n  2\n", "key", "k", b"k = 1\\\n  2\n"),
+        (b"key\\\n  = 1\n", "key", "k", b"k\\\n  = 1\n"),
+        (b"  \\\n  key=1\n", "key", "k", b"  \\\n  k=1\n"),
+        (b"\\\n\\\n \\\na=1", "a", "b", b"\\\n\\\n \\\nb=1"),
+        (b"\\u0061=1\n", "a", "b", b"b=1\n"),
+        (b"\\u00\\\n  61=1\n", "a", "b", b"b=1\n"),
+        (b"a\\ b=1\n", "a b", "a.b", b"a.b=1\n"),
+        (b"a\\", "a", "b", b"b\\"),
+    ];
+    let options = SourceOptions::new(Encoding::UTF_8);
+    check(&rt, rt.alloc(), options, rows.as_slice())
+}
+
+#[test]
+fn a_new_key_is_printed_as_it_is_set(rt: HostRuntime) -> Result<(), Fail> {
+    let rows: [Row; 6] = [
+        (b"a=1\n", "a", "#x", b"\\#x=1\n"),
+        (b"a=1\n", "a", " =:\\\n", b"\\ \\=\\:\\\\\\n=1\n"),
+        (b"a=1\n", "a", "\u{e9}", b"\xc3\xa9=1\n"),
+        (b"a=1\n", "a", "\u{feff}k", b"\\ufeffk=1\n"),
+        (b" a=1\n", "a", "\u{feff}k", b" \xef\xbb\xbfk=1\n"),
+        (
+            b"\xef\xbb\xbfa=1\n",
+            "a",
+            "\u{feff}k",
+            b"\xef\xbb\xbf\\ufeffk=1\n",
+        ),
+    ];
+    let options = SourceOptions::new(Encoding::UTF_8);
+    check(&rt, rt.alloc(), options, rows.as_slice())
+}
+
+#[test]
+fn a_new_key_has_what_the_encoding_has(rt: HostRuntime) -> Result<(), Fail> {
+    let rows: [Row; 3] = [
+        (b"a=1\n", "a", "\u{3042}", b"\\u3042=1\n"),
+        (b"a=1\n", "a", "\u{20ac}", b"\x80=1\n"),
+        (b"a=1\n", "a", "\u{ef}\u{bb}\u{bf}", b"\\u00ef\xbb\xbf=1\n"),
+    ];
+    let options = SourceOptions::new(Encoding::WINDOWS_1252);
+    check(&rt, rt.alloc(), options, rows.as_slice())
+}
+
+#[test]
+fn options_say_how_it_is_printed(rt: HostRuntime) -> Result<(), Fail> {
+    let ascii = SourceOptions {
+        ascii_only: true,
+        ..SourceOptions::new(Encoding::UTF_8)
+    };
+    let row: [Row; 1] = [(
+        b"\xc3\xbc=\xc3\xbc\n",
+        "\u{fc}",
+        "\u{e9}",
+        b"\\u00e9=\xc3\xbc\n",
+    )];
+    check(&rt, rt.alloc(), ascii, row.as_slice())?;
+    let latin_1 = SourceOptions {
+        latin_1: true,
+        ..SourceOptions::new(Encoding::WINDOWS_1252)
+    };
+    let row: [Row; 1] = [(b"a=1\n", "a", "\u{e9}\u{20ac}", b"\xe9\\u20ac=1\n")];
+    check(&rt, rt.alloc(), latin_1, row.as_slice())?;
+    let passed_over = SourceOptions {
+        comments: Comments::PassedOver,
+        ..SourceOptions::new(Encoding::UTF_8)
+    };
+    let row: [Row; 1] = [(b"# C:\\users\na=1\n", "a", "b", b"# C:\\users\nb=1\n")];
+    check(&rt, rt.alloc(), passed_over, row.as_slice())
+}
+
+#[test]
+fn a_key_may_be_empty(rt: HostRuntime) -> Result<(), Fail> {
+    let rows: [Row; 8] = [
+        (b"a=1\n", "a", "", b"=1\n"),
+        (b"a : 1\n", "a", "", b" : 1\n"),
+        (b"a b\n", "a", "", b"= b\n"),
+        (b"a\n", "a", "", b"=\n"),
+        (b"a\\\n  b\n", "ab", "", b"=\n"),
+        (b"a\\\n  =b\n", "a", "", b"\\\n  =b\n"),
+        (b"  \\\n  =1\n", "", "a", b"  \\\n  a=1\n"),
+        (b"a=1\n", "a", "a", b"a=1\n"),
+    ];
+    let options = SourceOptions::new(Encoding::UTF_8);
+    check(&rt, rt.alloc(), options, rows.as_slice())
+}
+
+#[test]
+fn others_are_refused(rt: HostRuntime) {
+    let few = Why::Source(ErrorKind::NotEnoughDigits, Some(2));
+    let utf_16 = Why::Source(ErrorKind::Unsupported, None);
+    let not_hex = Why::Source(ErrorKind::NotHex, Some(1));
+    let rows: [Refused; 9] = [
+        (b"x=1\\\na=2\n", "a", "b", Why::NoKey),
+        (b"b=1\n", "a", "b", Why::NoKey),
+        (b"b=1\n", "a", "a", Why::NoKey),
+        (b"a=1\n", "b", "c", Why::NoKey),
+        (b"a=1\nb=2\n", "a", "b", Why::KeyTaken(2)),
+        (b"a=1\nc=1\nb=2\nb=3\n", "a", "b", Why::KeyTaken(3)),
+        (b"a=1\nb=\\u12\n", "a", "c", few),
+        (b"# C:\\users\na=1\n", "a", "b", not_hex),
+        (b"\xff\xfea\0=\0", "a", "c", utf_16),
+    ];
+    let options = SourceOptions::new(Encoding::UTF_8);
+    check_refused(&rt, rt.alloc(), options, rows.as_slice());
+}
