@@ -55,6 +55,14 @@ given-both a (g ∷ gs) hs es os (given content, gives, (rest, is, h)) k =
     (given content, gives, (followed_by rest os, ap (λ v. followed_by v os) is, given-both a gs hs rest os h k))
 given-both a (g ∷ gs) hs es os (broken how, gives, is) k = (broken how, gives, ap (λ v. followed_by v os) is)
 
+-- After a malformed escape, no group gives more.
+given-all : (a : Asked) (gs hs : List (List Line)) (es : List Entry) → AreGiven a gs es → reading_status es ≢ Done → AreGiven a (gs ++ hs) es
+given-all a [] hs es h stops = absurd (stops (ap reading_status h))
+given-all a (g ∷ gs) hs es (ignored, gives, h) stops = (ignored, gives, given-all a gs hs es h stops)
+given-all a (g ∷ gs) hs es (given content, gives, (rest, is, h)) stops =
+    (given content, gives, (rest, is, given-all a gs hs rest h (λ d. stops (ap reading_status is ∙ d))))
+given-all a (g ∷ gs) hs es (broken how, gives, is) stops = (broken how, gives, is)
+
 -- The number of the first line is the number of what a group gives.
 gives-later : (a : Asked) (k : ℕ) (g : List Line) (o : Outcome) → GivesLine a (joined g) o → GivesLine a (joined (map (lines.later k) g)) o
 gives-later a k g o gives = subst (λ v. GivesLine a v o) (sym (joined-later k g)) gives
@@ -117,6 +125,21 @@ goes-on a e front rest entries h place after others k =
     subst (λ m. AreAsked a e (front ++ (rest ++ after)) (followed_by entries (map (later m) others))) (ap line_endings (sym (lines-are h.has_groups)))
     (asked-of (groups-meet e (front ++ (rest ++ after))) given)
 
+-- The groups of a part and of what follows it.
+whole-groups : (e : Encoding) (front rest after : List ℕ) → IsLineEnd (byte_order_mark e front).encoding (byte_order_mark e front).body rest
+    → (others : List (List Line)) × (groups_in e (front ++ (rest ++ after)) end ≡ groups_in e front end ++ others)
+whole-groups e front rest after place =
+    let two = two-parts e front rest after place in
+    (_, ap (λ v. groups_of (numbered_lines (lines_of v) end) end) two.text ∙ two.groups.together)
+
+stops-there : (a : Asked) (e : Encoding) (front rest : List ℕ) (entries : List Entry) → AreAsked a e front entries
+    → IsLineEnd (byte_order_mark e front).encoding (byte_order_mark e front).body rest → reading_status entries ≢ Done → (after : List ℕ)
+    → AreAsked a e (front ++ (rest ++ after)) entries
+stops-there a e front rest entries h place stops after =
+    let whole = whole-groups e front rest after place in
+    asked-of (groups-meet e (front ++ (rest ++ after)))
+    (subst (λ v. AreGiven a v entries) (sym whole.1) (given-all a (groups_in e front end) whole.0 entries (given-in h) stops))
+
 -- Nothing comes of an empty front.
 nothing : (a : Asked) (e : Encoding) (entries : List Entry) → AreAsked a e [] entries → (entries ≡ []) × (line_endings (lines_of (decoded_of e [])) ≡ 0)
 nothing a e entries h =
@@ -141,6 +164,13 @@ part-goes-on a e front rest entries h (inl none) = by front none h
     by [] same h = none-goes-on a e rest entries h
     by (c ∷ front) same h = absurd (cc)
 part-goes-on a e front rest entries h (inr place) = goes-on a e front rest entries h place
+
+pub part-stops : (a : Asked) (e : Encoding) (front rest : List ℕ) (entries : List Entry) → AreAsked a e front entries
+    → (front ≡ []) ⊎ IsLineEnd (byte_order_mark e front).encoding (byte_order_mark e front).body rest
+    → reading_status entries ≢ Done → (after : List ℕ) → AreAsked a e (front ++ (rest ++ after)) entries
+part-stops a e front rest entries h (inl none) stops after =
+    absurd (stops (ap reading_status (nothing a e entries (subst (λ v. AreAsked a e v entries) none h)).0))
+part-stops a e front rest entries h (inr place) stops after = stops-there a e front rest entries h place stops after
 
 -- ---- what crosses
 
@@ -177,5 +207,6 @@ front-across {a} {e} {part} {front} {rest} bytes found x divided h is d = record
   entries = h.entries;
   asked = h.asked;
   goes_on = part-goes-on a e front rest h.entries h.asked divided.place;
+  stops = part-stops a e front rest h.entries h.asked divided.place;
   delivered = rw (is ∙ h.bytes, h.status, h.line) at d;
 }

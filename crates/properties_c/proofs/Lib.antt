@@ -15,3 +15,4 @@ pub mod GivenParts
 pub mod PackedGroups
 pub mod OneReading
 pub mod WriterSettings
+pub mod WrittenLines

@@ -1,14 +1,10 @@
 -- Packed lists that are taken apart from their fronts.
-use Rattle.std.proofs.Common.{◌≡◌, ℕ, ◌<◌, List, [], ◌∷◌, ◌++◌, length, map, sym, ◌∙◌, arith, append_assoc}
+use Rattle.std.proofs.Common.{ℕ, ◌<◌, List, [], ◌∷◌, ◌++◌, length, sym, ◌∙◌, arith, append_assoc}
 use Rattle.std.proofs.lemmas.List.{append-nil, map-append}
 use Rattle.std.proofs.lemmas.List.Concat.{flat_map-append}
-use Rattle.properties_format.specs.Items.{Content}
 use Rattle.properties_editing.specs.declared.edit.Edit.{Edit}
-use Rattle.java_properties.specs.Calls.{call_in, calls_in}
 use Rattle.java_properties.specs.Editing.{edit_in, edits_in}
-use Rattle.java_properties.specs.PropertiesWriter.{call_of}
-use Rattle.java_properties.specs.declared.writer.calls.Call.{Call}
-use Rattle.properties_c.specs.Packed.{Meaning, edits, lines, AreMeant, Begins, Record, IsSized}
+use Rattle.properties_c.specs.Packed.{Meaning, edits, AreMeant, Begins, Record, IsSized}
 use Rattle.properties_c.specs.Private.Lists.{Splits, IsFirst, RefusesFirst, RefusesRecord}
 use Rattle.properties_c.specs.declared.status.Status.{Status}
 use Rattle.properties_c.specs.declared.status.Status.TheVariants.{NoMemory, NotUtf8, BadList}
@@ -54,19 +50,3 @@ edits-more {list} {rest} {after} found edit before next =
     rw (map-append edit_in found (edit ∷ [])) (Begins-more before next)
 
 pub ruleset taking = (first-refused, edits-more, IsFirst-shorter)
-
--- ---- lines to write
-
--- The list begins with lines, and these are the calls that write them.
-pub record HasCalls (list : List ℕ) (found : List Call) (rest : List ℕ) : Type 0 where
-  pub contents : List Content
-  pub begins : Begins lines list contents rest
-  pub are : calls_in found ≡ map call_of contents
-
-pub HasCalls-more : {list rest after : List ℕ} {found : List Call} {content : Content} (call : Call)
-    → HasCalls list found rest → IsFirst lines rest content after → call_in call ≡ call_of content → HasCalls list (found ++ call ∷ []) after
-HasCalls-more {list} {rest} {after} {found} {content} call before next is = record {
-  contents = before.contents ++ content ∷ [];
-  begins = Begins-more before.begins next;
-  are = simp (map-append, before.are, is);
-}

@@ -1,10 +1,11 @@
 -- A writer that is set in steps, and lines that are refused.
-use Rattle.std.proofs.Common.{◌≡◌, not, ℕ, Bool, true, false, List, [], ◌∷◌, map, refl, sym, inl, inr, Result, Err, drop}
+use Rattle.std.proofs.Common.{◌≡◌, not, ℕ, Bool, true, false, List, [], ◌∷◌, map, length, refl, ap, sym, ◌∙◌, inl, inr, Result, Err, drop}
 use mathlib.Core.Bool.{beq}
-use Rattle.properties_format.specs.Encoding.{Encoding}
+use Rattle.std.proofs.lemmas.List.{drop_at}
+use Rattle.properties_format.specs.Encoding.{Encoding, output_encoding}
 use Rattle.properties_format.specs.Items.{Content, comment, pair}
 use Rattle.properties_format.specs.Settings.{Settings, IsGoodPrefix, IsGoodSeparator}
-use Rattle.properties_format.specs.Writing.{is_accepted, Call}
+use Rattle.properties_format.specs.Writing.{is_accepted, wrote}
 use Rattle.java_properties.specs.PropertiesWriter.{Writing, call_of, SetsText}
 use Rattle.properties_items.specs.Errors.{kind_of}
 use Rattle.properties_items.specs.declared.error.ErrorKind.TheVariants as kind
@@ -12,11 +13,13 @@ use Rattle.properties_items.specs.declared.error.PropertiesError.{PropertiesErro
 use Rattle.std.specs.Prelude.{Ok}
 use Rattle.std.specs.Global.{Vec}
 use Rattle.properties_c.specs.Crossing.{Crossing, Delivers, Refuses}
-use Rattle.properties_c.specs.Private.Results.{SetsAll, WritesOn, has_refused_call}
+use Rattle.properties_c.specs.Packed.{WithList, lines}
+use Rattle.properties_c.specs.Private.Lists.{RefusesList}
+use Rattle.properties_c.specs.Private.Results.{RefusesCalls, SetsAll, WritesOn, has_refused_call, opening}
 use Rattle.properties_c.specs.Statuses.{status_of_kind}
 use Rattle.properties_c.specs.Writing.{WritesLines, has_refused, lines_before}
 use Rattle.properties_c.specs.declared.status.Status.{Status}
-use Rattle.properties_c.specs.declared.status.Status.TheVariants.{Done, NoMemory, BadPrefix, BadSeparator, EmptyKey}
+use Rattle.properties_c.specs.declared.status.Status.TheVariants.{Done, NoMemory, NotUtf8, BadList, BadPrefix, BadSeparator, EmptyKey}
 
 pub prefix-refused : {V W : Type 0} (w : Writing V) (old new : Writing W) (s : Settings) (text : List ℕ) (error : PropertiesError)
     → s.comment_prefix ≡ text → SetsText (IsGoodPrefix text) kind.BadCommentPrefix text old old (Err error) new
@@ -46,24 +49,40 @@ abbrev pub WrittenCrosses : Result (Vec ℕ × ℕ) Status → Crossing → Type
 WrittenCrosses (Ok (bytes, front)) x = Delivers (drop front bytes.items) Done 0 x
 WrittenCrosses (Err status) x = Refuses status 0 x
 
-crossed : (e : Encoding) (s : Settings) (goes_on : Bool) (contents : List Content) (calls : List Call) (written : Result (Vec ℕ × ℕ) Status) (x : Crossing)
-    → calls ≡ map call_of contents → WritesOn e s goes_on calls written → WrittenCrosses written x → WritesLines e s (lines_before goes_on) contents x
-crossed e s goes_on contents calls (Ok (bytes, front)) x same h given = inl record {
-  good = h.0;
-  accepted = rw (sym (refused-lines s contents), sym same) h.1;
-  given = rw (h.3, same) at given;
-}
-crossed e s goes_on contents calls (Err BadPrefix) x same h given = inr (inl (h, given))
-crossed e s goes_on contents calls (Err BadSeparator) x same h given = inr (inr (inl (h.0, h.1, given)))
-crossed e s goes_on contents calls (Err EmptyKey) x same h given =
-    inr (inr (inr (inl (h.0, rw (sym (refused-lines s contents), sym same) h.1, given))))
-crossed e s goes_on contents calls (Err NoMemory) x same h given = inr (inr (inr (inr given)))
-crossed e s goes_on contents calls (Err other) x same h given = absurd h
+crossed : (e : Encoding) (s : Settings) (goes_on : Bool) (contents : List Content) (status : Status) (x : Crossing)
+    → RefusesCalls s (map call_of contents) status → Refuses status 0 x → WritesLines e s (lines_before goes_on) contents x
+crossed e s goes_on contents BadPrefix x h given = inr (inl (h, given))
+crossed e s goes_on contents BadSeparator x h given = inr (inr (inl (h.0, h.1, given)))
+crossed e s goes_on contents EmptyKey x h given = inr (inr (inr (inl (h.0, sym (refused-lines s contents) ∙ h.1, given))))
+crossed e s goes_on contents NoMemory x h given = inr (inr (inr (inr given)))
+crossed e s goes_on contents other x h given = absurd h
+
+list-crossed : (s : Settings) (list : List ℕ) (status : Status) (x : Crossing) {Holds : List Content → Type 0} → RefusesList lines list status
+    → Refuses status 0 x → WithList lines list Holds x
+list-crossed s list BadList x h given = inr (inl (h, given))
+list-crossed s list NotUtf8 x h given = inr (inr (inl (h, given)))
+list-crossed s list NoMemory x h given = inr (inr (inr given))
+list-crossed s list other x h given = absurd h
 
 -- The lines were written with settings that are equal to these.
-pub lines-crossed : (e : Encoding) (asked s : Settings) (goes_on : Bool) (contents : List Content) (calls : List Call)
-    (written : Result (Vec ℕ × ℕ) Status) (x : Crossing)
-    → asked ≡ s → calls ≡ map call_of contents → WritesOn e asked goes_on calls written → WrittenCrosses written x
-    → WritesLines e s (lines_before goes_on) contents x
-lines-crossed e asked s goes_on contents calls written x settled same h given =
-    rw (sym settled) (crossed e asked goes_on contents calls written x same h given)
+pub lines-crossed : (e : Encoding) (asked s : Settings) (goes_on : Bool) (list : List ℕ) (written : Result (Vec ℕ × ℕ) Status) (x : Crossing)
+    → asked ≡ s → WritesOn e asked goes_on list written → WrittenCrosses written x
+    → WithList lines list (λ contents. WritesLines e s (lines_before goes_on) contents x) x
+lines-crossed e asked s goes_on list (Ok (bytes, front)) x settled h given =
+    let k = h.0 in
+    let opened = opening e asked goes_on in
+    let wrote_lines = wrote (output_encoding e) asked (lines_before goes_on) (map call_of k.contents) in
+    let behind : drop front bytes.items ≡ wrote_lines =
+    ap (λ n. drop n bytes.items) h.1 ∙ ap (drop (length opened)) k.is ∙ drop_at opened wrote_lines (length opened) refl in
+    inl (
+      k.contents,
+      k.are_lines,
+      rw (sym settled) (inl record {
+        good = k.good;
+        accepted = sym (refused-lines asked k.contents) ∙ k.accepted;
+        given = rw behind at given;
+      }),
+    )
+lines-crossed e asked s goes_on list (Err status) x settled (inl h) given = list-crossed s list status x h given
+lines-crossed e asked s goes_on list (Err status) x settled (inr (contents, are, h)) given =
+    inl (contents, are, rw (sym settled) (crossed e asked goes_on contents status x h given))

@@ -1,5 +1,5 @@
 -- What the call for items gives: the items of the logical lines of a source, or its groups with the places of their parts.
-use Rattle.std.specs.Prelude.{◌≡◌, ◌⊎◌, ℕ, Bool, true, false, List, [], ◌∷◌, ◌++◌, map, Option, Some, None, encode_utf8_all}
+use Rattle.std.specs.Prelude.{◌≡◌, ◌≢◌, ◌⊎◌, ℕ, Bool, true, false, List, [], ◌∷◌, ◌++◌, map, Option, Some, None, encode_utf8_all}
 use Rattle.properties_format.specs.Encoding.{Encoding, byte_order_mark}
 use Rattle.properties_format.specs.Body.{HeldLine}
 use Rattle.properties_format.specs.Edited.{is_editable}
@@ -157,12 +157,14 @@ GivesGroups a e source x = GivesSpans a e source x ⊎ (is_editable (byte_order_
 
 -- The items of the front are given, as those of a source, and then where it ends. Whatever comes after the part, they
 -- are the first items of it all; and then come those of the rest and of what follows it, read in the encoding in force,
--- as many lines later as the front has line endings.
+-- as many lines later as the front has line endings. After a malformed escape nothing comes: its entries are those of it
+-- all.
 pub record GivesFront (a : Asked) (e : Encoding) (front rest : List ℕ) (x : Crossing) : Type 0 where
   pub entries : List Entry
   pub asked : AreAsked a e front entries
   pub goes_on : (after : List ℕ) (others : List Entry) → AreAsked a (byte_order_mark e front).encoding (rest ++ after) others
       → AreAsked a e (front ++ (rest ++ after)) (followed_by entries (map (later (line_endings asked.has_groups.lines)) others))
+  pub stops : reading_status entries ≢ Done → (after : List ℕ) → AreAsked a e (front ++ (rest ++ after)) entries
   pub delivered : Delivers (packed_items entries ++ end_bytes (reading_status entries) e front (line_endings asked.has_groups.lines)) (reading_status entries)
       (reading_line entries) x
 

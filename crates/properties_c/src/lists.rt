@@ -2,14 +2,14 @@
 
 ghost use Rattle.std.specs.Prelude.{◌≡◌};
 ghost use Rattle.properties_c.specs.Packed.{record_in};
-ghost use Rattle.properties_c.specs.Private.Lists.{CopiesText, MakesCall, MakesEdit, ReadsCalls, ReadsEdits, ReadsFirstCall, ReadsFirstEdit};
+ghost use Rattle.properties_c.specs.Private.Lists.{CopiesText, MakesEdit, MakesLine, ReadsEdits, ReadsFirstEdit, ReadsFirstLine, TakesText};
 ghost use Rattle.properties_c.specs.declared.status.Status.TheVariants.{NoMemory};
 
 use crate::encoding::text_of;
 use crate::items::{COMMENT, PAIR};
 use crate::records::{Record, split_record};
 use crate::status::Status;
-use java_properties::{Call, Edit};
+use java_properties::Edit;
 use std::alloc::{AllocError, AllocFailed, Global};
 
 // The kind of an edit that sets a key. Edits and lines have different kinds, so that a list of the one isn't taken for
@@ -21,6 +21,15 @@ const REMOVE: usize = 3;
 
 // The kind of an edit that sets a value.
 const SET_VALUE: usize = 4;
+
+/// A line to write, with its texts in the list.
+#[derive(Clone, Copy)]
+pub enum Line<'a> {
+    /// A comment.
+    Comment(&'a str),
+    /// A key and its value.
+    Pair(&'a str, &'a str),
+}
 
 impl From<AllocError> for Status {
     ghost from_gives = { λ _ status. status ≡ NoMemory };
@@ -57,24 +66,6 @@ pub fn edits_of(alloc: Global, list: &[u8]) -> Result<Vec<Edit>, Status>
     Ok(edits)
 }
 
-/// Returns the calls that write the lines of a packed list, or why it is refused.
-pub fn calls_of(alloc: Global, list: &[u8]) -> Result<Vec<Call>, Status>
-    ensures { ReadsCalls list.now result }
-{
-    let mut calls = Vec::new(alloc);
-    let mut rest = list;
-    while !rest.is_empty() {
-        match first_call(alloc, rest) {
-            Ok((call, after)) => {
-                calls.push(call)?;
-                rest = after;
-            }
-            Err(status) => return Err(status),
-        }
-    }
-    Ok(calls)
-}
-
 // Returns the first edit of a list and what comes after it.
 #[tactic(auto, using(crate::proofs::TakenApart::taking))]
 fn first_edit(alloc: Global, list: &[u8]) -> Result<(Edit, &[u8]), Status>
@@ -89,16 +80,17 @@ fn first_edit(alloc: Global, list: &[u8]) -> Result<(Edit, &[u8]), Status>
     }
 }
 
-// Returns the first call of a list and what comes after it.
+/// Returns the first line of a list and what comes after it.
+#[inline(always)]
 #[tactic(auto, using(crate::proofs::TakenApart::taking))]
-fn first_call(alloc: Global, list: &[u8]) -> Result<(Call, &[u8]), Status>
-    ensures { ReadsFirstCall list.now result }
+pub fn first_line(list: &[u8]) -> Result<(Line<'_>, &[u8]), Status>
+    ensures { ReadsFirstLine list.now result }
 {
     let Some((first, rest)) = split_record(list) else {
         return Err(Status::BadList);
     };
-    match call_of(alloc, first) {
-        Ok(call) => Ok((call, rest)),
+    match line_of(first) {
+        Ok(line) => Ok((line, rest)),
         Err(status) => Err(status),
     }
 }
@@ -125,21 +117,33 @@ fn edit_of(alloc: Global, given: Record<'_>) -> Result<Edit, Status>
     }
 }
 
-fn call_of(alloc: Global, given: Record<'_>) -> Result<Call, Status>
-    ensures { MakesCall (record_in given.entry) result }
+#[inline(always)]
+fn line_of(given: Record<'_>) -> Result<Line<'_>, Status>
+    ensures { MakesLine (record_in given.entry) result }
 {
     match given.kind {
         COMMENT => {
             if !given.key.is_empty() {
                 return Err(Status::BadList);
             }
-            Ok(Call::Comment(copy_of(alloc, given.value)?))
+            Ok(Line::Comment(sound_text(given.value)?))
         }
         PAIR => {
-            let key = copy_of(alloc, given.key)?;
-            Ok(Call::Pair(key, copy_of(alloc, given.value)?))
+            let key = sound_text(given.key)?;
+            Ok(Line::Pair(key, sound_text(given.value)?))
         }
         _ => Err(Status::BadList),
+    }
+}
+
+// Returns the text with these bytes.
+#[inline(always)]
+fn sound_text(bytes: &[u8]) -> Result<&str, Status>
+    ensures { TakesText bytes.now result }
+{
+    match text_of(bytes) {
+        Some(text) => Ok(text),
+        None => Err(Status::NotUtf8),
     }
 }
 

@@ -54,16 +54,19 @@ pub fn push_spanned(
     Ok(())
 }
 
-// Appends the numbers at the front of a record.
-#[tactic(auto, using(std::proofs::Common::append_assoc))]
+// Appends the numbers at the front of a record, at once.
+#[tactic(auto, unfolding(crate::specs::Packed::number_bytes))]
 #[inline(always)]
 fn push_header(bytes: &mut Vec<u8>, given: Record<'_>) -> Result<(), AllocError>
     ensures { OnOk result (bytes.new.items ≡ bytes.old.items ++ header_bytes (header_of (record_in given.entry))) }
 {
-    push_number(bytes, given.kind)?;
-    push_number(bytes, given.line)?;
-    push_number(bytes, given.key.len())?;
-    push_number(bytes, given.value.len())
+    let numbers = [
+        given.kind.to_le_bytes(),
+        given.line.to_le_bytes(),
+        given.key.len().to_le_bytes(),
+        given.value.len().to_le_bytes(),
+    ];
+    bytes.extend_from_slice(numbers.as_slice().as_flattened())
 }
 
 fn push_numbers(bytes: &mut Vec<u8>, numbers: &[usize]) -> Result<(), AllocError>

@@ -2,21 +2,21 @@
 
 ghost use Rattle.std.specs.Prelude.{◌≡◌};
 ghost use Rattle.std.specs.Str.{chars};
-ghost use Rattle.java_properties.specs.Calls.{calls_in};
 ghost use Rattle.properties_items.specs.Line.{ending_of};
 ghost use Rattle.properties_text.specs.Encoding.{encoding_of};
 ghost use Rattle.properties_c.specs.Crossing.{crossing};
 ghost use Rattle.properties_c.specs.Writing.{given_or as chosen, ending_in, settings_for, WritesAcross};
 ghost use Rattle.java_properties.specs.PropertiesWriter.{new_writer};
 ghost use Rattle.properties_format.specs.Encoding.{output_encoding};
-ghost use Rattle.properties_c.specs.Private.Results.{SetsAll, WritesCalls, WritesOn};
+ghost use Rattle.properties_c.specs.Private.Lists.{line_in};
+ghost use Rattle.properties_c.specs.Private.Results.{acceptance, AddsLine, AddsLines, Opens, RefusesListFirst, SetsAll, WritesList, WritesOn};
 
 use crate::encoding::{FOR_LINES, Flags, encoding_numbered, flags_numbered, text_of};
-use crate::lists::calls_of;
+use crate::lists::{Line, first_line};
 use crate::out::{refuse, write_bytes};
 use crate::status::{Status, status_of};
 use counted_io::{Counted, CountedWrite};
-use java_properties::{Call, Encoding, LineEnding, PropertiesWriter, run_calls};
+use java_properties::{Encoding, ErrorKind, LineEnding, PropertiesError, PropertiesWriter};
 use std::alloc::Global;
 
 /// Gives the bytes of a packed list of comments and pairs, as a writer writes them with these settings. A prefix or a
@@ -48,63 +48,151 @@ pub extern "C" fn todrenval_write(
     let Some(separator) = text_of(separator) else {
         return refuse(Status::NotUtf8, length, line);
     };
-    let calls = match calls_of(alloc, list) {
-        Ok(calls) => calls,
-        Err(status) => return refuse(status, length, line),
-    };
-    match written_going_on(alloc, calls, encoding, flags, prefix, separator) {
+    match written_going_on(alloc, list, encoding, flags, prefix, separator) {
         Ok((bytes, front)) => write_bytes(&bytes[front..], out, length, line),
         Err(status) => refuse(status, length, line),
     }
 }
 
-// Returns what a writer with these settings writes for these calls, and how long its front is that isn't asked for. If
-// lines were written before, a comment comes first, so that no other line is the first of a file.
+// Returns what a writer with these settings writes for the lines of a list, and how long its front is that isn't asked
+// for.
 fn written_going_on(
     alloc: Global,
-    calls: Vec<Call>,
+    list: &[u8],
     encoding: Encoding,
     flags: Flags,
     prefix: &str,
     separator: &str,
 ) -> Result<(Vec<u8>, usize), Status>
     ensures { let settings = settings_for flags (chars prefix.now) (chars separator.now) in
-        WritesOn (encoding_of encoding) settings flags.goes_on (calls_in calls.items) result }
+        WritesOn (encoding_of encoding) settings flags.goes_on list.now result }
 {
-    let mut calls = calls;
-    let mut front = 0;
-    if flags.goes_on {
-        calls.insert(0, Call::Comment(String::new(alloc)))?;
-        let first = written(alloc, &calls[..1], encoding, flags, prefix, separator)?;
-        front = first.len();
+    let bytes = written(alloc, list, encoding, flags, prefix, separator)?;
+    match opened_writer(alloc, encoding, flags, prefix, separator) {
+        Ok(writer) => {
+            let sink = writer.into_inner();
+            let opening = sink.into_inner();
+            Ok((bytes, opening.len()))
+        }
+        Err(status) => Err(status),
     }
-    let bytes = written(alloc, &calls, encoding, flags, prefix, separator)?;
-    Ok((bytes, front))
 }
 
-// Returns what a writer with these settings writes for these calls.
+// Returns what a writer with these settings writes for the lines of a list, behind its opening.
 fn written(
     alloc: Global,
-    calls: &[Call],
+    list: &[u8],
     encoding: Encoding,
     flags: Flags,
     prefix: &str,
     separator: &str,
 ) -> Result<Vec<u8>, Status>
     ensures { let settings = settings_for flags (chars prefix.now) (chars separator.now) in
-        WritesCalls (encoding_of encoding) settings (calls_in calls.now) result }
+        WritesList (encoding_of encoding) settings flags.goes_on list.now result }
+{
+    let mut writer = match opened_writer(alloc, encoding, flags, prefix, separator) {
+        Ok(writer) => writer,
+        Err(Status::NoMemory) => return Err(Status::NoMemory),
+        Err(status) => return Err(refused_for(alloc, list, encoding, status)),
+    };
+    match write_lines(list, &mut writer) {
+        Ok(true) => Err(Status::EmptyKey),
+        Ok(false) => {
+            let sink = writer.into_inner();
+            Ok(sink.into_inner())
+        }
+        Err(status) => Err(status),
+    }
+}
+
+// Returns a new writer with these settings. If lines were written before, it has written a comment, so that no other
+// line is the first of a file.
+fn opened_writer(
+    alloc: Global,
+    encoding: Encoding,
+    flags: Flags,
+    prefix: &str,
+    separator: &str,
+) -> Result<PropertiesWriter<Counted<Vec<u8>>>, Status>
+    ensures { let settings = settings_for flags (chars prefix.now) (chars separator.now) in
+        Opens (encoding_of encoding) settings flags.goes_on result }
 {
     let sink = Counted::new(Vec::new(alloc));
     let mut writer = writer_for(alloc, sink, encoding, flags, prefix, separator)?;
-    // Writing to memory fails only if memory runs out.
-    let Ok(accepted) = run_calls(alloc, calls, &mut writer) else {
-        return Err(Status::NoMemory);
-    };
-    if accepted.contains(&false) {
-        return Err(Status::EmptyKey);
+    if !flags.goes_on {
+        return Ok(writer);
     }
-    let sink = writer.into_inner();
-    Ok(sink.into_inner())
+    match write_line(Line::Comment(""), &mut writer) {
+        Ok(_) => Ok(writer),
+        Err(status) => Err(status),
+    }
+}
+
+// Returns why a list is refused if the settings are refused with this status: first because of itself.
+fn refused_for(alloc: Global, list: &[u8], encoding: Encoding, status: Status) -> Status
+    ensures { RefusesListFirst list.now status result }
+{
+    let sink = Counted::new(Vec::new(alloc));
+    let Ok(mut writer) = PropertiesWriter::new_with_encoding(alloc, sink, encoding) else {
+        return Status::NoMemory;
+    };
+    match write_lines(list, &mut writer) {
+        Ok(_) => status,
+        Err(refused) => refused,
+    }
+}
+
+// Writes the lines of a list, and returns whether the writer didn't accept one of them.
+fn write_lines<W: CountedWrite>(
+    list: &[u8],
+    writer: &mut PropertiesWriter<W>,
+) -> Result<bool, Status>
+    ensures { AddsLines W.CountedWrite list.now writer.old result writer.new }
+{
+    let mut has_refused = false;
+    let mut rest = list;
+    while !rest.is_empty() {
+        match first_line(rest) {
+            Ok((line, after)) => match write_line(line, writer) {
+                Ok(is_accepted) => {
+                    has_refused = has_refused || !is_accepted;
+                    rest = after;
+                }
+                Err(status) => return Err(status),
+            },
+            Err(status) => return Err(status),
+        }
+    }
+    Ok(has_refused)
+}
+
+// Writes a line, and returns whether the writer accepted it.
+#[tactic(auto, using(crate::proofs::WrittenLines::adding))]
+#[inline(always)]
+fn write_line<W: CountedWrite>(
+    line: Line<'_>,
+    writer: &mut PropertiesWriter<W>,
+) -> Result<bool, Status>
+    ensures { AddsLine W.CountedWrite (line_in line.entry) writer.old result writer.new }
+{
+    match line {
+        Line::Comment(text) => was_accepted(writer.write_comment(text)),
+        Line::Pair(key, value) => was_accepted(writer.write(key, value)),
+    }
+}
+
+// Returns whether a line was accepted. Any other error comes of writing to memory, which fails only if it runs out.
+#[inline(always)]
+fn was_accepted(done: Result<(), PropertiesError>) -> Result<bool, Status>
+    ensures { result ≡ acceptance done }
+{
+    match done {
+        Ok(()) => Ok(true),
+        Err(error) => match error.kind() {
+            ErrorKind::EmptyKey => Ok(false),
+            _ => Err(Status::NoMemory),
+        },
+    }
 }
 
 // Returns a new writer with these settings, or why they are refused.

@@ -1,16 +1,15 @@
 -- What taking a packed list apart returns.
-use Rattle.std.specs.Prelude.{◌≡◌, ◌+◌, ◌++◌, ℕ, List, take, drop, length, ◌<◌, ◌^◌, map, Option, Some, None, Result, Ok, Err}
+use Rattle.std.specs.Prelude.{◌≡◌, ◌+◌, ◌++◌, ℕ, List, length, ◌<◌, ◌^◌, Option, Some, None, Result, Ok, Err}
 use Rattle.properties_c.specs.Packed.{number_bytes, IsText, Meaning, edits, lines, IsPackedList, IsBadList, LacksText, HasNoRecord, HasNoText, Record, packed, record_in, IsSized}
+use Rattle.properties_c.specs.declared.lists.Line.{Line}
+use Rattle.properties_c.specs.declared.lists.Line.TheVariants.{Comment, Pair}
 use Rattle.properties_c.specs.declared.records.Header.{Header}
 use Rattle.std.specs.Borrow.{Bor}
 use Rattle.std.specs.Global.{Vec}
-use Rattle.std.specs.Str.{IsUtf8}
-use Rattle.properties_format.specs.Items.{Content}
-use Rattle.java_properties.specs.Calls.{call_in, calls_in}
+use Rattle.std.specs.Str.{IsUtf8, chars}
+use Rattle.properties_format.specs.Items.{Content, comment, pair}
 use Rattle.java_properties.specs.Editing.{edit_in, edits_in}
-use Rattle.java_properties.specs.PropertiesWriter.{call_of}
 use Rattle.properties_editing.specs.declared.edit.Edit.{Edit}
-use Rattle.java_properties.specs.declared.writer.calls.Call.{Call}
 use Rattle.std.specs.declared.string.String.{String}
 use Rattle.properties_items.specs.Texts.{characters}
 use Rattle.properties_c.specs.declared.records.Record as code
@@ -87,14 +86,20 @@ ReadsEdits list (Err status) = RefusesList edits list status
 
 -- ---- lines to write
 
-abbrev pub MakesCall : Record → Result Call Status → Type 0
-MakesCall r (Ok call) = (content : Content) × lines.Means r content × (call_in call ≡ call_of content)
-MakesCall r (Err status) = RefusesRecord lines r status
+-- the result of taking a text
+abbrev pub TakesText : List ℕ → Result (Bor (List ℕ)) Status → Type 0
+TakesText bytes (Ok text) = IsText bytes (chars text.now)
+TakesText bytes (Err status) = RefusesFor ⊥ (¬ IsUtf8 bytes) status
 
-abbrev pub ReadsFirstCall : List ℕ → Result (Call × Bor (List ℕ)) Status → Type 0
-ReadsFirstCall list (Ok (call, rest)) = (content : Content) × IsFirst lines list content rest.now × (call_in call ≡ call_of content)
-ReadsFirstCall list (Err status) = RefusesFirst lines list status
+-- what a line holds
+abbrev pub line_in : Line → Content
+line_in (Comment text) = comment (chars text.now)
+line_in (Pair key value) = pair (chars key.now) (chars value.now)
 
-abbrev pub ReadsCalls : List ℕ → Result (Vec Call) Status → Type 0
-ReadsCalls list (Ok found) = (contents : List Content) × IsPackedList lines list contents × (calls_in found.items ≡ map call_of contents)
-ReadsCalls list (Err status) = RefusesList lines list status
+abbrev pub MakesLine : Record → Result Line Status → Type 0
+MakesLine r (Ok line) = lines.Means r (line_in line)
+MakesLine r (Err status) = RefusesRecord lines r status
+
+abbrev pub ReadsFirstLine : List ℕ → Result (Line × Bor (List ℕ)) Status → Type 0
+ReadsFirstLine list (Ok (line, rest)) = IsFirst lines list (line_in line) rest.now
+ReadsFirstLine list (Err status) = RefusesFirst lines list status

@@ -1,5 +1,5 @@
 -- What the exports write to memory of what they read, find and print.
-use Rattle.std.specs.Prelude.{ℕ, List, ◌≡◌, ◌≤◌, ◌⊎◌, ◌++◌, [], length, take, drop, Option, Some, None, Result, Ok, Err, if◌then◌else◌, Bool, true, false, encode_utf8_all}
+use Rattle.std.specs.Prelude.{ℕ, List, ◌≡◌, ◌≤◌, ◌⊎◌, ◌++◌, [], ◌∷◌, length, map, take, drop, Option, Some, None, Result, Ok, Err, if◌then◌else◌, Bool, true, false, encode_utf8_all}
 use Rattle.std.specs.List.{list_any}
 use Rattle.properties_format.specs.Computed.Encoding.{decoded_of}
 use Rattle.properties_format.specs.Computed.Items.{outcome_of}
@@ -10,7 +10,7 @@ use Rattle.properties_format.specs.Items.{Content, Entry, Outcome, ignored, give
 use Rattle.properties_format.specs.Split.{Logical, blank}
 use Rattle.properties_format.specs.Escapes.{Malformed}
 use Rattle.properties_items.specs.BorrowedItems.{IsNoItem, borrowed_content}
-use Rattle.properties_items.specs.Errors.{IsMalformed}
+use Rattle.properties_items.specs.Errors.{IsMalformed, kind_of}
 use Rattle.properties_items.specs.declared.borrowed.LineRef.{LineRef}
 use Rattle.properties_editing.specs.Views.{OpenView, IsViewOf, ArePlaces, AreOrdered, TellsFlaw, TellsIllFormed}
 use Rattle.properties_editing.specs.declared.group.Flaw.{Flaw}
@@ -20,7 +20,7 @@ use Rattle.properties_editing.specs.declared.group.PartPlaces.{PartPlaces}
 use Rattle.properties_editing.specs.declared.group.ViewedGroup.{ViewedGroup}
 use Rattle.properties_c.specs.Items.{AreAsked, GivesLine, IsPackedGroup, ArePacked, key_in, span_numbers, value_in}
 use Rattle.properties_c.specs.Parts.{IsLineEnd}
-use Rattle.properties_c.specs.Packed.{end_bytes, item_record, Record, packed, packed_items, reading_line, reading_status, finding_bytes, packed_findings}
+use Rattle.properties_c.specs.Packed.{IsPackedList, lines, end_bytes, item_record, Record, packed, packed_items, reading_line, reading_status, finding_bytes, packed_findings}
 use Rattle.properties_c.specs.declared.asked.Asked.{Asked}
 use Rattle.properties_c.specs.declared.asked.Texts.{Texts}
 use Rattle.properties_c.specs.declared.asked.Texts.TheVariants as texts
@@ -37,8 +37,13 @@ use Rattle.properties_items.specs.declared.error.PropertiesError.{PropertiesErro
 use Rattle.properties_items.specs.declared.findings.MalformedEscape.{MalformedEscape}
 use mathlib.Core.Bool.{beq}
 use Rattle.properties_format.specs.Settings.{Settings, IsGoodPrefix, IsGoodSeparator}
-use Rattle.properties_format.specs.Writing.{Call, answers, wrote}
-use Rattle.java_properties.specs.PropertiesWriter.{Writing, with_settings}
+use Rattle.properties_format.specs.Writing.{Call, comment_call, answers, wrote}
+use Rattle.counted_io.specs.Counting.{counted_inner}
+use Rattle.counted_io.specs.Streams.{Sink}
+use Rattle.counted_io.specs.declared.counted.Counted.{Counted}
+use Rattle.java_properties.specs.Calls.{HasMade, HasMadeCall}
+use Rattle.java_properties.specs.PropertiesWriter.{Writing, call_of, with_settings}
+use Rattle.properties_c.specs.Private.Lists.{RefusesList}
 use Rattle.properties_c.specs.Writing.{AreGood, lines_before}
 use Rattle.properties_tools.specs.declared.propedit.error.Failure.{Failure}
 use Rattle.properties_tools.specs.declared.propedit.error.Failure.TheVariants.{HoldsZero, NotUtf8, NotUtf8ByMark, NotUtf16}
@@ -177,35 +182,90 @@ FindsAll e source (Err error) = IsBareError kind.Memory error
 
 -- ---- What a writer with these settings writes.
 
--- This is the writer with these settings; or one of them is bad, of which the first counts.
+-- One of the settings is bad, of which the first counts; or memory ran out.
+abbrev pub RefusesSettings : Settings → Status → Type 0
+RefusesSettings s BadPrefix = IsGoodPrefix s.comment_prefix → ⊥
+RefusesSettings s BadSeparator = IsGoodPrefix s.comment_prefix × (IsGoodSeparator s.kv_separator → ⊥)
+RefusesSettings s NoMemory = Unit {0}
+RefusesSettings s other = ⊥
+
+-- This is the writer with these settings, or they are refused.
 abbrev pub SetsAll : {W : Type 0} → Writing W → Settings → Result (Writing W) Status → Type 0
 SetsAll w s (Ok writer) = AreGood s × (writer ≡ with_settings w s)
-SetsAll w s (Err BadPrefix) = IsGoodPrefix s.comment_prefix → ⊥
-SetsAll w s (Err BadSeparator) = IsGoodPrefix s.comment_prefix × (IsGoodSeparator s.kv_separator → ⊥)
-SetsAll w s (Err NoMemory) = Unit {0}
-SetsAll w s (Err other) = ⊥
+SetsAll w s (Err status) = RefusesSettings s status
 
 -- whether a call is not accepted
 abbrev pub has_refused_call : Settings → List Call → Bool
 has_refused_call s calls = list_any (λ answer. beq answer false) (answers s calls)
 
--- Why the calls were refused.
+-- Why lines are refused: because of the settings, or because one isn't accepted.
 abbrev pub RefusesCalls : Settings → List Call → Status → Type 0
-RefusesCalls s calls BadPrefix = IsGoodPrefix s.comment_prefix → ⊥
-RefusesCalls s calls BadSeparator = IsGoodPrefix s.comment_prefix × (IsGoodSeparator s.kv_separator → ⊥)
 RefusesCalls s calls EmptyKey = AreGood s × (has_refused_call s calls ≡ true)
-RefusesCalls s calls NoMemory = Unit {0}
-RefusesCalls s calls other = ⊥
+RefusesCalls s calls status = RefusesSettings s status
 
--- These are the bytes of the calls, and all were accepted; or this is wrong.
-abbrev pub WritesCalls : Encoding → Settings → List Call → Result (Vec ℕ) Status → Type 0
-WritesCalls e s calls (Ok bytes) =
-    AreGood s × (has_refused_call s calls ≡ false) × (bytes.items ≡ wrote (output_encoding e) s 0 calls)
-WritesCalls e s calls (Err status) = RefusesCalls s calls status
+-- Why a list is refused whose lines are written with these settings.
+abbrev pub RefusesLines : Settings → List ℕ → Status → Type 0
+RefusesLines s list status =
+    RefusesList lines list status ⊎ ((contents : List Content) × IsPackedList lines list contents × RefusesCalls s (map call_of contents) status)
 
--- The same after some lines, behind a front of this length.
-abbrev pub WritesOn : Encoding → Settings → Bool → List Call → Result (Vec ℕ × ℕ) Status → Type 0
-WritesOn e s goes_on calls (Ok (bytes, front)) =
-    AreGood s × (has_refused_call s calls ≡ false) × (front ≤ length bytes.items)
-    × (drop front bytes.items ≡ wrote (output_encoding e) s (lines_before goes_on) calls)
-WritesOn e s goes_on calls (Err status) = RefusesCalls s calls status
+-- The list is refused with this status; or it isn't, and the status is that of the settings.
+abbrev pub RefusesListFirst : List ℕ → Status → Status → Type 0
+RefusesListFirst list settings status =
+    RefusesList lines list status ⊎ ((contents : List Content) × IsPackedList lines list contents × (status ≡ settings))
+
+-- whether a line was accepted, by the result of writing it to memory
+abbrev pub accepted_for : ErrorKind → Result Bool Status
+accepted_for kind.EmptyKey = Ok false
+accepted_for other = Err NoMemory
+
+abbrev pub acceptance : Result Unit PropertiesError → Result Bool Status
+acceptance (Ok done) = Ok true
+acceptance (Err error) = accepted_for (kind_of error)
+
+-- A line was written, or the writer didn't accept it; or memory ran out.
+abbrev pub AddsLine : {W : Type 0} → Sink W → Content → Writing W → Result Bool Status → Writing W → Type 0
+AddsLine sink content old (Ok accepted) new = HasMadeCall sink old (call_of content) accepted new
+AddsLine sink content old (Err status) new = status ≡ NoMemory
+
+-- The lines of a list were written that the writer accepts, and this is whether it didn't accept one.
+pub record HasAddedAll {W : Type 0} (sink : Sink W) (list : List ℕ) (old : Writing W) (refused : Bool) (new : Writing W) : Type 0 where
+  pub contents : List Content
+  pub are_lines : IsPackedList lines list contents
+  pub made : HasMade sink old (map call_of contents) new
+  pub refuses : refused ≡ has_refused_call old.settings (map call_of contents)
+
+abbrev pub AddsLines : {W : Type 0} → Sink W → List ℕ → Writing W → Result Bool Status → Writing W → Type 0
+AddsLines sink list old (Ok refused) new = HasAddedAll sink list old refused new
+AddsLines sink list old (Err status) new = RefusesList lines list status
+
+-- what a writer with these settings writes before the lines of a call, if lines were written before
+abbrev pub opening : Encoding → Settings → Bool → List ℕ
+opening e s false = []
+opening e s true = wrote (output_encoding e) s 0 (comment_call [] ∷ [])
+
+-- This is the writer with these settings that wrote its opening; or one of them is bad, of which the first counts.
+pub record HasOpened (e : Encoding) (s : Settings) (goes_on : Bool) (w : Writing (Counted (Vec ℕ))) : Type 0 where
+  pub good : AreGood s
+  pub is : w ≡ record { sink = w.sink; encoding = output_encoding e; settings = s; lines = lines_before goes_on; failed = false }
+  pub wrote_before : (counted_inner w.sink).items ≡ opening e s goes_on
+
+abbrev pub Opens : Encoding → Settings → Bool → Result (Writing (Counted (Vec ℕ))) Status → Type 0
+Opens e s goes_on (Ok writer) = HasOpened e s goes_on writer
+Opens e s goes_on (Err status) = RefusesSettings s status
+
+-- These are the opening and the lines of a list, and all were accepted; or this is wrong.
+pub record HasWrittenList (e : Encoding) (s : Settings) (goes_on : Bool) (list bytes : List ℕ) : Type 0 where
+  pub contents : List Content
+  pub are_lines : IsPackedList lines list contents
+  pub good : AreGood s
+  pub accepted : has_refused_call s (map call_of contents) ≡ false
+  pub is : bytes ≡ opening e s goes_on ++ wrote (output_encoding e) s (lines_before goes_on) (map call_of contents)
+
+abbrev pub WritesList : Encoding → Settings → Bool → List ℕ → Result (Vec ℕ) Status → Type 0
+WritesList e s goes_on list (Ok bytes) = HasWrittenList e s goes_on list bytes.items
+WritesList e s goes_on list (Err status) = RefusesLines s list status
+
+-- The same, with the length of the opening.
+abbrev pub WritesOn : Encoding → Settings → Bool → List ℕ → Result (Vec ℕ × ℕ) Status → Type 0
+WritesOn e s goes_on list (Ok (bytes, front)) = HasWrittenList e s goes_on list bytes.items × (front ≡ length (opening e s goes_on))
+WritesOn e s goes_on list (Err status) = RefusesLines s list status
