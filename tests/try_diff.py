@@ -1,17 +1,19 @@
 #!/usr/bin/env python3
-"""Compares what `propedit diff` prints of random pairs of files with a model of the format in Python.
+"""Compares what `propedit diff` and `check --base` print of random pairs of files with a model of the format in Python.
 
     tests/try_diff.py PROPEDIT [PAIRS]
 
 It makes two files at a time, reads both by the model, and expects the differences of the two maps, in order, with their
-lines; and that each pair which is printed reads back, in the model, as the key and the value. It prints how many pairs
-of files passed, and stops with status 1 at the first that differs.
+lines; that each pair which is printed reads back, in the model, as the key and the value; and the keys that only one of
+the files has, with the lines of their first pairs. It prints how many pairs of files passed, and stops with status 1 at
+the first that differs.
 """
 import os
 import random
 import subprocess
 import sys
 import tempfile
+import unicodedata
 
 PIECES = ["a", "b", "k", "ab", "é", "😀", " ", "  ", "\t", "\f", "=", ":", "#", "!", "\\", "\\\\", "\\n", "\\t", "\\ ", "\\=",
           "\\u0061", "\\u00e9", "\\ud83d\\ude00", "\\u0007", "\n", "\n", "\n", "\r\n", "\r", "\\\n", "\\\r\n  ", "k=", "a:", "\na=1\n"]
@@ -96,6 +98,27 @@ def differences(old, new):
             yield "new", number, "+", key, value
 
 
+def firsts(text):
+    """The line of the first pair with each key, in order."""
+    rows = {}
+    for number, key, _ in pairs(text):
+        rows.setdefault(key, number)
+    return rows
+
+
+def shown(key):
+    return "".join(f"\\u{{{ord(c):x}}}" if unicodedata.category(c) == "Cc" else c for c in key)
+
+
+def comparison(old, new):
+    for key, number in old.items():
+        if key not in new:
+            yield f"new: key '{shown(key)}' is missing (old:{number})"
+    for key, number in new.items():
+        if key not in old:
+            yield f"new:{number}: key '{shown(key)}' is not in old"
+
+
 def printed(lines):
     for line in lines:
         name, number, rest = line.split(":", 2)
@@ -134,6 +157,12 @@ def main(program, count):
             wanted = list(differences(table(old), table(new)))
             found = list(printed(run.stdout.decode().split("\n")[:-1]))
             if (run.returncode, found, run.stderr) != (1 if wanted else 0, wanted, b""):
+                print(f"old {old!r}\nnew {new!r}\nfound {run.returncode} {found} {run.stderr}\nwanted {wanted}", file=sys.stderr)
+                sys.exit(1)
+            run = subprocess.run([os.path.abspath(program), "check", "--base", "old", "new"], cwd=folder, capture_output=True)
+            wanted = list(comparison(firsts(old), firsts(new)))
+            found = [line for line in run.stdout.decode().split("\n") if ": key '" in line]
+            if (found, run.stderr) != (wanted, b"") or run.returncode != (1 if run.stdout else 0):
                 print(f"old {old!r}\nnew {new!r}\nfound {run.returncode} {found} {run.stderr}\nwanted {wanted}", file=sys.stderr)
                 sys.exit(1)
             passed += 1

@@ -83,9 +83,9 @@ leaves_nothing() {
 run --help
 gives 0 "$(cat ../output)\n" ''
 cp ../output ../usage
-for words in 'Usage: propedit COMMAND [OPTION ..] [ARGUMENT ..]' '  get KEY ..  ' '  list [PREFIX]  ' '  check [FILE ..]  ' '  diff OLD NEW  ' \
+for words in 'Usage: propedit COMMAND [OPTION ..] [ARGUMENT ..]' '  get KEY ..  ' '  list [PREFIX]  ' '  comment KEY  ' '  check [FILE ..]  ' '  diff OLD NEW  ' \
     '  set KEY VALUE  ' '  remove KEY  ' '  merge FILE  ' '  convert ENCODING  ' '  help [COMMAND]  ' '-f, --file FILE' '-i, --in-place FILE' '--create' '-e, --encoding NAME' \
-    '-d, --default VALUE' '-z, --null' '-v, --values' '-a, --ascii' '-x, --existing' '--known' '--pairs' '-q, --quiet' '-v, --verbose' '-r, --readable' '-h, --help' '-V, --version' 'utf-8 (default)' iso-8859-1 \
+    '-d, --default VALUE' '-z, --null' '-v, --values' '-a, --ascii' '-x, --existing' '--known' '--base FILE' '--pairs' '-q, --quiet' '-v, --verbose' '-r, --readable' '-h, --help' '-V, --version' 'utf-8 (default)' iso-8859-1 \
     'Options come before or after the command, but before its first argument' "comes after '--'" 'standard input' \
     'Status: 0'; do
     grep -qF -- "$words" ../usage || fail "the usage lacks: $words"
@@ -95,9 +95,9 @@ is "$(awk 'length > 80' ../usage)" ''
 run -h
 gives 0 "$(cat ../usage)\n" ''
 run --version
-gives 0 'propedit 1.17.0\n' ''
+gives 0 'propedit 1.18.0\n' ''
 run -V
-gives 0 'propedit 1.17.0\n' ''
+gives 0 'propedit 1.18.0\n' ''
 run -f nowhere --help get
 gives 0 "$(cat ../usage)\n" ''
 run help
@@ -116,9 +116,10 @@ while read -r name options; do
     done
 done <<'end'
 get file encoding default null
-list file encoding null values
-check file encoding ascii pairs quiet
-diff encoding
+list file encoding null values json
+comment file encoding
+check file encoding ascii base pairs quiet
+diff encoding json
 set file in-place create encoding ascii existing verbose
 remove file in-place create encoding ascii existing verbose
 merge file in-place create encoding null ascii existing known verbose
@@ -130,7 +131,7 @@ is "$(head -n 3 ../output)" $'Prints the commands, or the page of one of them\n\
 run help remove
 is "$(tail -n 2 ../output)" $'Status: 0 done; 1 no pair has a KEY, and -x is given; 2 an error.\nThe option -a requires a \'set\'.'
 run get -V
-gives 0 'propedit 1.17.0\n' ''
+gives 0 'propedit 1.18.0\n' ''
 
 # Each option, short and long.
 
@@ -213,6 +214,24 @@ gives 0 '1\0' ''
 run -z -d x get get absent
 gives 0 '2\0x\0' ''
 
+# comment
+
+given '# head\n\n# the user\n#\n!  of C:\\users\\u12\nuser = app\nhost=a\n'
+run comment user
+gives 0 'the user\n\n of C:\\users\\u12\n' ''
+run comment -f app.properties user
+gives 0 'the user\n\n of C:\\users\\u12\n' ''
+run comment host
+gives 0 '' ''
+run comment -- port
+gives 1 '' ''
+given '# one\nport = \\u12\n'
+run comment port
+gives 2 '' 'propedit: standard input:2: Malformed \\uxxxx encoding: not enough digits.\n'
+given '\0#\0a'
+run -e utf-16be comment a
+gives 2 '' "propedit: standard input: UTF-16 can be read but not edited; propedit convert utf-8 converts it\n"
+
 # list
 
 given 'b = 1\na.x = 2\n# c = 3\nb = 4\na.y : 5\n\\u0061.x = 6\nno value\n'
@@ -242,6 +261,12 @@ run -zv -f app.properties list a.
 gives 0 'a.x\00006\0a.y\00005\0' ''
 run -v list c
 gives 1 '' "propedit: no key begins with 'c'; a file is named by -f\n"
+run --json list
+gives 0 '{"b":"4","a.x":"6","a.y":"5","no":"value"}\n' ''
+run list --json -f app.properties a.
+gives 0 '{"a.x":"6","a.y":"5"}\n' ''
+run --json list c
+gives 1 '{}\n' "propedit: no key begins with 'c'; a file is named by -f\n"
 command='propedit -z list | while read'
 is "$(../propedit -f app.properties -z list | while IFS= read -r -d '' key; do echo "($key)"; done)" $'(b)\n(a.x)\n(a.y)\n(no)'
 run list -z
@@ -408,6 +433,77 @@ run check -q two.properties
 gives 1 '' ''
 rm one.properties two.properties
 
+# check --base
+
+printf 'title=Home\nprice=5\na\\ key=1\nabout=About\nprice=6\n' >base.properties
+printf 'contact=Contact\nprice=7\ntitle=Start\nprice=8\na\\tkey=1\n' >one.properties
+printf 'a\\ key=\nabout=\nprice=\ntitle=\n# C:\\users\n' >two.properties
+own='base.properties:5: repeats the key \x27price\x27 of line 2\n'
+repeats='one.properties:4: repeats the key \x27price\x27 of line 2\n'
+keys='one.properties: key \x27a key\x27 is missing (base.properties:3)
+one.properties: key \x27about\x27 is missing (base.properties:4)
+one.properties:1: key \x27contact\x27 is not in base.properties
+one.properties:5: key \x27a\\u{9}key\x27 is not in base.properties
+'
+comment='two.properties:5: Malformed \\uxxxx encoding: not hex. (in a comment, which Java and propedit pass over)\n'
+run check --base base.properties one.properties
+gives 1 "$own$repeats$keys" ''
+run --base=base.properties check -- two.properties one.properties
+gives 1 "$own$comment$repeats$keys" ''
+run check --pairs --base base.properties -f one.properties
+gives 1 "$own$repeats$keys" ''
+run check -q --base base.properties one.properties
+gives 1 '' ''
+# Repeated keys count once, and which of their lines is named doesn't depend on their values.
+sed -i 5d base.properties
+run check --pairs --base base.properties two.properties base.properties
+gives 0 '' ''
+run check --base base.properties two.properties
+gives 1 "$comment" ''
+# A key of a malformed pair is in neither, and if a line is ill-formed, keys with U+FFFD aren't compared.
+printf 'title=1\nprice=\\u12\na\\ key=\xe9\nabout=\n\xe8=1\nnew=1\n' >one.properties
+run check --base base.properties one.properties
+gives 1 'one.properties:2: Malformed \\uxxxx encoding: not enough digits.
+one.properties:3: not UTF-8; if it is in windows-1252 or Latin-1, -e windows-1252 reads it
+one.properties:5: not UTF-8
+one.properties: key \x27price\x27 is missing (base.properties:2)
+one.properties:6: key \x27new\x27 is not in base.properties
+' ''
+run check -e latin1 --base base.properties one.properties
+gives 1 'one.properties:2: Malformed \\uxxxx encoding: not enough digits.
+one.properties: key \x27price\x27 is missing (base.properties:2)
+one.properties:5: key \x27\xc3\xa8\x27 is not in base.properties
+one.properties:6: key \x27new\x27 is not in base.properties
+' ''
+# Standard input is the base or a file.
+cp base.properties ../input
+run check --base - two.properties
+gives 1 "$comment" ''
+run check --pairs --base two.properties - base.properties
+gives 0 '' ''
+run check -f - --pairs --base two.properties
+gives 0 '' ''
+# Without its base no file is checked.
+run check --base nowhere one.properties
+gives 2 '' 'propedit: nowhere: No such file or directory (os error 2)\n'
+run check --base base.properties nowhere two.properties
+gives 2 "$comment" 'propedit: nowhere: No such file or directory (os error 2)\n'
+run check --base $'\xe9' one.properties
+gives 2 '' 'propedit: \\xe9: this name is not UTF-8\n'
+run check --base base.properties $'\xe9' two.properties
+gives 2 "$comment" 'propedit: \\xe9: this name is not UTF-8\n'
+command='propedit check --base base.properties >base.properties'
+../propedit check --base base.properties two.properties >>base.properties 2>../errors
+is "$? $(cat ../errors)" '2 propedit: base.properties: is also standard output'
+checks='Usage: propedit check [OPTION ..] [FILE ..]'
+is_refused "'check --base FILE' requires a FILE to check; '-' is standard input" "$checks" check --base base.properties
+is_refused "at most one file of 'check' can be standard input, '-'; './-' names a file" "$checks" check --base - one.properties -
+is_refused "at most one file of 'check' can be standard input, '-'; './-' names a file" "$checks" check --base - -f -
+is_refused "the option '-f FILE' cannot be used with 'check FILE ..'" "$checks" -f one.properties --base base.properties check two.properties
+is_refused "the option '--base FILE' requires a FILE" "$checks" check --base= two.properties
+is_refused "the option '--base FILE' cannot be used with 'list'" 'Usage: propedit list [OPTION ..] [PREFIX]' --base base.properties list
+rm base.properties one.properties two.properties
+
 # diff
 
 printf '# c\nport = 80\nhost=a\npath=b\nport = 81\n' >old.properties
@@ -423,6 +519,12 @@ cp new.properties ../input
 run diff old.properties -
 gives 1 "${differs//new.properties/standard input}" ''
 run diff - new.properties
+gives 0 '' ''
+objects='{"key":"port","old":{"line":5,"value":"81"},"new":{"line":1,"value":"8080"}}\n'
+objects+='{"key":"path","old":{"line":4,"value":"b"}}\n{"key":"name","new":{"line":2,"value":"x\\ty"}}\n'
+run --json diff old.properties new.properties
+gives 1 "$objects" ''
+run diff --json old.properties old.properties
 gives 0 '' ''
 # What the new file has is input of other commands.
 command='sed | propedit'
@@ -450,7 +552,7 @@ command='propedit diff >two.properties'
 ../propedit diff one.properties two.properties >>two.properties 2>../errors
 is "$? $(cat ../errors)" '2 propedit: two.properties: is also standard output'
 is_refused "'diff' requires two files: OLD NEW" 'Usage: propedit diff [OPTION ..] OLD NEW' diff old.properties
-is_refused "one file of 'diff' at most is standard input, '-'; './-' names a file" 'Usage: propedit diff [OPTION ..] OLD NEW' diff - -
+is_refused "at most one file of 'diff' can be standard input, '-'; './-' names a file" 'Usage: propedit diff [OPTION ..] OLD NEW' diff - -
 rm old.properties new.properties one.properties two.properties
 
 # set and remove
@@ -875,7 +977,7 @@ given '\xef\xbb\xbfa=\xe9'
 run -e windows-1252 get a
 gives 2 '' 'propedit: standard input:1: not UTF-8, though a byte order mark says so\n'
 run check
-gives 1 'standard input:1: not UTF-8, though a byte order mark says so\n' ''
+gives 1 'standard input:1: not UTF-8, though a byte order mark says so\nstandard input:1: begins with a byte order mark, which Java reads as part of a key\n' ''
 
 # UTF-16 whose byte order mark is missing, taken as UTF-8
 
@@ -911,9 +1013,15 @@ run -z -e windows-1252 get k
 gives 0 'a\0b\0' ''
 run -e windows-1252 set k c
 gives 0 'k=c\n' ''
+# Two files with byte order marks, one after the other
+printf '\xef\xbb\xbfa=1\n' >one.properties
+cat one.properties one.properties >two.properties
+run check --pairs two.properties
+gives 1 'two.properties:1: begins with a byte order mark, which Java reads as part of a key\ntwo.properties:2: has U+FEFF, a byte order mark that is not at the front\n' ''
+rm one.properties two.properties
 given '\xef\xbb\xbfk=a\0b\n'
 run check
-gives 0 '' ''
+gives 1 'standard input:1: begins with a byte order mark, which Java reads as part of a key\n' ''
 run set k c
 gives 0 '\xef\xbb\xbfk=c\n' ''
 
@@ -954,6 +1062,7 @@ edits='Usage: propedit set [OPTION ..] KEY VALUE [set KEY VALUE | remove KEY] ..
        propedit remove [OPTION ..] KEY [set KEY VALUE | remove KEY] ..'
 all='Usage: propedit get [OPTION ..] KEY ..
        propedit list [OPTION ..] [PREFIX]
+       propedit comment [OPTION ..] KEY
        propedit check [OPTION ..] [FILE ..]
        propedit diff [OPTION ..] OLD NEW
        propedit set [OPTION ..] KEY VALUE [set KEY VALUE | remove KEY] ..
@@ -1031,8 +1140,8 @@ is_refused "unknown option '-a' of 'convert'" "$(shape convert)" convert -a utf-
 is_refused "unknown option '-q' of 'help'" "$(shape help)" help -q
 is_refused "unknown option '-q' of 'get'; a key $dashes" "$(shape get)" get -q a
 is_refused "the option '--quiet' takes no value" "$(shape check)" check --quiet=1
-is_refused "unexpected '-v': options of 'list' come before its argument" "$(shape list)" list a -v
-is_refused "unexpected '-i': options of 'convert' come before its argument" "$(shape convert)" convert ascii -i app.properties
+is_refused "unexpected '-v': options of 'list' come before the first argument" "$(shape list)" list a -v
+is_refused "unexpected '-i': options of 'convert' come before the first argument" "$(shape convert)" convert ascii -i app.properties
 is_refused "the option '-z' is given twice" "$(shape get)" -z get -z k
 is_refused "the option '--file FILE' is given twice" "$(shape get)" -f a get --file b k
 is_refused "'get' requires a KEY; a key $dashes" "$(shape get)" get -d k

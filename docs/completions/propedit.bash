@@ -4,9 +4,10 @@
 _propedit_after() {
     case $1 in
     get) wanted='KEY..' own='-f --file -e --encoding -d --default -z --null -h --help -V --version' ;;
-    list) wanted='PREFIX' own='-f --file -e --encoding -z --null -v --values -h --help -V --version' ;;
-    check) wanted='FILE..' own='-f --file -e --encoding -a --ascii --pairs -q --quiet -h --help -V --version' ;;
-    diff) wanted='FILE FILE' own='-e --encoding -h --help -V --version' ;;
+    list) wanted='PREFIX' own='-f --file -e --encoding -z --null -v --values --json -h --help -V --version' ;;
+    comment) wanted='KEY' own='-f --file -e --encoding -h --help -V --version' ;;
+    check) wanted='FILE..' own='-f --file -e --encoding -a --ascii --base --pairs -q --quiet -h --help -V --version' ;;
+    diff) wanted='FILE FILE' own='-e --encoding --json -h --help -V --version' ;;
     set) wanted='KEY VALUE EDIT' own='-f --file -i --in-place --create -e --encoding -a --ascii -x --existing -v --verbose -h --help -V --version' ;;
     remove) wanted='KEY EDIT' own='-f --file -i --in-place --create -e --encoding -a --ascii -x --existing -v --verbose -h --help -V --version' ;;
     merge) wanted='FILE' own='-f --file -i --in-place --create -e --encoding -z --null -a --ascii -x --existing --known -v --verbose -h --help -V --version' ;;
@@ -19,7 +20,7 @@ _propedit_after() {
 # Keeps the value of an option, if it is the name of the file or its encoding.
 _propedit_option() {
     case $1 in
-    -f | --file | -i | --in-place) file=$2 ;;
+    -f | --file | -i | --in-place | --base) file=$2 ;;
     -e | --encoding) encoding=$2 ;;
     esac
 }
@@ -37,7 +38,7 @@ _propedit_keys() {
 
 _propedit() {
     # Options may come before the first word after a command: then it is `open`. At its front, `--` is dropped.
-    local wanted=COMMAND own='-f --file -i --in-place --create -e --encoding -d --default -z --null -v --values -a --ascii -x --existing --known --pairs -q --quiet --verbose -r --readable -h --help -V --version' open=1 front=
+    local wanted=COMMAND own='-f --file -i --in-place --create -e --encoding -d --default -z --null -v --values --json -a --ascii -x --existing --known --base --pairs -q --quiet --verbose -r --readable -h --help -V --version' open=1 front=
     local option= file= encoding= word before words=() at=-1
     # Bash splits words at equals signs and colons too. Here they are whole again, up to the cursor.
     local line=${COMP_LINE:0:COMP_POINT}
@@ -57,7 +58,7 @@ _propedit() {
             _propedit_option "${word%%=*}" "${word#*=}"
         elif [[ -n $open && $word == -?* && $word != -- ]]; then
             case $word in
-            -f | --file | -i | --in-place | -e | --encoding | -d | --default) option=$word ;;
+            -f | --file | -i | --in-place | -e | --encoding | -d | --default | --base) option=$word ;;
             --*) ;;
             -*[fied]*)
                 before=${word%%[fied]*}
@@ -91,14 +92,14 @@ _propedit() {
     COMPREPLY=()
     [[ -n $option || -z $open || $typed != -* ]] || choices=$own wanted=
     case $option in
-    -f | --file | -i | --in-place) wanted=FILE ;;
+    -f | --file | -i | --in-place | --base) wanted=FILE ;;
     -e | --encoding) choices='utf-8 iso-8859-1 windows-1252 utf-16le utf-16be' wanted= ;;
     ?*) wanted= ;;
     # A file that begins with a dash would be an option.
     *) [ -z "$open" ] || hidden=(-X '-*') ;;
     esac
     case ${wanted%% *} in
-    COMMAND | TOPIC) choices='get list check diff set remove merge convert help' ;;
+    COMMAND | TOPIC) choices='get list comment check diff set remove merge convert help' ;;
     EDIT) choices='set remove' ;;
     ENCODING) choices='utf-8 iso-8859-1 windows-1252 ascii' ;;
     KEY | KEY.. | PREFIX)

@@ -49,7 +49,8 @@ const CHECK: &[Row] = &[
         "-e windows-1252 check",
         b"\xef\xbb\xbfa=1\r\nb=caf\xe9\rc=\xc3\xa9\n\xc3\n\xa9",
         1,
-        b"standard input:2: not UTF-8, though a byte order mark says so\n\
+        b"standard input:1: begins with a byte order mark, which Java reads as part of a key\n\
+          standard input:2: not UTF-8, though a byte order mark says so\n\
           standard input:4: not UTF-8\n\
           standard input:5: not UTF-8\n",
     ),
@@ -90,7 +91,12 @@ const CHECK: &[Row] = &[
         b"standard input:2: repeats the key 'a\\u{a}b\\u{1b}\xc3\xa9' of line 1\n",
     ),
     // After a byte order mark it is a character like any other, and so it is in windows-1252.
-    ("check", b"\xef\xbb\xbfa=\0\n", 0, b""),
+    (
+        "check",
+        b"\xef\xbb\xbfa=\0\n",
+        1,
+        b"standard input:1: begins with a byte order mark, which Java reads as part of a key\n",
+    ),
     ("-e windows-1252 check", b"a=\0\n", 0, b""),
     ("-e windows-1252 check", b"# caf\xe9\na=1\nb=2", 0, b""),
     // Lines that are no UTF-16.
@@ -146,7 +152,34 @@ const CHECK: &[Row] = &[
     ),
     ("-e L1 check", b"a=\xe9\x81", 0, b""),
     ("-e CP1252 check", b"a=\x80", 0, b""),
-    ("-e latin1 check", b"\xef\xbb\xbfa=\xe2\x82\xac", 0, b""),
+    (
+        "-e latin1 check --pairs",
+        b"\xef\xbb\xbfa=\xe2\x82\xac",
+        1,
+        b"standard input:1: begins with a byte order mark, which Java reads as part of a key\n",
+    ),
+    // U+FEFF inside, in a comment too. Escapes spell no mark, nor do other characters that begin with its first byte.
+    (
+        "check",
+        b"a=1\n\xef\xbb\xbf# b\n# \xef\xbb\xbf\xef\xbb\xbf\nc=\\ufeff\xef\xbb\xbe\xef\xbf\xbd\n",
+        1,
+        b"standard input:2: has U+FEFF, a byte order mark that is not at the front\n\
+          standard input:3: has U+FEFF, a byte order mark that is not at the front\n",
+    ),
+    ("-e latin1 check", b"a=1\n\xef\xbb\xbfb=2\xff\n", 0, b""),
+    // UTF-32, of which the first form begins as UTF-16 does.
+    (
+        "check",
+        b"\xff\xfe\0\0a\0\0\0",
+        1,
+        b"standard input:1: begins with the byte order mark of UTF-32, which is not read as UTF-32\n",
+    ),
+    (
+        "-e windows-1252 -f x check",
+        b"\0\0\xfe\xff\0\0\0a",
+        1,
+        b"x:1: begins with the byte order mark of UTF-32, which is not read as UTF-32\n",
+    ),
     (
         "-e latin1 -a check",
         b"a=\x80",
@@ -163,7 +196,12 @@ const CHECK: &[Row] = &[
     ),
     // In UTF-16 it is the characters that count. A byte order mark is part of no line.
     ("-a check", b"\xff\xfea\0\n\0\x7f\0", 0, b""),
-    ("-a check", b"\xef\xbb\xbfa\n", 0, b""),
+    (
+        "-a check",
+        b"\xef\xbb\xbfa\n",
+        1,
+        b"standard input:1: begins with a byte order mark, which Java reads as part of a key\n",
+    ),
     (
         "-a -e utf-16be check",
         b"\0a\0\n\0\x80\0\n\x61\0\0\n\xd8\x3d\xdc\x1e\0\n\xd8\0",

@@ -80,7 +80,7 @@ const PLACES: &[Placed] = &[
         0,
         b"a=\xc3\xa9",
     ),
-    ("-V", "get a", b"", 0, b"propedit 1.17.0\n"),
+    ("-V", "get a", b"", 0, b"propedit 1.18.0\n"),
 ];
 
 #[test]

@@ -6,6 +6,10 @@
 #[cfg(test)]
 mod checking;
 #[cfg(test)]
+mod commenting;
+#[cfg(test)]
+mod comparing;
+#[cfg(test)]
 mod converting;
 #[cfg(test)]
 mod editing;
@@ -20,7 +24,11 @@ mod hints;
 #[cfg(test)]
 mod in_place;
 #[cfg(test)]
+mod json_answers;
+#[cfg(test)]
 mod listing;
+#[cfg(test)]
+mod merging;
 #[cfg(test)]
 mod propedit;
 #[cfg(test)]

@@ -140,7 +140,7 @@ const OTHER_WORDS: &[Refusal] = &[
     ("diff a b c", "unexpected 'c': 'diff' takes two arguments"),
     (
         "diff - -- -",
-        "one file of 'diff' at most is standard input, '-'; './-' names a file",
+        "at most one file of 'diff' can be standard input, '-'; './-' names a file",
     ),
     ("dif a b", "unknown command 'dif'; did you mean 'diff'?"),
     ("cmp a b", "unknown command 'cmp'; did you mean 'diff'?"),
@@ -505,7 +505,7 @@ const LATE_OPTIONS: &[Filled] = &[
 
 #[test]
 fn options_after_an_argument_are_named(rt: HostRuntime) -> Result<(), Fail> {
-    let pattern = "unexpected '*': options of '*' come before its argument";
+    let pattern = "unexpected '*': options of '*' come before the first argument";
     check_filled(&rt, pattern, LATE_OPTIONS)
 }
 
@@ -594,6 +594,9 @@ const USELESS_OPTIONS: &[Filled] = &[
     ("-f x diff a b", "-f FILE", "diff"),
     ("-v diff a b", "-v", "diff"),
     ("-z help", "-z", "help"),
+    ("-v list --json", "--json", "-v"),
+    ("--json -z list", "--json", "-z"),
+    ("--json get a", "--json", "get"),
     ("-i x help get", "-i FILE", "help"),
     ("-x --create -i a set k v", "-x", "--create"),
     ("-x merge --known a", "-x", "--known"),
@@ -632,6 +635,7 @@ fn commands_that_read_name_the_option_for_a_file(rt: HostRuntime) -> Result<(), 
 
 const COMMANDS: &str = "get [OPTION ..] KEY ..\n       \
     propedit list [OPTION ..] [PREFIX]\n       \
+    propedit comment [OPTION ..] KEY\n       \
     propedit check [OPTION ..] [FILE ..]\n       \
     propedit diff [OPTION ..] OLD NEW\n       \
     propedit set [OPTION ..] KEY VALUE [set KEY VALUE | remove KEY] ..\n       \

@@ -1,30 +1,31 @@
 //! Reads, checks, compares, edits and converts properties files.
 #![tactic(auto)]
 
-use counted_io::{Counted, CountedRead, CountedWrite};
-use java_properties::{Edit, Encoding, read_source};
+use counted_io::{Counted, CountedWrite};
+use java_properties::{Edit, Encoding, read_source, write_source};
 use propedit_arguments::mistake::Mistake;
 use propedit_arguments::parse::explain_mistake;
 use propedit_arguments::{
     asked_for, explain, explain_name, explain_not_utf_8, marked_words, name_of_marked,
 };
 use properties_tools::arguments::words;
+use properties_tools::propedit::against::{Base, base_of};
 use properties_tools::propedit::answers::name;
 use properties_tools::propedit::diff::run_diff;
-use properties_tools::propedit::error::Failure;
+use properties_tools::propedit::error::{Failure, STANDARD_OUTPUT};
 use properties_tools::propedit::hint::{possible_files, print_reading, refused_file};
 use properties_tools::propedit::in_place::edit_file;
 use properties_tools::propedit::merge::edits_of;
 use properties_tools::propedit::request::{
-    Change, CheckedFiles, Command, Comparison, FileChange, Form, Job, Merge, Request, Source,
-    Target,
+    Change, Check, CheckedFiles, Command, Comparison, Destination, FileChange, Form, Job, Merge,
+    Request, Source,
 };
 use properties_tools::propedit::same_file::{INPUT, refuse_output};
 use properties_tools::propedit::{exit_status, print_out_of_memory, run};
 use std::alloc::{AllocError, Global};
 use std::env;
 use std::fs::{self, File};
-use std::io::{self, BufWriter, IsTerminal};
+use std::io::{self, BufWriter, IsTerminal, Read, Stdin};
 use std::process::ExitCode;
 
 // How many bytes are written at once.
@@ -70,15 +71,15 @@ fn merge<W: CountedWrite, E: CountedWrite>(
         form,
         encoding,
         mut edits,
-        target,
+        destination,
     } = asked;
     match edits_in(rt, alloc, &pairs, encoding, form) {
         Ok(list) => edits.list = list,
         Err(failure) => return exit_status(alloc, errors, name(&pairs), Err(failure)),
     }
     let change = Change::Edits(edits);
-    match target {
-        Target::Printed(source) => {
+    match destination {
+        Destination::Printed(source) => {
             let job = Job {
                 encoding,
                 source,
@@ -86,7 +87,7 @@ fn merge<W: CountedWrite, E: CountedWrite>(
             };
             do_job(rt, alloc, &job, output, errors)
         }
-        Target::InPlace(path, missing, verbose) => {
+        Destination::InPlace(path, missing, verbose) => {
             let file = FileChange {
                 path,
                 encoding,
@@ -107,17 +108,18 @@ fn edits_in(
     encoding: Encoding,
     form: Form,
 ) -> Result<Vec<Edit>, Failure> {
-    refuse_output(rt, file_of(pairs))?;
-    let bytes = match pairs {
-        Source::StandardInput | Source::Dash => {
-            read_source(alloc, &mut Counted::new(rt.stdin()), encoding)?
-        }
-        Source::File(path) => {
-            let file = File::open(rt, path.as_str())?;
-            read_source(alloc, &mut Counted::new(file), encoding)?
-        }
-    };
+    let bytes = bytes_of(rt, alloc, pairs, encoding)?;
     edits_of(alloc, &bytes, encoding, form)
+}
+
+// Reads a source to its end.
+fn bytes_of(
+    rt: &HostRuntime,
+    alloc: Global,
+    source: &Source,
+    encoding: Encoding,
+) -> Result<Vec<u8>, Failure> {
+    Ok(read_source(alloc, &mut opened(rt, source)?, encoding)?)
 }
 
 // Checks files, of which some have names that are not UTF-8. No other command takes such a word.
@@ -142,23 +144,13 @@ fn do_job<W: CountedWrite, E: CountedWrite>(
     output: &mut W,
     errors: &mut E,
 ) -> u8 {
-    if let Err(error) = refuse_output(rt, file_of(&job.source)) {
-        return exit_status(alloc, errors, name(&job.source), Err(Failure::from(error)));
-    }
+    let mut input = match opened_or_explain(rt, alloc, &job.source, errors) {
+        Ok(input) => input,
+        Err(status) => return status,
+    };
     match &job.source {
         Source::StandardInput => run_unnamed(rt, alloc, job, output, errors),
-        Source::Dash => run(
-            alloc,
-            job,
-            &[],
-            &mut Counted::new(rt.stdin()),
-            output,
-            errors,
-        ),
-        Source::File(path) => match File::open(rt, path.as_str()) {
-            Ok(file) => run(alloc, job, &[], &mut Counted::new(file), output, errors),
-            Err(error) => exit_status(alloc, errors, path.as_str(), Err(Failure::from(error))),
-        },
+        Source::Dash | Source::File(_) => run(alloc, job, &[], &mut input, output, errors),
     }
 }
 
@@ -213,7 +205,8 @@ fn file_of(source: &Source) -> &str {
     }
 }
 
-// Checks each file, also after one that can't be read, and returns the highest status.
+// Checks the base, if there is one, and then each file, also after one that can't be read, and returns the highest
+// status. Without its base no file is checked.
 fn check_files<W: CountedWrite, E: CountedWrite>(
     rt: &HostRuntime,
     alloc: Global,
@@ -221,17 +214,63 @@ fn check_files<W: CountedWrite, E: CountedWrite>(
     output: &mut W,
     errors: &mut E,
 ) -> u8 {
-    let encoding = files.encoding;
+    let CheckedFiles {
+        encoding,
+        check,
+        base,
+        paths,
+    } = files;
     let mut highest = 0;
-    for path in files.paths {
-        let job = Job {
-            encoding,
-            source: source_named(path),
-            command: Command::Check(files.check),
-        };
+    let mut command = Command::Check(check);
+    if let Some(source) = &base {
+        match check_base(rt, alloc, source, encoding, check, output, errors) {
+            Ok((status, base)) => {
+                highest = status;
+                command = Command::CheckAgainst(check, base);
+            }
+            Err(status) => return status,
+        }
+    }
+    let mut job = Job {
+        encoding,
+        source: Source::Dash,
+        command,
+    };
+    for path in paths {
+        job.source = source_named(path);
         highest = highest.max(check_file(rt, alloc, &job, output, errors));
     }
     highest
+}
+
+// Checks a base, and returns the status and the base, or only a status if it isn't read or what is wrong isn't printed.
+fn check_base<W: CountedWrite, E: CountedWrite>(
+    rt: &HostRuntime,
+    alloc: Global,
+    source: &Source,
+    encoding: Encoding,
+    check: Check,
+    output: &mut W,
+    errors: &mut E,
+) -> Result<(u8, Base), u8> {
+    if let Some(marked) = marked_name(source) {
+        return Err(explain_name(alloc, marked, errors));
+    }
+    let read = match bytes_of(rt, alloc, source, encoding) {
+        Ok(bytes) => base_of(alloc, name(source), &bytes, encoding, check),
+        Err(failure) => Err(failure),
+    };
+    let (answer, base) = match read {
+        Ok(read) => read,
+        Err(failure) => return Err(exit_status(alloc, errors, name(source), Err(failure))),
+    };
+    match write_source(output, &answer.text) {
+        Ok(()) => Ok((answer.status, base)),
+        Err(error) => {
+            let failure = Failure::Output(error);
+            Err(exit_status(alloc, errors, STANDARD_OUTPUT, Err(failure)))
+        }
+    }
 }
 
 // The name `-` is that of standard input.
@@ -251,17 +290,21 @@ fn check_file<W: CountedWrite, E: CountedWrite>(
     output: &mut W,
     errors: &mut E,
 ) -> u8 {
-    let marked = match &job.source {
-        Source::File(path) => name_of_marked(path.as_str()),
-        Source::StandardInput | Source::Dash => None,
-    };
-    match marked {
+    match marked_name(&job.source) {
         Some(name) => explain_name(alloc, name, errors),
         None => do_job(rt, alloc, job, output, errors),
     }
 }
 
-// Opens the old source, and compares it with the new one.
+// Returns the name of a file, if it is not UTF-8.
+fn marked_name(source: &Source) -> Option<&str> {
+    match source {
+        Source::File(path) => name_of_marked(path.as_str()),
+        Source::StandardInput | Source::Dash => None,
+    }
+}
+
+// Opens two sources, and prints what differs between them.
 fn compare<W: CountedWrite, E: CountedWrite>(
     rt: &HostRuntime,
     alloc: Global,
@@ -269,46 +312,55 @@ fn compare<W: CountedWrite, E: CountedWrite>(
     output: &mut W,
     errors: &mut E,
 ) -> u8 {
-    match opened(rt, &sources.old) {
-        Ok(Some(file)) => {
-            let mut old = Counted::new(file);
-            compare_with(rt, alloc, sources, &mut old, output, errors)
+    let mut old = match opened_or_explain(rt, alloc, &sources.old, errors) {
+        Ok(old) => old,
+        Err(status) => return status,
+    };
+    let mut new = match opened_or_explain(rt, alloc, &sources.new, errors) {
+        Ok(new) => new,
+        Err(status) => return status,
+    };
+    run_diff(alloc, sources, &mut old, &mut new, output, errors)
+}
+
+// The bytes of a source: those of standard input, or of a file.
+#[derive(Drop)]
+enum Input {
+    Standard(Stdin),
+    File(File),
+}
+
+impl Read for Input {
+    fn read(&mut self, buf: &mut [u8]) -> io::Result<usize> {
+        match self {
+            Input::Standard(input) => input.read(buf),
+            Input::File(file) => file.read(buf),
         }
-        Ok(None) => {
-            let mut old = Counted::new(rt.stdin());
-            compare_with(rt, alloc, sources, &mut old, output, errors)
-        }
-        Err(error) => exit_status(alloc, errors, name(&sources.old), Err(Failure::from(error))),
     }
 }
 
-// Opens the new source, and compares the old one with it.
-fn compare_with<R: CountedRead, W: CountedWrite, E: CountedWrite>(
+// Opens a source, unless what is printed would go there.
+fn opened(rt: &HostRuntime, source: &Source) -> io::Result<Counted<Input>> {
+    refuse_output(rt, file_of(source))?;
+    let opened = match source {
+        Source::StandardInput | Source::Dash => Input::Standard(rt.stdin()),
+        Source::File(path) => Input::File(File::open(rt, path.as_str())?),
+    };
+    Ok(Counted::new(opened))
+}
+
+// Opens a source. If it can't be opened, a line says why, and the error is the status.
+fn opened_or_explain<E: CountedWrite>(
     rt: &HostRuntime,
     alloc: Global,
-    sources: &Comparison,
-    old: &mut R,
-    output: &mut W,
+    source: &Source,
     errors: &mut E,
-) -> u8 {
-    match opened(rt, &sources.new) {
-        Ok(Some(file)) => {
-            let mut new = Counted::new(file);
-            run_diff(alloc, sources, old, &mut new, output, errors)
+) -> Result<Counted<Input>, u8> {
+    match opened(rt, source) {
+        Ok(opened) => Ok(opened),
+        Err(error) => {
+            let failed = Err(Failure::from(error));
+            Err(exit_status(alloc, errors, name(source), failed))
         }
-        Ok(None) => {
-            let mut new = Counted::new(rt.stdin());
-            run_diff(alloc, sources, old, &mut new, output, errors)
-        }
-        Err(error) => exit_status(alloc, errors, name(&sources.new), Err(Failure::from(error))),
-    }
-}
-
-// Opens the file that the bytes come from, unless what is printed would go there. There is none for standard input.
-fn opened(rt: &HostRuntime, source: &Source) -> io::Result<Option<File>> {
-    refuse_output(rt, file_of(source))?;
-    match source {
-        Source::StandardInput | Source::Dash => Ok(None),
-        Source::File(path) => Ok(Some(File::open(rt, path.as_str())?)),
     }
 }

@@ -3,13 +3,14 @@
 use java_properties::Repertoire;
 use std::fmt;
 
-const VERSION: &str = "1.17.0";
+const VERSION: &str = "1.18.0";
 
 /// A command.
 #[derive(Clone, Copy, Debug, PartialEq, Eq)]
 pub enum CommandName {
     Get,
     List,
+    Comment,
     Check,
     Diff,
     Set,
@@ -47,9 +48,11 @@ pub enum OptionName {
     Default,
     Null,
     Values,
+    Json,
     Ascii,
     Existing,
     Known,
+    Base,
     Pairs,
     Quiet,
     Verbose,
@@ -96,11 +99,23 @@ pub const COMMANDS: &[CommandRow] = &[
             OptionName::Encoding,
             OptionName::Null,
             OptionName::Values,
+            OptionName::Json,
         ],
         other_names: &["ls", "keys"],
         examples: "propedit list -f app.properties server.\n  \
             propedit list -v < app.properties",
         statuses: "0 a key was found; 1 none was; 2 an error",
+    },
+    CommandRow {
+        command: CommandName::Comment,
+        name: "comment",
+        words: "KEY",
+        help: "Prints the comment lines directly above a KEY",
+        options: &[OptionName::File, OptionName::Encoding],
+        other_names: &["comments", "describe"],
+        examples: "propedit comment -f app.properties port\n  \
+            propedit comment -- \"$key\" < app.properties",
+        statuses: "0 a pair has KEY; 1 none has; 2 an error",
     },
     CommandRow {
         command: CommandName::Check,
@@ -111,12 +126,13 @@ pub const COMMANDS: &[CommandRow] = &[
             OptionName::File,
             OptionName::Encoding,
             OptionName::Ascii,
+            OptionName::Base,
             OptionName::Pairs,
             OptionName::Quiet,
         ],
         other_names: &["lint", "validate", "verify"],
-        examples: "propedit check app.properties\n  \
-            propedit check -a -- *.properties",
+        examples: "propedit check -a -- *.properties\n  \
+            propedit check --base app.properties app_de.properties",
         statuses: "0 nothing was found; 1 something was; 2 an error",
     },
     CommandRow {
@@ -124,7 +140,7 @@ pub const COMMANDS: &[CommandRow] = &[
         name: "diff",
         words: "OLD NEW",
         help: "Prints which values differ between two files",
-        options: &[OptionName::Encoding],
+        options: &[OptionName::Encoding, OptionName::Json],
         other_names: &["compare", "cmp"],
         examples: "propedit diff old.properties new.properties\n  \
             propedit diff -e latin1 - \"$file\" < old.properties",
@@ -263,6 +279,13 @@ const OPTIONS: &[OptionRow] = &[
         help: "Has list print KEY=VALUE; with -z, KEY and VALUE",
     },
     OptionRow {
+        option: OptionName::Json,
+        short: None,
+        long: "json",
+        value: "",
+        help: "Has list and diff print JSON",
+    },
+    OptionRow {
         option: OptionName::Ascii,
         short: Some('a'),
         long: "ascii",
@@ -282,6 +305,13 @@ const OPTIONS: &[OptionRow] = &[
         long: "known",
         value: "",
         help: "Has merge leave out keys that no pair has",
+    },
+    OptionRow {
+        option: OptionName::Base,
+        short: None,
+        long: "base",
+        value: "FILE",
+        help: "Has check compare the keys with those of FILE",
     },
     OptionRow {
         option: OptionName::Pairs,
@@ -457,7 +487,8 @@ impl CommandRow {
     /// Returns what its first argument is, if it may begin with a dash.
     pub(crate) fn first_argument(&self) -> Option<&'static str> {
         match self.command {
-            CommandName::Get | CommandName::Set | CommandName::Remove => Some("key"),
+            CommandName::Get | CommandName::Comment | CommandName::Set | CommandName::Remove =>
+                Some("key"),
             CommandName::List => Some("prefix"),
             CommandName::Check | CommandName::Diff | CommandName::Merge => Some("file"),
             CommandName::Convert | CommandName::Help => None,

@@ -95,6 +95,8 @@ pub enum Mistake<'a> {
     FewFiles(&'static CommandRow),
     /// Both files of this command are standard input.
     OneInput(&'static CommandRow),
+    /// This command has a base, and no file to check beside it.
+    NothingToCheck(&'static CommandRow),
     /// After the argument of this command comes what looks like an option.
     OptionAfter(&'a str, &'static CommandRow),
     /// This command has no use for this word.
@@ -142,6 +144,7 @@ impl Mistake<'_> {
             | Mistake::InputTwice(row)
             | Mistake::FewFiles(row)
             | Mistake::OneInput(row)
+            | Mistake::NothingToCheck(row)
             | Mistake::OptionAfter(_, row)
             | Mistake::Surplus(_, row) => Usage::Of(row),
             Mistake::NoKey(name) => usage_of(name),
@@ -237,13 +240,7 @@ impl fmt::Display for Mistake<'_> {
             Mistake::Both(one, other, _) => {
                 write!(f, "the option '{one}' cannot be used with '{other}'")
             }
-            Mistake::TwoFiles(option, row) => {
-                write!(
-                    f,
-                    "the option '{option}' cannot be used with '{} FILE ..'",
-                    row.name
-                )
-            }
+            Mistake::TwoFiles(option, row) => show_two_files(f, option, row),
             Mistake::NothingInPlace(option, _) => {
                 write!(f, "the option '{option}' requires '-i FILE'")
             }
@@ -255,44 +252,18 @@ impl fmt::Display for Mistake<'_> {
             Mistake::AsciiEncoding(label, _) => show_ascii_encoding(f, label),
             Mistake::NoTarget(word, _) => show_no_target(f, word),
             Mistake::NoWord(row) => show_no_word(f, row),
-            Mistake::InputTwice(row) => write!(
-                f,
-                "'{} -' reads standard input; '-f FILE' or '-i FILE' names the file to change",
-                row.name
-            ),
+            Mistake::InputTwice(row) => show_input_twice(f, row),
             Mistake::FewFiles(row) => write!(f, "'{}' requires two files: {}", row.name, row.words),
-            Mistake::OneInput(row) => write!(
-                f,
-                "one file of '{}' at most is standard input, '-'; './-' names a file",
-                row.name
-            ),
-            Mistake::OptionAfter(word, row) => {
-                write!(
-                    f,
-                    "unexpected '{}': options of '{}' come before its argument",
-                    Escaped(word),
-                    row.name
-                )
-            }
+            Mistake::OneInput(row) => show_one_input(f, row),
+            Mistake::NothingToCheck(row) => show_nothing_to_check(f, row),
+            Mistake::OptionAfter(word, row) => show_option_after(f, word, row),
             Mistake::Surplus(word, row) => show_surplus(f, word, row),
             Mistake::NoEdit(word) => show_no_edit(f, word),
             Mistake::NoKey(name) => write!(f, "'{name}' requires a KEY"),
             Mistake::NoValue(key) => show_no_value(f, key),
-            Mistake::OptionForKey(row) => {
-                write!(f, "'{}' requires a KEY", row.name)?;
-                show_dashes(f, row)
-            }
-            Mistake::OptionForKeyOf(key, row) => {
-                write!(f, "'set {}' requires a VALUE", Escaped(key))?;
-                show_dashes(f, row)
-            }
-            Mistake::FileAsKey(name) => {
-                let name = Escaped(name);
-                write!(
-                    f,
-                    "the KEY '{name}' is the name of a file; '-f {name}' reads it, and '-f -' standard input"
-                )
-            }
+            Mistake::OptionForKey(row) => show_option_for_key(f, row),
+            Mistake::OptionForKeyOf(key, row) => show_option_for_key_of(f, key, row),
+            Mistake::FileAsKey(name) => show_file_as_key(f, name),
             Mistake::TwoAssignments(key, value) => show_two_assignments(f, key, value),
             Mistake::Memory => f.write_str("Out of memory."),
         }
@@ -380,6 +351,69 @@ fn show_not_with<W: fmt::Write>(
     show_reading(f, option.row.option, row)
 }
 
+// Prints that files after a command exclude this option.
+fn show_two_files<W: fmt::Write>(
+    f: &mut fmt::Formatter<W>,
+    option: TypedOption,
+    row: &'static CommandRow,
+) -> fmt::Result {
+    let name = row.name;
+    write!(
+        f,
+        "the option '{option}' cannot be used with '{name} FILE ..'"
+    )
+}
+
+// Prints that standard input can't have the pairs too, and how the file to change is named.
+fn show_input_twice<W: fmt::Write>(
+    f: &mut fmt::Formatter<W>,
+    row: &'static CommandRow,
+) -> fmt::Result {
+    let name = row.name;
+    write!(
+        f,
+        "'{name} -' reads standard input; '-f FILE' or '-i FILE' names the file to change"
+    )
+}
+
+// Prints that a base needs a file beside it.
+fn show_nothing_to_check<W: fmt::Write>(
+    f: &mut fmt::Formatter<W>,
+    row: &'static CommandRow,
+) -> fmt::Result {
+    let name = row.name;
+    write!(
+        f,
+        "'{name} --base FILE' requires a FILE to check; '-' is standard input"
+    )
+}
+
+// Prints that standard input can't be both files, and how a file of its name is named.
+fn show_one_input<W: fmt::Write>(
+    f: &mut fmt::Formatter<W>,
+    row: &'static CommandRow,
+) -> fmt::Result {
+    let name = row.name;
+    write!(
+        f,
+        "at most one file of '{name}' can be standard input, '-'; './-' names a file"
+    )
+}
+
+// Prints where an option belongs that comes too late.
+fn show_option_after<W: fmt::Write>(
+    f: &mut fmt::Formatter<W>,
+    word: &str,
+    row: &'static CommandRow,
+) -> fmt::Result {
+    let word = Escaped(word);
+    let name = row.name;
+    write!(
+        f,
+        "unexpected '{word}': options of '{name}' come before the first argument"
+    )
+}
+
 // Prints that a command has no use for a word, and how a file is named.
 fn show_surplus<W: fmt::Write>(
     f: &mut fmt::Formatter<W>,
@@ -421,6 +455,34 @@ fn show_no_edit<W: fmt::Write>(f: &mut fmt::Formatter<W>, word: &str) -> fmt::Re
             ": each edit begins with set or remove, and {OPTIONS_FIRST}"
         ),
     }
+}
+
+// Prints that a command has no key, and how to write one that was taken for an option.
+fn show_option_for_key<W: fmt::Write>(
+    f: &mut fmt::Formatter<W>,
+    row: &'static CommandRow,
+) -> fmt::Result {
+    write!(f, "'{}' requires a KEY", row.name)?;
+    show_dashes(f, row)
+}
+
+// Prints that the setting of a key has no value, and how to write a key that was taken for an option.
+fn show_option_for_key_of<W: fmt::Write>(
+    f: &mut fmt::Formatter<W>,
+    key: &str,
+    row: &'static CommandRow,
+) -> fmt::Result {
+    write!(f, "'set {}' requires a VALUE", Escaped(key))?;
+    show_dashes(f, row)
+}
+
+// Prints that a key is the name of a file, and how to read that file.
+fn show_file_as_key<W: fmt::Write>(f: &mut fmt::Formatter<W>, name: &str) -> fmt::Result {
+    let name = Escaped(name);
+    write!(
+        f,
+        "the KEY '{name}' is the name of a file; '-f {name}' reads it, and '-f -' standard input"
+    )
 }
 
 // Prints that the setting of a key has no value, and how to write one that is joined to the key.

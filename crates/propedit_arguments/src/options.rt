@@ -6,7 +6,7 @@ use crate::command_line::{
 use crate::mistake::{Mistake, NoRequest, means_ascii};
 use java_properties::{Encoding, Spelling};
 use properties_tools::propedit::request::{
-    AbsentKeys, Command, Form, Job, Missing, Request, Source, Target, Terminator,
+    AbsentKeys, Command, Destination, Form, Job, Missing, Report, Request, Source, Terminator,
 };
 use std::alloc::{AllocError, Global};
 
@@ -142,7 +142,7 @@ impl<'a> Options<'a> {
         match option.row.option {
             OptionName::Help => return Err(NoRequest::Help(self.command)),
             OptionName::Version => return Err(NoRequest::Version),
-            OptionName::File | OptionName::InPlace if value.is_empty() => {
+            OptionName::File | OptionName::InPlace | OptionName::Base if value.is_empty() => {
                 return Err(NoRequest::Wrong(Mistake::NoOptionValue(option, self.command)));
             }
             _ => {}
@@ -191,6 +191,8 @@ impl<'a> Options<'a> {
         self.refuse_both(OptionName::Existing, OptionName::Create, command)?;
         self.refuse_both(OptionName::Existing, OptionName::Known, command)?;
         self.refuse_both(OptionName::Known, OptionName::Create, command)?;
+        self.refuse_both(OptionName::Json, OptionName::Values, command)?;
+        self.refuse_both(OptionName::Json, OptionName::Null, command)?;
         match self.find(OptionName::InPlace) {
             Some(given) if given.value == STANDARD_INPUT => {
                 Err(Mistake::NoFileInPlace(given.option, command))
@@ -310,6 +312,15 @@ impl<'a> Options<'a> {
         }
     }
 
+    /// Returns how what differs is printed. With `--json` it is JSON.
+    pub fn report(&self) -> Report {
+        if self.has(OptionName::Json) {
+            Report::Json
+        } else {
+            Report::Lines
+        }
+    }
+
     /// Returns the source that the options name.
     pub fn source(&self, alloc: Global) -> Result<Source, AllocError> {
         match self.value(OptionName::File) {
@@ -333,15 +344,15 @@ impl<'a> Options<'a> {
         }))
     }
 
-    /// Returns where the changed source of a merge goes.
-    pub fn target(&self, alloc: Global) -> Result<Target, AllocError> {
+    /// Returns where a changed source goes.
+    pub fn destination(&self, alloc: Global) -> Result<Destination, AllocError> {
         match self.value(OptionName::InPlace) {
-            Some(path) => Ok(Target::InPlace(
+            Some(path) => Ok(Destination::InPlace(
                 String::from_str(alloc, path)?,
                 self.missing(),
                 self.has(OptionName::Verbose),
             )),
-            None => Ok(Target::Printed(self.source(alloc)?)),
+            None => Ok(Destination::Printed(self.source(alloc)?)),
         }
     }
 }

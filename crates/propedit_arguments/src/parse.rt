@@ -13,8 +13,8 @@ use crate::options::{Options, STANDARD_INPUT, options_in, source_named};
 use counted_io::CountedWrite;
 use java_properties::Edit;
 use properties_tools::propedit::request::{
-    Allowed, Change, Check, CheckedFiles, Command, Comparison, Conversion, Edits, FileChange,
-    Merge, Request, Source, Target,
+    Allowed, Change, Check, CheckedFiles, Command, Comparison, Conversion, Destination, Edits,
+    FileChange, Job, Merge, Request, Source,
 };
 use properties_tools::propedit::{print_out_of_memory, print_text, print_usage_error};
 use std::alloc::{AllocError, Global};
@@ -49,6 +49,7 @@ pub fn asked_for<'a>(alloc: Global, words: &'a [String]) -> Result<Request, NoRe
     match row.command {
         CommandName::Get => Ok(get(alloc, row, &options, rest)?),
         CommandName::List => Ok(list(alloc, row, &options, rest)?),
+        CommandName::Comment => Ok(comment(alloc, row, &options, rest)?),
         CommandName::Check => Ok(check(alloc, row, &options, rest)?),
         CommandName::Diff => Ok(diff(alloc, row, &options, rest)?),
         CommandName::Set | CommandName::Remove => {
@@ -190,6 +191,19 @@ fn get<'a>(
     options.job(alloc, row, Command::Get(keys, default, options.end()))
 }
 
+fn comment<'a>(
+    alloc: Global,
+    row: &'static CommandRow,
+    options: &Options<'a>,
+    words: &'a [String],
+) -> Result<Request, Mistake<'a>> {
+    let Some(key) = only_word(row, words)? else {
+        return Err(Mistake::NoKey(row.name));
+    };
+    let key = String::from_str(alloc, key)?;
+    options.job(alloc, row, Command::Comment(key))
+}
+
 fn list<'a>(
     alloc: Global,
     row: &'static CommandRow,
@@ -197,7 +211,9 @@ fn list<'a>(
     words: &'a [String],
 ) -> Result<Request, Mistake<'a>> {
     let prefix = String::from_str(alloc, only_word(row, words)?.unwrap_or(""))?;
-    let command = if options.has(OptionName::Values) {
+    let command = if options.has(OptionName::Json) {
+        Command::ListJson(prefix)
+    } else if options.has(OptionName::Values) {
         Command::ListValues(prefix, options.end())
     } else {
         Command::List(prefix, options.end())
@@ -225,6 +241,17 @@ fn only_word<'a>(
     }
 }
 
+// Returns the word after a command that takes exactly one.
+fn required_word<'a>(
+    row: &'static CommandRow,
+    words: &'a [String],
+) -> Result<&'a str, Mistake<'a>> {
+    match only_word(row, words)? {
+        Some(word) => Ok(word),
+        None => Err(Mistake::NoWord(row)),
+    }
+}
+
 // Returns whether a word would be an option of a command that has some.
 fn is_option_of(word: &str, row: &'static CommandRow) -> bool {
     match option_in(word, Some(row)) {
@@ -241,7 +268,25 @@ fn check<'a>(
 ) -> Result<Request, Mistake<'a>> {
     let (before, after) = around_dashes(words);
     let paths = copies(alloc, before, after)?;
-    let check = Check {
+    let check = check_with(options);
+    if let Some(base) = options.value(OptionName::Base) {
+        return check_against(alloc, row, options, check, base, paths);
+    }
+    if paths.is_empty() {
+        return options.job(alloc, row, Command::Check(check));
+    }
+    options.refuse_file(row)?;
+    Ok(Request::CheckFiles(CheckedFiles {
+        encoding: options.encoding(row)?,
+        check,
+        base: None,
+        paths,
+    }))
+}
+
+// Returns how the options have a source checked.
+fn check_with(options: &Options<'_>) -> Check {
+    Check {
         allowed: if options.has(OptionName::Ascii) {
             Allowed::Ascii
         } else if options.is_latin_1() {
@@ -251,14 +296,32 @@ fn check<'a>(
         },
         pairs_only: options.has(OptionName::Pairs),
         quiet: options.has(OptionName::Quiet),
-    };
-    if paths.is_empty() {
-        return options.job(alloc, row, Command::Check(check));
     }
-    options.refuse_file(row)?;
+}
+
+// Returns the request for a check of files beside a base. One at least is named after the command, or by an option.
+fn check_against<'a>(
+    alloc: Global,
+    row: &'static CommandRow,
+    options: &Options<'a>,
+    check: Check,
+    base: &str,
+    mut paths: Vec<String>,
+) -> Result<Request, Mistake<'a>> {
+    if !paths.is_empty() {
+        options.refuse_file(row)?;
+    } else if let Some(path) = options.value(OptionName::File) {
+        paths.push(String::from_str(alloc, path)?)?;
+    } else {
+        return Err(Mistake::NothingToCheck(row));
+    }
+    if base == STANDARD_INPUT && paths.iter().any(|path| path.as_str() == STANDARD_INPUT) {
+        return Err(Mistake::OneInput(row));
+    }
     Ok(Request::CheckFiles(CheckedFiles {
         encoding: options.encoding(row)?,
         check,
+        base: Some(source_named(alloc, base)?),
         paths,
     }))
 }
@@ -290,6 +353,7 @@ fn diff<'a>(
         encoding: options.encoding(row)?,
         old: source_named(alloc, old.as_str())?,
         new: source_named(alloc, new.as_str())?,
+        report: options.report(),
     }))
 }
 
@@ -333,13 +397,10 @@ fn merge<'a>(
     options: &Options<'a>,
     words: &'a [String],
 ) -> Result<Request, Mistake<'a>> {
-    let Some(path) = only_word(row, words)? else {
-        return Err(Mistake::NoWord(row));
-    };
-    let pairs = source_named(alloc, path)?;
-    let target = options.target(alloc)?;
-    match (&pairs, &target) {
-        (Source::Dash, Target::Printed(Source::StandardInput | Source::Dash)) => {
+    let pairs = source_named(alloc, required_word(row, words)?)?;
+    let destination = options.destination(alloc)?;
+    match (&pairs, &destination) {
+        (Source::Dash, Destination::Printed(Source::StandardInput | Source::Dash)) => {
             Err(Mistake::InputTwice(row))
         }
         _ => Ok(Request::Merge(Merge {
@@ -347,7 +408,7 @@ fn merge<'a>(
             form: options.form(),
             encoding: options.encoding(row)?,
             edits: edits_with(options, Vec::new(alloc)),
-            target,
+            destination,
         })),
     }
 }
@@ -358,9 +419,7 @@ fn convert<'a>(
     options: &Options<'a>,
     words: &'a [String],
 ) -> Result<Request, Mistake<'a>> {
-    let Some(word) = only_word(row, words)? else {
-        return Err(Mistake::NoWord(row));
-    };
+    let word = required_word(row, words)?;
     let Some(target) = target_named(word) else {
         return Err(Mistake::NoTarget(word, row));
     };
@@ -390,14 +449,19 @@ fn change<'a>(
     options: &Options<'a>,
     change: Change,
 ) -> Result<Request, Mistake<'a>> {
-    let Some(path) = options.value(OptionName::InPlace) else {
-        return options.job(alloc, row, Command::Change(change));
-    };
-    Ok(Request::EditFile(FileChange {
-        path: String::from_str(alloc, path)?,
-        encoding: options.encoding(row)?,
-        change,
-        missing: options.missing(),
-        verbose: options.has(OptionName::Verbose),
-    }))
+    let encoding = options.encoding(row)?;
+    match options.destination(alloc)? {
+        Destination::Printed(source) => Ok(Request::Job(Job {
+            encoding,
+            source,
+            command: Command::Change(change),
+        })),
+        Destination::InPlace(path, missing, verbose) => Ok(Request::EditFile(FileChange {
+            path,
+            encoding,
+            change,
+            missing,
+            verbose,
+        })),
+    }
 }

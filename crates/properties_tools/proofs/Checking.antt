@@ -10,17 +10,24 @@ use Rattle.properties_format.specs.Encoding.{Encoding}
 use Rattle.properties_format.specs.Windows1252.{windows_1252_table}
 use Rattle.java_properties.specs.Findings.{KeyEntry, KeyPlace}
 use Rattle.properties_items.specs.declared.findings.MalformedEscape.{MalformedEscape}
-use Rattle.properties_tools.specs.Private.Checking.{escape_finding, finding_of, ill_formed_finding, kind_words, otherwise_finding, place_at, row_findings, said_of, ArrangesFindings}
-use Rattle.properties_tools.specs.Propedit.Check.{byte_words, escape_words, escapes_of, first_of, has_replacement, ill_formed_of, ill_formed_text, other_bytes, repeat_words, repeats_of, said, words_after, AreOtherwise, AreWithBytes, ArrangesByLine, Said}
+use Rattle.properties_tools.specs.Private.Checking.{escape_finding, finding_of, ill_formed_finding, kind_words, misread_finding, otherwise_finding, place_at, row_findings, said_of, ArrangesFindings}
+use Rattle.properties_tools.specs.Propedit.Check.{byte_words, escape_words, escapes_of, first_of, has_replacement, ill_formed_of, ill_formed_text, other_bytes, repeat_words, repeats_of, said, words_after, AreOtherBytes, AreOtherwise, AreWithBytes, ArrangesByLine, Said}
 use Rattle.properties_tools.specs.declared.propedit.check.FindingKind.{FindingKind}
 use Rattle.properties_tools.specs.declared.propedit.check.FindingKind.TheVariants.{NonAscii, ReadOtherwise}
 use Rattle.properties_tools.specs.declared.propedit.check.Finding.{Finding}
 use Rattle.properties_tools.specs.declared.propedit.check.Words.{Words}
+use Rattle.properties_tools.specs.Propedit.Misread.{mark_of, misread_mark, misread_words, AreMisread}
+use Rattle.properties_tools.specs.declared.propedit.misread.Misread.{Misread}
+use Rattle.properties_tools.specs.declared.propedit.misread.Misread.TheVariants.{MarkInside}
+use Rattle.properties_tools.specs.declared.propedit.check.FindingKind.TheVariants.{Misread as MisreadKind}
 use Rattle.properties_tools.specs.declared.propedit.request.Allowed.{Allowed}
 use Rattle.properties_tools.specs.declared.propedit.request.Allowed.TheVariants.{All, Latin1, Ascii}
 
 abbrev otherwise_said : ℕ → ℕ → Said
 otherwise_said byte = said (byte_words byte)
+
+abbrev misread_said : Misread → ℕ → Said
+misread_said misread = said (misread_words misread)
 
 abbrev escape_said : MalformedEscape → Said
 escape_said escape = said (escape_words escape) escape.line_number
@@ -69,11 +76,38 @@ module _ (P : List KeyPlace) where
     with-bytes e source bytes others rest,
   )
 
-  pub said-otherwise : (allowed : Allowed) (e : Encoding) (source : List ℕ) (fs : List Finding) → AreOtherwise otherwise_finding allowed e source fs
-      → AreOtherwise otherwise_said allowed e source (map (said_of P) fs)
-  said-otherwise All e source fs h = ap (map (said_of P)) h
-  said-otherwise Latin1 e source fs h = with-bytes e source (other_bytes 0x80 windows_1252_table) fs h
-  said-otherwise Ascii e source fs h = ap (map (said_of P)) h
+  said-bytes : (allowed : Allowed) (e : Encoding) (source : List ℕ) (fs : List Finding) → AreOtherBytes otherwise_finding allowed e source fs
+      → AreOtherBytes otherwise_said allowed e source (map (said_of P) fs)
+  said-bytes All e source fs h = ap (map (said_of P)) h
+  said-bytes Latin1 e source fs h = with-bytes e source (other_bytes 0x80 windows_1252_table) fs h
+  said-bytes Ascii e source fs h = ap (map (said_of P)) h
+
+  mark-said : (mark : Option Misread) → map (said_of P) (mark_of misread_finding mark) ≡ mark_of misread_said mark
+  mark-said None = refl
+  mark-said (Some misread) = refl
+
+  said-misread : (e : Encoding) (source : List ℕ) (fs : List Finding) → AreMisread misread_finding e source fs
+      → AreMisread misread_said e source (map (said_of P) fs)
+  said-misread e source fs h = record {
+    inside = h.inside;
+    are_inside = h.are_inside;
+    is =
+        ap (map (said_of P)) h.is
+        ∙ map-append (said_of P) (mark_of misread_finding (misread_mark source)) (map (misread_finding MarkInside) h.inside)
+        ∙ ap (λ v. v ++ map (said_of P) (map (misread_finding MarkInside) h.inside)) (mark-said (misread_mark source))
+        ∙ ap (λ v. mark_of misread_said (misread_mark source) ++ v) (said-all (MisreadKind MarkInside) h.inside);
+  }
+
+  pub said-otherwise : (allowed : Allowed) (e : Encoding) (source : List ℕ) (fs : List Finding)
+      → AreOtherwise misread_finding otherwise_finding allowed e source fs
+      → AreOtherwise misread_said otherwise_said allowed e source (map (said_of P) fs)
+  said-otherwise allowed e source fs h = record {
+    misread = map (said_of P) h.misread;
+    are_misread = said-misread e source h.misread h.are_misread;
+    bytes = map (said_of P) h.bytes;
+    are_bytes = said-bytes allowed e source h.bytes h.are_bytes;
+    is = ap (map (said_of P)) h.is ∙ map-append (said_of P) h.misread h.bytes;
+  }
 
   -- of a pair whose key has this row
   pub said-row : (w : Bool) (number row : ℕ) (key : List ℕ) (first : ℕ) → place_at P row ≡ record { number = first; key = key }

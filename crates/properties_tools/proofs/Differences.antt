@@ -48,7 +48,7 @@ abbrev IsRowWith : List Entry → List ℕ → Option Row → Type 0
 IsRowWith pairs key None = HasNoPair key pairs
 IsRowWith pairs key (Some r) = IsRow pairs r × (r.key ≡ key)
 
-no-value : (pairs : List Entry) (key : List ℕ) → ((value : List ℕ) → IsLastValue pairs key value → ⊥) → HasNoPair key pairs
+pub no-value : (pairs : List Entry) (key : List ℕ) → ((value : List ℕ) → IsLastValue pairs key value → ⊥) → HasNoPair key pairs
 no-value pairs key never = of (value_in pairs key) (value_in-meets pairs key)
   where
     of : (v : Option (List ℕ)) → IsValue pairs key v → HasNoPair key pairs

@@ -33,7 +33,7 @@ use Rattle.properties_lines.proofs.HeldLines.{body-next, body-after, body-lines_
 use Rattle.properties_tools.specs.Propedit.Lines.{holds_byte, holds_zero, is_sought, starts_with_bom, AreFlawed, AreFlawedIn, HasFlaw, HasFlawed, IsFirstFlawed, IsFirstUtf8, IsWellFormedIn, LacksFlaw, LooksUtf8}
 use Rattle.properties_tools.specs.Private.Flawed.{are_paired, is_ascii, is_flawed, is_well_formed, unit_in, numbers_from, numbers_left, FindsNext, HasFlawedIn, HasLinesOf, IsFound, IsScanning}
 use Rattle.properties_tools.specs.declared.propedit.ill_formed.Flaw.{Flaw}
-use Rattle.properties_tools.specs.declared.propedit.ill_formed.Flaw.TheVariants.{IllFormed, Zero, NonAscii, Byte}
+use Rattle.properties_tools.specs.declared.propedit.ill_formed.Flaw.TheVariants.{IllFormed, Zero, NonAscii, Byte, MarkInside}
 use Rattle.properties_tools.proofs.NonAscii.{tells-ascii, told-nothing}
 use Rattle.properties_tools.proofs.Paired.{paired-well_formed, well_formed-paired}
 
@@ -61,6 +61,7 @@ has-flaw : (flaw : Flaw) (e : Encoding) (d : List ℕ) → is_flawed flaw e d �
 has-flaw IllFormed e d k = elim (cases_Bool (is_well_formed e d)) [ inl t ↦ absurd (cc) | inr t ↦ not-well e d t ]
 has-flaw Zero e d k = k
 has-flaw (Byte byte) e d k = k
+has-flaw MarkInside e d k = k
 has-flaw NonAscii e d k =
     let parts = and_parts (not (is_ascii e d)) (is_well_formed e d) k in
     (well e d parts.1, (decoded_line e d, decoded_line-meets e d, tells-ascii e d ∙ parts.0))
@@ -75,6 +76,7 @@ lacks-flaw : (flaw : Flaw) (e : Encoding) (d : List ℕ) → is_flawed flaw e d 
 lacks-flaw IllFormed e d k = elim (cases_Bool (is_well_formed e d)) [ inl t ↦ well e d t | inr t ↦ absurd (cc) ]
 lacks-flaw Zero e d k = k
 lacks-flaw (Byte byte) e d k = k
+lacks-flaw MarkInside e d k = k
 lacks-flaw NonAscii e d k = elim (cases_Bool (is_well_formed e d)) [
   | inl t ↦ inr (decoded_line e d, decoded_line-meets e d, tells-ascii e d ∙ first-false (not (is_ascii e d)) (is_well_formed e d) t k)
   | inr t ↦ inl (not-well e d t)
@@ -84,6 +86,7 @@ not-both : (flaw : Flaw) (e : Encoding) (d : List ℕ) → LacksFlaw flaw e d �
 not-both IllFormed e d x y = y x
 not-both Zero e d x y = absurd (cc)
 not-both (Byte byte) e d x y = absurd (cc)
+not-both MarkInside e d x y = absurd (cc)
 not-both NonAscii e d (inl x) y = x y.0
 not-both NonAscii e d (inr (text, is, none)) (sound, (other, same, has)) =
     let x = decoded_line-only e d text is in
@@ -101,6 +104,7 @@ empty-flawless : (flaw : Flaw) (e : Encoding) → is_flawed flaw e [] ≡ false
 empty-flawless IllFormed e = ap not (empty-well e)
 empty-flawless Zero e = refl
 empty-flawless (Byte byte) e = refl
+empty-flawless MarkInside e = refl
 empty-flawless NonAscii e = let told = told-nothing e in rw told refl
 
 -- No place has a byte.

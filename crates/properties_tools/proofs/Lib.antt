@@ -13,13 +13,17 @@ pub mod FirstOf
 pub mod Flawed
 pub mod Folding
 pub mod HeldTexts
+pub mod Json
 pub mod KeyPlaces
 pub mod KeyTables
+pub mod Lacking
 pub mod LineFindings
 pub mod ListedKeys
 pub mod LookedUp
+pub mod Marks
 pub mod Merging
 pub mod NonAscii
+pub mod Objects
 pub mod Paired
 pub mod Pairs
 pub mod Prefixes

@@ -1,5 +1,5 @@
 -- Edits by which pairs are set, and those that are left out.
-use Rattle.std.proofs.Common.{◌≡◌, ◌≢◌, ℕ, ◌+◌, ◌<◌, ◌||◌, suc, true, false, List, [], ◌∷◌, ◌++◌, length, get_or, drop, refl, ap, sym, ◌∙◌, arith, append-nil, append_assoc}
+use Rattle.std.proofs.Common.{◌≡◌, ◌≢◌, ℕ, ◌+◌, ◌<◌, ◌||◌, suc, true, false, List, [], ◌∷◌, ◌++◌, length, get_or, drop, refl, ap, sym, ◌∙◌, arith, append-nil, append_assoc, inl, inr}
 use Rattle.std.specs.Prelude.{Option, Some, None, Err}
 use Rattle.std.specs.List.{list_any}
 use Rattle.std.specs.Option.{is_some, option_map}
@@ -8,13 +8,15 @@ use Rattle.std.specs.declared.string.String.{String}
 use Rattle.std.proofs.lemmas.Grind.{flat_map-append}
 use Rattle.std.proofs.lemmas.List.{drop_more, map-append}
 use Rattle.properties_format.specs.Edits.{set_value, Edit}
+use Rattle.properties_format.specs.Encoding.{Encoding}
 use Rattle.java_properties.specs.Editing.{edit_in, edits_in, IsSameEdit}
 use Rattle.java_properties.specs.Maps.{characters}
 use Rattle.properties_editing.specs.declared.edit.Edit as editor
 use Rattle.properties_editing.specs.declared.edit.Edit.TheVariants.{Put, Remove, SetValue}
-use Rattle.properties_tools.specs.Private.Collected.{value_texts}
+use Rattle.properties_tools.specs.Private.Collected.{value_texts, with_values}
 use Rattle.properties_tools.specs.Private.Merging.{TakesText, TookTexts}
-use Rattle.properties_tools.specs.Propedit.Change.{with_values}
+use Rattle.properties_tools.specs.Propedit.Change.{edited_keys, AreKnown}
+use Rattle.properties_tools.specs.Propedit.Get.{HaveValues}
 use Rattle.properties_tools.specs.Propedit.Merge.{is_zero, set_of_texts, text_bytes, zero_ended, AreNoTexts, HasNoZero, TextPair}
 use Rattle.properties_tools.specs.declared.propedit.error.Failure.TheVariants.{Texts}
 use Rattle.properties_tools.specs.declared.propedit.error.TextFlaw.{TextFlaw}
@@ -88,6 +90,15 @@ same-edit (Remove k) (SetValue l w) h = absurd h
 same-edit (SetValue k v) (Put l w) h = absurd h
 same-edit (SetValue k v) (Remove l) h = absurd h
 same-edit (SetValue k v) (SetValue l w) h = rw (h.0, h.1) refl
+
+-- Those that have a value in their place are those of which a pair has the key.
+pub known-are : (e : Encoding) (source : List ℕ) (edits : List Edit) (values : List (Option (List ℕ))) → HaveValues e source (edited_keys edits) values
+    → AreKnown e source edits (with_values edits values)
+known-are e source [] [] h = refl
+known-are e source [] (value ∷ values) h = absurd h
+known-are e source (edit ∷ edits) [] h = absurd h
+known-are e source (edit ∷ edits) (Some value ∷ values) h = inl ((value, h.0), (with_values edits values, known-are e source edits values h.1, refl))
+known-are e source (edit ∷ edits) (None ∷ values) h = inr (h.0, known-are e source edits values h.1)
 
 pub no-values : (edits : List Edit) → with_values edits [] ≡ []
 no-values [] = refl

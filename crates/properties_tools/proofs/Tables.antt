@@ -1,5 +1,5 @@
 -- Tables with values.
-use Rattle.std.proofs.Common.{◌≡◌, ℕ, zero, suc, ◌+◌, ◌<◌, List, [], ◌∷◌, ◌++◌, length, refl, ap, ap₂, sym, ◌∙◌, inl, inr, subst, arith, append-nil}
+use Rattle.std.proofs.Common.{◌≡◌, ℕ, zero, suc, ◌+◌, ◌^◌, ◌<◌, List, [], ◌∷◌, ◌++◌, length, refl, ap, ap₂, sym, ◌∙◌, inl, inr, subst, arith, append-nil}
 use Rattle.std.specs.Prelude.{◌⊎◌, ◌-◌, All, None, Some, Result, Ok, Err, get_or, map}
 use Rattle.std.specs.List.{zip}
 use Rattle.std.specs.Str.{chars, IsUtf8}
@@ -82,6 +82,10 @@ module _ (t : Table) (table : IsTable t) where
       get_or-map (row_in t.values.items) (zip (places_of t.keys) t.lasts.items) n (none, l) d (omega arith)
       ∙ ap (row_in t.values.items) (get_or-zip (places_of t.keys) t.lasts.items n (none, l) (omega arith) (omega arith))
 
+  -- The lines of the last pairs fit.
+  pub lines-fit : All (λ r. r.last < 2 ^ 64) (rows_of t)
+  lines-fit = λ i d l. rw (row-at i d no_last l) (table.lines i no_last (let r = length-rows in omega arith))
+
   pub below-places : (n : ℕ) → n < length (rows_of t) → n < length (places_of t.keys)
   below-places n l = let r = length-rows in let p = lasts-places in omega arith
 
@@ -90,7 +94,10 @@ module _ (t : Table) (table : IsTable t) where
 module _ (old new : Table) (table : IsTable old) (number : ℕ) (key bytes : List ℕ) (row : ℕ) (last : LastPair)
     (puts : PutsKey number key (places_of old.keys) row (places_of new.keys)) (keys : IsKeyTable new.keys)
     (values : new.values.items ≡ old.values.items ++ bytes) (holds : HoldsText new.values.items last.value)
-    (at : bytes_at new.values.items last.value ≡ bytes) (line : last.line ≡ number) where
+    (at : bytes_at new.values.items last.value ≡ bytes) (line : last.line ≡ number) (fits : number < 2 ^ 64) where
+  small : last.line < 2 ^ 64
+  small = rw line fits
+
   kept : All (λ (l : LastPair). HoldsText new.values.items l.value) old.lasts.items
   kept = λ k d l. subst (λ v. HoldsText v (get_or old.lasts.items k d).value) (sym values)
       (holds-kept old.values.items bytes (get_or old.lasts.items k d).value (table.texts k d l))
@@ -135,6 +142,8 @@ module _ (old new : Table) (table : IsTable old) (number : ℕ) (key bytes : Lis
         lasts = ap length lasts ∙ length-set old.lasts.items row last ∙ table.lasts ∙ sym (places-same h);
         texts = subst (All (λ (l : LastPair). HoldsText new.values.items l.value)) (sym lasts)
             (All-set (λ (l : LastPair). HoldsText new.values.items l.value) old.lasts.items row last holds kept);
+        lines = subst (All (λ (l : LastPair). l.line < 2 ^ 64)) (sym lasts)
+            (All-set (λ (l : LastPair). l.line < 2 ^ 64) old.lasts.items row last small table.lines);
       },
     )
     | inr (absent, is, more) ↦ absurd (let p = length-places old.keys in let l = table.lasts in omega arith)
@@ -169,6 +178,9 @@ module _ (old new : Table) (table : IsTable old) (number : ℕ) (key bytes : Lis
         texts = subst (All (λ (l : LastPair). HoldsText new.values.items l.value)) (sym lasts)
             (All-append (λ (l : LastPair). HoldsText new.values.items l.value) old.lasts.items (last ∷ []) kept
             (all-one (λ (l : LastPair). HoldsText new.values.items l.value) last holds));
+        lines = subst (All (λ (l : LastPair). l.line < 2 ^ 64)) (sym lasts)
+            (All-append (λ (l : LastPair). l.line < 2 ^ 64) old.lasts.items (last ∷ []) table.lines
+            (all-one (λ (l : LastPair). l.line < 2 ^ 64) last small));
       },
     )
   ]

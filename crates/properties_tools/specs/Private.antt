@@ -4,6 +4,8 @@ pub mod Flawed
 pub mod Fold
 pub mod Hinting
 pub mod InPlace
+pub mod Json
+pub mod Lacking
 pub mod Merging
 pub mod Table
 pub mod Checking

@@ -1,7 +1,9 @@
 -- What `propedit` does, over any streams: what a command gives for a source, a text to print and the exit status or why
 -- it fails, and the effects of that.
+pub mod Against
 pub mod Change
 pub mod Check
+pub mod Comment
 pub mod Counts
 pub mod Diff
 pub mod Differences
@@ -9,9 +11,11 @@ pub mod Failures
 pub mod Get
 pub mod Hints
 pub mod InPlace
+pub mod Json
 pub mod Lines
 pub mod Listing
 pub mod Merge
+pub mod Misread
 pub mod Sources
 pub mod Table
 pub mod Texts
@@ -20,11 +24,14 @@ use Rattle.std.specs.Option.{option_map}
 use Rattle.properties_format.specs.Encoding.{Encoding}
 use Rattle.properties_text.specs.Encoding.{encoding_of}
 use Rattle.java_properties.specs.Maps.{characters}
+use Rattle.properties_tools.specs.Propedit.Against.{IsBaseOf, IsReportAgainst, KnownBase}
 use Rattle.properties_tools.specs.Propedit.Change.{Changes}
 use Rattle.properties_tools.specs.Propedit.Check.{IsReport}
+use Rattle.properties_tools.specs.Propedit.Comment.{ShowsComment}
 use Rattle.properties_tools.specs.Propedit.Failures.{LacksMemory, failure_status, standard_output, Reports}
 use Rattle.properties_tools.specs.Propedit.Get.{Gets}
 use Rattle.properties_tools.specs.Propedit.Hints.{hint_bytes, IsHint, PrintsHint}
+use Rattle.properties_tools.specs.Propedit.Json.{ListsJson}
 use Rattle.properties_tools.specs.Propedit.Listing.{Lists, ListsValues}
 use Rattle.properties_tools.specs.declared.propedit.answer.Answer.{Answer}
 use Rattle.properties_tools.specs.declared.propedit.request.Check.{Check as AskedCheck}
@@ -70,6 +77,23 @@ abbrev pub Checks : List ℕ → Encoding → AskedCheck → List ℕ → Result
 Checks name e check source (Ok answer) = ChecksSource name e check source answer
 Checks name e check source (Err failure) = LacksMemory failure
 
+-- What checking a base returns: what is wrong in it, and what is kept of it. Otherwise memory ran out.
+abbrev pub ChecksBase : List ℕ → Encoding → AskedCheck → List ℕ → Result (Answer × KnownBase) Failure → Type 0
+ChecksBase name e check source (Ok checked) = ChecksSource name e check source checked.0 × IsBaseOf name e source checked.1
+ChecksBase name e check source (Err failure) = LacksMemory failure
+
+-- The source was checked and compared: the status is that of the report, which is printed unless the check is quiet.
+pub record ChecksSourceAgainst (base : KnownBase) (name : List ℕ) (e : Encoding) (check : AskedCheck) (source : List ℕ) (answer : Answer) : Type 0 where
+  pub report : List ℕ
+  pub is_report : IsReportAgainst base name e check source report
+  pub text : answer.text.items ≡ printed_report check.quiet report
+  pub status : answer.status ≡ report_status report
+
+-- What checking a source against a base returns. It fails only if memory runs out.
+abbrev pub ChecksAgainst : KnownBase → List ℕ → Encoding → AskedCheck → List ℕ → Result Answer Failure → Type 0
+ChecksAgainst base name e check source (Ok answer) = ChecksSourceAgainst base name e check source answer
+ChecksAgainst base name e check source (Err failure) = LacksMemory failure
+
 -- What a change gives as an answer: the bytes after it, and the status 0.
 abbrev pub ChangesTo : Encoding → List ℕ → AskedChange → Result Answer Failure → Type 0
 ChangesTo e source change (Ok answer) = Changes e source change (Ok answer.text) × (answer.status ≡ 0)
@@ -80,7 +104,10 @@ abbrev pub AnswersCommand : List ℕ → Encoding → Command → List ℕ → R
 AnswersCommand name e (command.Get keys default end) source result = Gets e source (map characters keys.items) (option_map characters default) end result
 AnswersCommand name e (command.List prefix end) source result = Lists e source (characters prefix) end result
 AnswersCommand name e (command.ListValues prefix end) source result = ListsValues e source (characters prefix) end result
+AnswersCommand name e (command.ListJson prefix) source result = ListsJson e source (characters prefix) result
+AnswersCommand name e (command.Comment key) source result = ShowsComment e source (characters key) result
 AnswersCommand name e (command.Check check) source result = Checks name e check source result
+AnswersCommand name e (command.CheckAgainst check base) source result = ChecksAgainst base name e check source result
 AnswersCommand name e (command.Change change) source result = ChangesTo e source change result
 
 -- What the command of some job gives for its source.

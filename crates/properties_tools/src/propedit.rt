@@ -1,11 +1,14 @@
 // The program `propedit`, over any streams.
 
+pub mod against;
 pub mod answer;
 pub mod answers;
 pub mod change;
 pub mod check;
+pub mod comment;
 pub mod counts;
 pub mod diff;
+pub mod diff_json;
 pub mod error;
 mod fold;
 pub mod get;
@@ -15,7 +18,9 @@ pub mod in_place;
 mod key_table;
 mod line_findings;
 pub mod list;
+pub mod list_json;
 pub mod merge;
+mod misread;
 pub mod pairs;
 pub mod request;
 pub mod same_file;
@@ -111,6 +116,7 @@ fn print_answer<R: CountedRead, W: CountedWrite>(
 /// let edits = Change::Edits(Edits {
 ///     list: vec![in alloc; Edit::Remove(port)]?,
 ///     ascii_only: false,
+///     latin_1: false,
 ///     absent: AbsentKeys::Added,
 /// });
 /// replacement(alloc, b"host = a\n", Encoding::UTF_8, &edits)?; // None
@@ -164,7 +170,7 @@ pub fn exit_status<E: CountedWrite>(
 ///
 /// ```text
 /// let mut output = Counted::new(Vec::new(alloc));
-/// propedit::print_text(alloc, "propedit 1.17.0\n", &mut output, &mut errors); // 0, and the output holds the text
+/// propedit::print_text(alloc, "propedit 1.18.0\n", &mut output, &mut errors); // 0, and the output holds the text
 /// ```
 pub fn print_text<W: CountedWrite, E: CountedWrite>(
     alloc: Global,

@@ -1,5 +1,6 @@
 -- The findings of a check, as the code holds them.
 use Rattle.std.specs.Prelude.{◌≡◌, ℕ, ◌==◌, ◌&&◌, not, Bool, if◌then◌else◌, get_or, length, List, [], ◌∷◌, ◌++◌, Result, Ok, Err, string_bytes}
+use Rattle.std.specs.Global.{Vec}
 use Rattle.std.specs.List.Sorted.{IsNonDecreasingBy, IsStableByKey}
 use Rattle.std.specs.Ordering.{nat_cmp}
 use Rattle.properties_format.specs.Encoding.{Encoding}
@@ -12,11 +13,13 @@ use Rattle.properties_tools.specs.Private.Table.{places_of, HasPlaces, IsKeyTabl
 use Rattle.properties_tools.specs.Propedit.Check.{byte_words, escape_words, has_replacement, ill_formed_text, non_ascii_words, repeat_words, utf_8_words, IsReport, Said}
 use Rattle.properties_tools.specs.Propedit.Failures.{zero_words}
 use Rattle.properties_tools.specs.Propedit.Lines.{AreFlawedLines}
+use Rattle.properties_tools.specs.Propedit.Misread.{misread_words, AreMisread}
 use Rattle.properties_tools.specs.declared.propedit.check.Reported.{Reported}
 use Rattle.properties_tools.specs.declared.propedit.check.FindingKind.{FindingKind}
-use Rattle.properties_tools.specs.declared.propedit.check.FindingKind.TheVariants.{HoldsZero, IllFormedLine, LooksUtf8, NonAscii, ReadOtherwise, Escape, Repeats}
+use Rattle.properties_tools.specs.declared.propedit.check.FindingKind.TheVariants.{HoldsZero, IllFormedLine, LooksUtf8, NonAscii, ReadOtherwise, Misread, Escape, Repeats}
 use Rattle.properties_tools.specs.declared.propedit.check.Finding.{Finding}
 use Rattle.properties_tools.specs.declared.propedit.check.Words.{Words}
+use Rattle.properties_tools.specs.declared.propedit.misread.Misread.{Misread as MisreadKind}
 use Rattle.properties_tools.specs.declared.propedit.ill_formed.Flaw.TheVariants as flaw
 use Rattle.properties_tools.specs.declared.propedit.request.Check.{Check}
 
@@ -33,6 +36,9 @@ escape_finding escape = record { line_number = escape.line_number; kind = Escape
 
 abbrev pub otherwise_finding : ℕ → ℕ → Finding
 otherwise_finding byte number = record { line_number = number; kind = ReadOtherwise byte }
+
+abbrev pub misread_finding : MisreadKind → ℕ → Finding
+misread_finding misread number = record { line_number = number; kind = Misread misread }
 
 -- of a pair in this line whose key has this row, and its first pair in this line
 abbrev pub row_findings : Bool → ℕ → List ℕ → ℕ → ℕ → List Finding
@@ -57,6 +63,7 @@ kind_words places (IllFormedLine words) = ill_formed_text words
 kind_words places LooksUtf8 = utf_8_words
 kind_words places NonAscii = non_ascii_words
 kind_words places (ReadOtherwise byte) = byte_words byte
+kind_words places (Misread misread) = misread_words misread
 kind_words places (Escape escape) = escape_words escape
 kind_words places (Repeats row) = repeat_words (place_at places row).key (place_at places row).number
 
@@ -67,6 +74,11 @@ said_of places f = record { line = f.line_number; words = kind_words places f.ki
 pub record ArrangesFindings (findings arranged : List Finding) : Type 0 where
   pub in_order : IsNonDecreasingBy (λ f. f.line_number) arranged
   pub stable : IsStableByKey (λ f. f.line_number) nat_cmp findings arranged
+
+-- What finding what Java reads otherwise than people think returns. It fails only if memory runs out.
+abbrev pub FindsMisread : Encoding → List ℕ → Result (Vec Finding) PropertiesError → Type 0
+FindsMisread e source (Ok findings) = AreMisread misread_finding e source findings.items
+FindsMisread e source (Err error) = IsBareError kind.Memory error
 
 -- ---- a report, with the keys of the source
 

@@ -1,5 +1,5 @@
 -- How what is listed, looked up or found wrong in a source is collected, line by line.
-use Rattle.std.specs.Prelude.{◌≡◌, ◌⊎◌, ℕ, List, Option, Some, None, Result, Ok, Err, ◌+◌, ◌∷◌, map, ◌++◌, Bool}
+use Rattle.std.specs.Prelude.{◌≡◌, ◌⊎◌, ℕ, List, [], Option, Some, None, Result, Ok, Err, ◌+◌, ◌∷◌, map, ◌++◌, Bool}
 use Rattle.std.specs.Global.{Vec, Global}
 use Rattle.properties_format.specs.Edits.{AreInComments, EscapesAre}
 use Rattle.properties_format.specs.Encoding.{Encoding}
@@ -73,6 +73,12 @@ RefusesIfAbsent e source keys (Ok done) = HasKeys e source keys
 RefusesIfAbsent e source keys (Err failure) = SaysAbsent e source keys failure ⊎ (IsSound e source → LacksMemory failure)
 
 -- ---- edits
+
+-- those of the edits that have a value in their place
+abbrev pub with_values : List Edit → List (Option (List ℕ)) → List Edit
+with_values (edit ∷ edits) (Some value ∷ values) = edit ∷ with_values edits values
+with_values (edit ∷ edits) (None ∷ values) = with_values edits values
+with_values edits values = []
 
 -- What making these of the edits of a source with sound bytes returns.
 abbrev pub MakesList : Encoding → List ℕ → Edits → List Edit → Result (Vec ℕ) Failure → Type 0

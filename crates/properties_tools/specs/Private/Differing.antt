@@ -1,9 +1,16 @@
 -- How the differences of two tables are computed.
-use Rattle.std.specs.Prelude.{◌≢◌, ◌++◌, ℕ, List, [], ◌∷◌, AllPairs, Option, Some, None, bytes_eq, if◌then◌else◌}
+use Rattle.std.specs.Prelude.{◌≡◌, ◌≢◌, ◌<◌, ◌^◌, ◌++◌, All, get_or, length, ℕ, List, [], ◌∷◌, AllPairs, Option, Some, None, Result, bytes_eq, if◌then◌else◌}
 use Rattle.std.specs.List.{flat_map}
-use Rattle.properties_tools.specs.Propedit.Differences.{changed, came, gone, Difference}
+use Rattle.properties_format.specs.Encoding.{Encoding}
+use Rattle.properties_tools.specs.Propedit.{report_status}
+use Rattle.properties_tools.specs.Propedit.Diff.{DiffsTo}
+use Rattle.properties_tools.specs.Propedit.Differences.{changed, came, gone, AreDifferencesOf, Difference}
+use Rattle.properties_tools.specs.Propedit.Sources.{IsSound}
 use Rattle.properties_tools.specs.Propedit.Table.{row_keys, Row}
 use Rattle.properties_tools.specs.Private.Table.{rows_of, IsTable}
+use Rattle.properties_tools.specs.declared.propedit.answer.Answer.{Answer}
+use Rattle.properties_tools.specs.declared.propedit.diff.DiffFailure.{DiffFailure}
+use Rattle.properties_tools.specs.declared.propedit.diff.Side.{Side}
 use Rattle.properties_tools.specs.declared.propedit.table.Table.{Table}
 
 -- The keys of the rows can be found, and no two rows have the same.
@@ -35,3 +42,38 @@ of_new olds s = came_if (row_with s.key olds) s
 -- the differences between the rows of the old source and those of the new one
 abbrev pub differences : List Row → List Row → List Difference
 differences olds news = flat_map (of_old news) olds ++ flat_map (of_new olds) news
+
+-- ---- a row of a table
+
+-- what stands for a row where there is none
+abbrev pub no_row : Row
+no_row = record { key = []; first = 0; last = 0; value = [] }
+
+abbrev pub row_at : Side → Row
+row_at side = get_or (rows_of side.table.now) side.row no_row
+
+pub record IsSide (side : Side) : Type 0 where
+  pub can : CanBeCompared side.table.now
+  pub within : side.row < length (rows_of side.table.now)
+
+-- ---- what is printed
+
+-- The lines of its rows fit a `usize`.
+abbrev pub HasLines : Difference → Type 0
+HasLines (gone r) = r.last < 2 ^ 64
+HasLines (came r) = r.last < 2 ^ 64
+HasLines (changed r s) = (r.last < 2 ^ 64) × (s.last < 2 ^ 64)
+
+-- Both sources are sound, and this is printed of each of their differences. The status is that of the text.
+pub record TellsEach (printed : Difference → List ℕ) (e : Encoding) (old new : List ℕ) (answer : Answer) : Type 0 where
+  pub old_sound : IsSound e old
+  pub new_sound : IsSound e new
+  pub differences : List Difference
+  pub are : AreDifferencesOf e old new differences
+  pub lines : All HasLines differences
+  pub text : answer.text.items ≡ flat_map printed differences
+  pub status : answer.status ≡ report_status answer.text.items
+
+-- What comparing returns so.
+abbrev pub DiffsEach : (Difference → List ℕ) → Encoding → List ℕ → List ℕ → Result Answer DiffFailure → Type 0
+DiffsEach printed e old new result = DiffsTo (TellsEach printed e old new) e old new result

@@ -13,12 +13,12 @@ use Rattle.properties_lines.specs.Private.HeldLines.{IsInBody, lines_left}
 use Rattle.properties_lines.specs.Scanner.{HasRightFlags, bytes_of}
 use Rattle.properties_lines.specs.declared.scanner.RawLine.{RawLine}
 use Rattle.properties_lines.specs.declared.scanner.Scanner.{Scanner}
-use Rattle.properties_tools.specs.Private.Checking.{otherwise_finding}
-use Rattle.properties_tools.specs.Propedit.Check.{AreOtherwise, AreRefused, AreWithBytes}
+use Rattle.properties_tools.specs.Private.Checking.{misread_finding, otherwise_finding}
+use Rattle.properties_tools.specs.Propedit.Check.{AreOtherBytes, AreOtherwise, AreRefused, AreWithBytes}
 use Rattle.properties_tools.specs.declared.propedit.check.Finding.{Finding}
-use Rattle.properties_tools.specs.Propedit.Lines.{holds_byte, holds_non_ascii, holds_zero, AreFlawedIn, HasFlawed}
+use Rattle.properties_tools.specs.Propedit.Lines.{holds_byte, holds_mark, holds_non_ascii, holds_zero, AreFlawedIn, HasFlawed}
 use Rattle.properties_tools.specs.declared.propedit.ill_formed.Flaw.{Flaw}
-use Rattle.properties_tools.specs.declared.propedit.ill_formed.Flaw.TheVariants.{IllFormed, Zero, NonAscii, Byte}
+use Rattle.properties_tools.specs.declared.propedit.ill_formed.Flaw.TheVariants.{IllFormed, Zero, NonAscii, Byte, MarkInside}
 use Rattle.properties_tools.specs.declared.propedit.request.Allowed.{Allowed}
 
 -- ---- the bytes of a line
@@ -59,6 +59,7 @@ abbrev pub is_flawed : Flaw → Encoding → List ℕ → Bool
 is_flawed IllFormed e bytes = not (is_well_formed e bytes)
 is_flawed Zero e bytes = holds_zero bytes
 is_flawed (Byte byte) e bytes = holds_byte byte bytes
+is_flawed MarkInside e bytes = holds_mark bytes
 is_flawed NonAscii e bytes = not (is_ascii e bytes) && is_well_formed e bytes
 
 -- ---- the lines of a body
@@ -96,8 +97,13 @@ abbrev pub FindsBytes : List ℕ → Encoding → List ℕ → Result (Vec Findi
 FindsBytes bytes e source (Ok findings) = AreWithBytes otherwise_finding e source bytes findings.items
 FindsBytes bytes e source (Err error) = IsBareError kind.Memory error
 
+abbrev pub FindsOtherBytes : Allowed → Encoding → List ℕ → Result (Vec Finding) PropertiesError → Type 0
+FindsOtherBytes allowed e source (Ok findings) = AreOtherBytes otherwise_finding allowed e source findings.items
+FindsOtherBytes allowed e source (Err error) = IsBareError kind.Memory error
+
+-- What finding all that Java reads otherwise returns, likewise.
 abbrev pub FindsOtherwise : Allowed → Encoding → List ℕ → Result (Vec Finding) PropertiesError → Type 0
-FindsOtherwise allowed e source (Ok findings) = AreOtherwise otherwise_finding allowed e source findings.items
+FindsOtherwise allowed e source (Ok findings) = AreOtherwise misread_finding otherwise_finding allowed e source findings.items
 FindsOtherwise allowed e source (Err error) = IsBareError kind.Memory error
 
 -- The next number is found, if there is one.

@@ -146,11 +146,12 @@ rows_of t = map (row_in t.values.items) (zip (places_of t.keys) t.lasts.items)
 abbrev pub row_pair : Row → Pair
 row_pair r = (r.key, r.value)
 
--- Each key has a last pair, and the values are texts.
+-- Each key has a last pair, whose line fits a `usize`, and the values are texts.
 pub record IsTable (t : Table) : Type 0 where
   pub keys : IsKeyTable t.keys
   pub lasts : length t.lasts.items ≡ length t.keys.rows.items
   pub texts : All (λ l. HoldsText t.values.items l.value) t.lasts.items
+  pub lines : All (λ l. l.line < 2 ^ 64) t.lasts.items
 
 -- A pair has this key and value: it is the last one of this row, or has a row that comes last.
 abbrev pub PutsRow : ℕ → List ℕ → List ℕ → List Row → ℕ → List Row → Type 0

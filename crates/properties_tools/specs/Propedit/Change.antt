@@ -1,5 +1,5 @@
 -- What a change gives: the bytes of a source after it.
-use Rattle.std.specs.Prelude.{◌≡◌, ◌⊎◌, ℕ, List, [], ◌∷◌, ◌++◌, Option, Some, None, Result, Ok, Err, map}
+use Rattle.std.specs.Prelude.{◌≡◌, ◌⊎◌, ℕ, List, [], ◌∷◌, ◌++◌, Some, None, Result, Ok, Err, map}
 use Rattle.std.specs.Global.{Global, Vec}
 use Rattle.std.specs.declared.string.String.{String}
 use Rattle.properties_format.specs.Converting.{IsConverted}
@@ -12,7 +12,6 @@ use Rattle.java_properties.specs.Editing.{ArePairsMade, IsRefusal, edits_in}
 use Rattle.java_properties.specs.Maps.{characters}
 use Rattle.properties_items.specs.declared.error.PropertiesError.{PropertiesError}
 use Rattle.properties_tools.specs.Propedit.Failures.{LacksMemory}
-use Rattle.properties_tools.specs.Propedit.Get.{HaveValues}
 use Rattle.properties_tools.specs.Propedit.Sources.{HasSoundBytes, HasUnsoundBytes, IsSound, IsUnsound}
 use Rattle.properties_tools.specs.declared.propedit.request.AbsentKeys.{AbsentKeys}
 use Rattle.properties_tools.specs.declared.propedit.request.AbsentKeys.TheVariants as absent
@@ -39,6 +38,10 @@ edited_keys edits = map edited_key edits
 abbrev pub HasKey : Encoding → List ℕ → List ℕ → Type 0
 HasKey e source key = (value : List ℕ) × HasPairValue e source key (Some value)
 
+-- No pair of it does.
+abbrev pub HasNoKey : Encoding → List ℕ → List ℕ → Type 0
+HasNoKey e source key = HasPairValue e source key None
+
 -- A pair of it has each of these keys.
 abbrev pub HasKeys : Encoding → List ℕ → List (List ℕ) → Type 0
 HasKeys e source [] = Unit {0}
@@ -50,7 +53,7 @@ pub record IsFirstAbsent (e : Encoding) (source : List ℕ) (keys : List (List �
   pub after : List (List ℕ)
   pub division : keys ≡ before ++ key ∷ after
   pub passed : HasKeys e source before
-  pub absent : HasPairValue e source key None
+  pub absent : HasNoKey e source key
 
 -- ---- edits
 
@@ -60,17 +63,12 @@ put_in e edits = record { encoding = e; characters = characters_for edits.ascii_
 
 -- ---- keys that no pair has
 
--- those of the edits that have a value in their place
-abbrev pub with_values : List format.Edit → List (Option (List ℕ)) → List format.Edit
-with_values (edit ∷ edits) (Some value ∷ values) = edit ∷ with_values edits values
-with_values (edit ∷ edits) (None ∷ values) = with_values edits values
-with_values edits values = []
-
 -- These are the edits of which a pair of the source has the key, in order.
-pub record AreKnown (e : Encoding) (source : List ℕ) (edits known : List format.Edit) : Type 0 where
-  pub values : List (Option (List ℕ))
-  pub have_values : HaveValues e source (edited_keys edits) values
-  pub are : known ≡ with_values edits values
+abbrev pub AreKnown : Encoding → List ℕ → List format.Edit → List format.Edit → Type 0
+AreKnown e source [] known = known ≡ []
+AreKnown e source (edit ∷ edits) known =
+    (HasKey e source (edited_key edit) × ((others : List format.Edit) × AreKnown e source edits others × (known ≡ edit ∷ others)))
+    ⊎ (HasNoKey e source (edited_key edit) × AreKnown e source edits known)
 
 -- These of the edits are made: all of them, for which a pair of the source may have to have each key; or those of keys
 -- that a pair has.

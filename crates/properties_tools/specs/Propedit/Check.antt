@@ -20,10 +20,12 @@ use Rattle.properties_items.specs.declared.findings.MalformedEscape.{MalformedEs
 use Rattle.properties_tools.specs.Messages.{all_shown, escaped}
 use Rattle.properties_tools.specs.Propedit.Failures.{ill_formed_words, ill_formed_by_mark_words, not_utf_16_words, zero_words}
 use Rattle.properties_tools.specs.Propedit.Lines.{starts_with_bom, AreFlawedLines, IsFirstFlawed, IsFirstUtf8}
+use Rattle.properties_tools.specs.Propedit.Misread.{misread_words, AreMisread}
 use Rattle.properties_tools.specs.Propedit.Sources.{is_in_utf_16}
 use Rattle.properties_tools.specs.declared.propedit.check.Words.{Words}
 use Rattle.properties_tools.specs.declared.propedit.check.Words.TheVariants.{WithEncoding, WithByteOrderMark, NotUtf8, NotUtf16}
 use Rattle.properties_tools.specs.declared.propedit.ill_formed.Flaw.TheVariants as flaw
+use Rattle.properties_tools.specs.declared.propedit.misread.Misread.{Misread}
 use Rattle.properties_tools.specs.declared.propedit.request.Allowed.{Allowed}
 use Rattle.properties_tools.specs.declared.propedit.request.Allowed.TheVariants.{All, Latin1, Ascii}
 use Rattle.properties_tools.specs.declared.propedit.request.Check.{Check}
@@ -155,13 +157,22 @@ module _ {X : Type 0} (of : ℕ → ℕ → X) where
       × (findings ≡ map (of byte) numbers ++ others) × AreWithBytes e source bytes others
 
   -- This is said of those with bytes that aren't allowed.
-  abbrev pub AreOtherwise : Allowed → Encoding → List ℕ → List X → Type 0
-  AreOtherwise Latin1 e source findings = AreWithBytes e source (other_bytes 0x80 windows_1252_table) findings
-  AreOtherwise other e source findings = findings ≡ []
+  abbrev pub AreOtherBytes : Allowed → Encoding → List ℕ → List X → Type 0
+  AreOtherBytes Latin1 e source findings = AreWithBytes e source (other_bytes 0x80 windows_1252_table) findings
+  AreOtherBytes other e source findings = findings ≡ []
+
+-- This is said of what Java reads otherwise: than people think, and of bytes that aren't allowed.
+pub record AreOtherwise {X : Type 0} (of : Misread → ℕ → X) (of_byte : ℕ → ℕ → X) (allowed : Allowed) (e : Encoding) (source : List ℕ) (findings : List X)
+    : Type 0 where
+  pub misread : List X
+  pub are_misread : AreMisread of e source misread
+  pub bytes : List X
+  pub are_bytes : AreOtherBytes of_byte allowed e source bytes
+  pub is : findings ≡ misread ++ bytes
 
 -- The text has the first line of a source with U+0000, its ill-formed lines, its first non-ASCII line if it is UTF-8 that
--- is read as windows-1252, its well-formed lines with a character that isn't allowed, its bytes that aren't
--- allowed, its malformed escapes, those in comments unless only pairs are asked for, and its repeated keys, in the order
+-- is read as windows-1252, its well-formed lines with a character that isn't allowed, what Java
+-- reads otherwise, its malformed escapes, those in comments unless only pairs are asked for, and its repeated keys, in the order
 -- of the lines.
 pub record IsReport (name : List ℕ) (e : Encoding) (check : Check) (source text : List ℕ) : Type 0 where
   pub zero : Option ℕ
@@ -173,7 +184,7 @@ pub record IsReport (name : List ℕ) (e : Encoding) (check : Check) (source tex
   pub refused : List ℕ
   pub are_refused : AreRefused check.allowed e source refused
   pub otherwise : List Said
-  pub are_otherwise : AreOtherwise (λ byte. said (byte_words byte)) check.allowed e source otherwise
+  pub are_otherwise : AreOtherwise (λ misread. said (misread_words misread)) (λ byte. said (byte_words byte)) check.allowed e source otherwise
   pub escapes : List format.MalformedEscape
   pub malformed : AreMalformedEscapes e source escapes
   pub keys : List KeyEntry

@@ -1,5 +1,5 @@
 -- What `diff` gives for two sources, and what the program does for it.
-use Rattle.std.specs.Prelude.{◌≡◌, ◌⊎◌, ℕ, List, Result, Ok, Err}
+use Rattle.std.specs.Prelude.{◌≡◌, ◌⊎◌, ℕ, List, Result, Ok, Err, map}
 use Rattle.counted_io.specs.Streams.{Reader, Sink}
 use Rattle.java_properties.specs.WholeSources.{GivesWhole, ReadsSource, WritesSource}
 use Rattle.properties_format.specs.Encoding.{Encoding}
@@ -8,6 +8,7 @@ use Rattle.properties_text.specs.Encoding.{encoding_of}
 use Rattle.properties_tools.specs.Propedit.{name_of, Ends}
 use Rattle.properties_tools.specs.Propedit.Differences.{difference_status, difference_text, AreDifferencesOf, Difference}
 use Rattle.properties_tools.specs.Propedit.Failures.{standard_output}
+use Rattle.properties_tools.specs.Propedit.Json.{difference_value, AreJsonLines}
 use Rattle.properties_tools.specs.Propedit.Sources.{IsSound, IsUnsound}
 use Rattle.properties_tools.specs.declared.propedit.answer.Answer.{Answer}
 use Rattle.properties_tools.specs.declared.propedit.diff.DiffFailure.{DiffFailure}
@@ -15,28 +16,54 @@ use Rattle.properties_tools.specs.declared.propedit.diff.DiffFailure.TheVariants
 use Rattle.properties_tools.specs.declared.propedit.error.Failure.{Failure}
 use Rattle.properties_tools.specs.declared.propedit.error.Failure.TheVariants as failure
 use Rattle.properties_tools.specs.declared.propedit.request.Comparison.{Comparison}
+use Rattle.properties_tools.specs.declared.propedit.request.Report.{Report}
+use Rattle.properties_tools.specs.declared.propedit.request.Report.TheVariants.{Lines, Json}
 
 -- ---- of two sources
 
--- Both sources, of these names, are sound, and these are their differences, as text and status say.
-pub record TellsDifferences (old_name new_name : List ℕ) (e : Encoding) (old new : List ℕ) (answer : Answer) : Type 0 where
+-- Both sources are sound, and these are their differences, as text and status say.
+pub record TellsDifferences (IsText : List Difference → List ℕ → Type 0) (e : Encoding) (old new : List ℕ) (answer : Answer) : Type 0 where
   pub old_sound : IsSound e old
   pub new_sound : IsSound e new
   pub differences : List Difference
   pub are : AreDifferencesOf e old new differences
-  pub text : answer.text.items ≡ difference_text old_name new_name differences
+  pub text : IsText differences answer.text.items
   pub status : answer.status ≡ difference_status differences
 
--- What comparing two sources returns. The old one is refused first.
+-- What comparing two sources returns: such an answer, or why there is none. The old one is refused first.
+abbrev pub DiffsTo : (Answer → Type 0) → Encoding → List ℕ → List ℕ → Result Answer DiffFailure → Type 0
+DiffsTo Tells e old new (Ok answer) = Tells answer
+DiffsTo Tells e old new (Err (Old failure)) = IsUnsound e old failure
+DiffsTo Tells e old new (Err (New failure)) = IsSound e old × IsUnsound e new failure
+DiffsTo Tells e old new (Err (Output error)) = ⊥
+
+-- an answer with this text
+abbrev pub DiffsIn : (List Difference → List ℕ → Type 0) → Encoding → List ℕ → List ℕ → Result Answer DiffFailure → Type 0
+DiffsIn IsText e old new result = DiffsTo (TellsDifferences IsText e old new) e old new result
+
+-- The text has the lines of differences between sources of these names.
+abbrev pub IsDifferenceText : List ℕ → List ℕ → List Difference → List ℕ → Type 0
+IsDifferenceText old_name new_name ds text = text ≡ difference_text old_name new_name ds
+
 abbrev pub Diffs : List ℕ → List ℕ → Encoding → List ℕ → List ℕ → Result Answer DiffFailure → Type 0
-Diffs old_name new_name e old new (Ok answer) = TellsDifferences old_name new_name e old new answer
-Diffs old_name new_name e old new (Err (Old failure)) = IsUnsound e old failure
-Diffs old_name new_name e old new (Err (New failure)) = IsSound e old × IsUnsound e new failure
-Diffs old_name new_name e old new (Err (Output error)) = ⊥
+Diffs old_name new_name e old new result = DiffsIn (IsDifferenceText old_name new_name) e old new result
+
+-- The text has them as JSON.
+abbrev pub AreObjects : List Difference → List ℕ → Type 0
+AreObjects ds text = AreJsonLines (map difference_value ds) text
+
+abbrev pub DiffsJson : Encoding → List ℕ → List ℕ → Result Answer DiffFailure → Type 0
+DiffsJson e old new result = DiffsIn AreObjects e old new result
+
+-- The text has them as they are to be printed.
+abbrev pub IsTextIn : Report → List ℕ → List ℕ → List Difference → List ℕ → Type 0
+IsTextIn Lines old_name new_name ds text = IsDifferenceText old_name new_name ds text
+IsTextIn Json old_name new_name ds text = AreObjects ds text
 
 -- what comparing the two of a request returns
 abbrev pub Compares : Comparison → List ℕ → List ℕ → Result Answer DiffFailure → Type 0
-Compares sources old new result = Diffs (name_of sources.old) (name_of sources.new) (encoding_of sources.encoding) old new result
+Compares sources old new result =
+    DiffsIn (IsTextIn sources.report (name_of sources.old) (name_of sources.new)) (encoding_of sources.encoding) old new result
 
 -- ---- over streams
 

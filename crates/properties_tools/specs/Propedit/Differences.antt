@@ -1,8 +1,9 @@
 -- What differs in meaning between the pairs of two sources, an old one and a new one: the keys that don't have the same
 -- value in both. Comments, layout, spelling, order and pairs that a later one overrules don't count.
-use Rattle.std.specs.Prelude.{◌≡◌, ◌≢◌, ◌⊎◌, ◌↔◌, ℕ, true, List, [], ◌∷◌, ◌++◌, Option, codes, map, All, AllPairs, Contains}
+use Rattle.std.specs.Prelude.{◌≡◌, ◌≢◌, ◌⊎◌, ◌↔◌, ◌&&◌, ◌||◌, not, ℕ, Bool, true, List, [], ◌∷◌, ◌++◌, Option, codes, map, All, AllPairs, Contains}
+use Rattle.std.specs.Char.{is_ascii, is_control}
 use Rattle.std.specs.Fmt.{decimal}
-use Rattle.std.specs.List.{flat_map}
+use Rattle.std.specs.List.{flat_map, list_any}
 use Rattle.properties_format.specs.Edits.{ArePairs}
 use Rattle.properties_format.specs.Encoding.{Encoding, utf_8}
 use Rattle.properties_format.specs.Items.{pair, Entry}
@@ -57,9 +58,18 @@ pub record AreDifferencesOf (e : Encoding) (old new : List ℕ) (ds : List Diffe
 
 -- ---- how they are printed
 
--- a pair as the first line of a properties file in UTF-8, with a readable value
+-- a control character past U+007F, which a terminal may obey: those below U+0020 are printed as escapes anyway
+abbrev pub is_late_control : ℕ → Bool
+is_late_control c = is_control c && not (is_ascii c)
+
+abbrev pub has_late_control : List ℕ → Bool
+has_late_control text = list_any is_late_control text
+
+-- a pair as the first line of a properties file in UTF-8, with a readable value, or in ASCII if it has such a character
 abbrev pub pair_line : List ℕ → List ℕ → List ℕ
-pair_line key value = printed utf_8 (record default_settings { readable = true }) true (pair key value)
+pair_line key value =
+    let late = has_late_control key || has_late_control value in
+    printed utf_8 (record default_settings { readable = true; ascii_only = late }) true (pair key value)
 
 -- `NAME:LINE: SIGN`
 abbrev pub line_front : List ℕ → ℕ → List ℕ → List ℕ

@@ -11,7 +11,7 @@ use Rattle.properties_text.specs.Encoding.{encoding_of}
 use Rattle.properties_tools.specs.Messages.{escaped, printed_line, HasPrintedLine}
 use Rattle.properties_tools.specs.Propedit.Change.{HasKeys, IsFirstAbsent}
 use Rattle.properties_tools.specs.declared.propedit.request.Command.{Command}
-use Rattle.properties_tools.specs.declared.propedit.request.Command.TheVariants.{Get, ListValues}
+use Rattle.properties_tools.specs.declared.propedit.request.Command.TheVariants.{Get, ListJson, ListValues}
 use Rattle.properties_tools.specs.declared.propedit.request.Command.TheVariants as command
 use Rattle.properties_tools.specs.declared.propedit.request.Job.{Job}
 use Rattle.properties_tools.specs.declared.propedit.request.Source.{Source}
@@ -80,6 +80,7 @@ abbrev pub IsHintOf : Source → Encoding → Command → List (List ℕ) → Li
 IsHintOf from e (Get keys default end) files source hint = IsFileHint e source files hint
 IsHintOf from e (command.List prefix end) files source hint = hint ≡ prefix_hint from (string_bytes prefix)
 IsHintOf from e (ListValues prefix end) files source hint = hint ≡ prefix_hint from (string_bytes prefix)
+IsHintOf from e (ListJson prefix) files source hint = hint ≡ prefix_hint from (string_bytes prefix)
 IsHintOf from e other files source hint = hint ≡ None
 
 abbrev pub IsHintIf : Bool → Job → List (List ℕ) → List ℕ → Option (List ℕ) → Type 0

@@ -2,7 +2,7 @@
 -- encoding in force, or one of them is 0 in UTF-8, or they are well-formed and have a non-ASCII character. In well-formed
 -- UTF-16 each high surrogate is before a low one, and no other surrogate and no odd byte is there.
 -- Source: The Unicode Standard, D91 (UTF-16) and D85 (well-formed).
-use Rattle.std.specs.Prelude.{◌≡◌, ◌⊎◌, ℕ, true, false, List, [], ◌∷◌, ◌++◌, nat_eq, nat_le, ◌==◌, ◌&&◌, not, Bool, Option, Some, None, Result, Ok, Err}
+use Rattle.std.specs.Prelude.{◌≡◌, ◌⊎◌, ℕ, true, false, List, [], ◌∷◌, ◌++◌, nat_eq, nat_le, ◌==◌, ◌&&◌, ◌||◌, not, Bool, Option, Some, None, Result, Ok, Err}
 use Rattle.properties_format.specs.Utf16.{is_high, is_low, low_first, high_first}
 use Rattle.std.specs.Global.{Vec}
 use Rattle.std.specs.List.{list_any, starts_with}
@@ -14,7 +14,7 @@ use Rattle.java_properties.specs.Errors.{IsBareError}
 use Rattle.properties_items.specs.declared.error.ErrorKind.TheVariants as kind
 use Rattle.properties_items.specs.declared.error.PropertiesError.{PropertiesError}
 use Rattle.properties_tools.specs.declared.propedit.ill_formed.Flaw.{Flaw}
-use Rattle.properties_tools.specs.declared.propedit.ill_formed.Flaw.TheVariants.{IllFormed, Zero, NonAscii, Byte}
+use Rattle.properties_tools.specs.declared.propedit.ill_formed.Flaw.TheVariants.{IllFormed, Zero, NonAscii, Byte, MarkInside}
 
 -- The bytes are a unit that isn't a surrogate.
 abbrev pub IsPlainUnit : (ℕ → ℕ → ℕ) → List ℕ → Type 0
@@ -34,6 +34,10 @@ AreCharacters unit bytes (c ∷ cs) = (rest : List ℕ) × (bytes ≡ c ++ rest)
 abbrev pub IsWellFormedUnits : (ℕ → ℕ → ℕ) → List ℕ → Type 0
 IsWellFormedUnits unit bytes = (characters : List (List ℕ)) × AreCharacters unit bytes characters
 
+-- whether bytes begin with the byte order mark of UTF-8
+abbrev pub starts_with_bom : List ℕ → Bool
+starts_with_bom source = starts_with nat_eq source (239 ∷ 187 ∷ 191 ∷ [])
+
 -- ---- of the bytes of a line
 
 -- whether one of the bytes is this byte, such as 0, which is U+0000 in UTF-8
@@ -42,6 +46,11 @@ holds_byte byte bytes = list_any (λ b. b == byte) bytes
 
 abbrev pub holds_zero : List ℕ → Bool
 holds_zero bytes = holds_byte 0 bytes
+
+-- whether some bytes in UTF-8 hold those of U+FEFF
+abbrev pub holds_mark : List ℕ → Bool
+holds_mark [] = false
+holds_mark (b ∷ bytes) = starts_with_bom (b ∷ bytes) || holds_mark bytes
 
 -- The bytes are well-formed in this encoding. In windows-1252 every byte is a character.
 abbrev pub IsWellFormedIn : Encoding → List ℕ → Type 0
@@ -63,6 +72,7 @@ abbrev pub HasFlaw : Flaw → Encoding → List ℕ → Type 0
 HasFlaw IllFormed e bytes = ¬ IsWellFormedIn e bytes
 HasFlaw Zero e bytes = holds_zero bytes ≡ true
 HasFlaw (Byte byte) e bytes = holds_byte byte bytes ≡ true
+HasFlaw MarkInside e bytes = holds_mark bytes ≡ true
 HasFlaw NonAscii e bytes = IsWellFormedIn e bytes × TellsNonAscii e bytes true
 
 -- The bytes don't have it.
@@ -70,6 +80,7 @@ abbrev pub LacksFlaw : Flaw → Encoding → List ℕ → Type 0
 LacksFlaw IllFormed e bytes = IsWellFormedIn e bytes
 LacksFlaw Zero e bytes = holds_zero bytes ≡ false
 LacksFlaw (Byte byte) e bytes = holds_byte byte bytes ≡ false
+LacksFlaw MarkInside e bytes = holds_mark bytes ≡ false
 LacksFlaw NonAscii e bytes = (¬ IsWellFormedIn e bytes) ⊎ TellsNonAscii e bytes false
 
 -- ---- of a body
@@ -90,10 +101,6 @@ pub record AreFlawedIn (flaw : Flaw) (e : Encoding) (body : List ℕ) (numbers :
 
 -- ---- of a source
 
--- whether a source begins with the byte order mark of UTF-8
-abbrev pub starts_with_bom : List ℕ → Bool
-starts_with_bom source = starts_with nat_eq source (239 ∷ 187 ∷ 191 ∷ [])
-
 -- whether an encoding is windows-1252, whether it is UTF-8, and whether it is one of the two of UTF-16
 abbrev pub is_windows_1252 : Encoding → Bool
 is_windows_1252 windows_1252 = true
@@ -109,11 +116,12 @@ is_utf_16 utf_16be = true
 is_utf_16 other = false
 
 -- Whether a flaw is sought. A byte order mark says that the source isn't UTF-16, so a byte 0 is no flaw after one. Other
--- bytes by themselves are sought in windows-1252.
+-- bytes by themselves are sought in windows-1252, and U+FEFF in UTF-8.
 abbrev pub is_sought : Flaw → Encoding → List ℕ → Bool
 is_sought IllFormed e source = true
 is_sought NonAscii e source = true
 is_sought (Byte byte) e source = is_windows_1252 (byte_order_mark e source).encoding
+is_sought MarkInside e source = is_utf_8 (byte_order_mark e source).encoding
 is_sought Zero e source = is_utf_8 (byte_order_mark e source).encoding && not (starts_with_bom source)
 
 -- These are the numbers of the lines of a source that have this flaw, if it is sought.

@@ -4,12 +4,15 @@ ghost use Rattle.std.specs.Prelude.{◌≡◌};
 ghost use Rattle.properties_text.specs.Encoding.{encoding_of};
 ghost use Rattle.properties_tools.specs.Propedit.{Answers, Checks, ChangesTo, name_of};
 
-use crate::propedit::answer::Answer;
+use crate::propedit::against::check_against;
+use crate::propedit::answer::{Answer, reported};
 use crate::propedit::change::change;
 use crate::propedit::check::report;
+use crate::propedit::comment::comment;
 use crate::propedit::error::Failure;
 use crate::propedit::get::get;
 use crate::propedit::list::list;
+use crate::propedit::list_json::list_json;
 use crate::propedit::pairs::list_values;
 use crate::propedit::request::{Change, Check, Command, Job, Source};
 use java_properties::Encoding;
@@ -52,7 +55,12 @@ pub fn answer_to(alloc: Global, job: &Job, source: &[u8]) -> Result<Answer, Fail
         Command::ListValues(prefix, end) => {
             list_values(alloc, source, job.encoding, prefix.as_str(), *end)
         }
+        Command::ListJson(prefix) => list_json(alloc, source, job.encoding, prefix.as_str()),
+        Command::Comment(key) => comment(alloc, source, job.encoding, key.as_str()),
         Command::Check(asked) => check(alloc, name(&job.source), source, job.encoding, *asked),
+        Command::CheckAgainst(asked, base) => {
+            check_against(alloc, name(&job.source), source, job.encoding, *asked, base)
+        }
         Command::Change(change) => changed(alloc, source, job.encoding, change),
     }
 }
@@ -67,10 +75,8 @@ fn check(
 ) -> Result<Answer, Failure>
     ensures { Checks name.now (encoding_of encoding) asked source.now result }
 {
-    let report = report(alloc, name, source, encoding, asked)?.into_bytes();
-    let status = if report.is_empty() { 0 } else { 1 };
-    let text = if asked.quiet { Vec::new(alloc) } else { report };
-    Ok(Answer { text, status })
+    let report = report(alloc, name, source, encoding, asked)?;
+    Ok(reported(alloc, report, asked.quiet))
 }
 
 // Returns a source after a change.

@@ -5,9 +5,9 @@ ghost use Rattle.std.specs.Option.{option_map};
 ghost use Rattle.java_properties.specs.Editing.{edit_in, edits_in};
 ghost use Rattle.java_properties.specs.Maps.{characters};
 ghost use Rattle.properties_text.specs.Encoding.{encoding_of};
-ghost use Rattle.properties_tools.specs.Private.Collected.{first_without, value_texts, FindsKnown, MakesList, RefusesIfAbsent};
+ghost use Rattle.properties_tools.specs.Private.Collected.{first_without, value_texts, with_values, FindsKnown, MakesList, RefusesIfAbsent};
 ghost use Rattle.properties_tools.specs.Private.Hinting.{FindsAbsent};
-ghost use Rattle.properties_tools.specs.Propedit.Change.{edited_key, edited_keys, with_values, Changes, ChangesByEdits, Converts};
+ghost use Rattle.properties_tools.specs.Propedit.Change.{edited_key, edited_keys, Changes, ChangesByEdits, Converts};
 ghost use Rattle.properties_tools.specs.Propedit.Sources.{HasSoundBytes};
 ghost use Rattle.properties_tools.specs.Propedit.Texts.{borrowed_characters};
 

@@ -8,7 +8,7 @@ ghost use Rattle.properties_format.specs.Windows1252.{windows_1252_character};
 ghost use Rattle.properties_text.specs.Encoding.{encoding_of};
 ghost use Rattle.properties_tools.specs.Propedit.Check.{comment_words, escapes_of, first_of, first_words, ill_formed_of, ill_formed_text, said_line, words_after, Reports};
 ghost use Rattle.properties_tools.specs.Private.Checking.{escape_finding, finding_of, ill_formed_finding, kind_words, place_at, said_of, ArrangesFindings, ChecksKeys};
-ghost use Rattle.properties_tools.specs.Private.Flawed.{FindsBytes, FindsOtherwise, FindsRefused};
+ghost use Rattle.properties_tools.specs.Private.Flawed.{FindsBytes, FindsOtherBytes, FindsOtherwise, FindsRefused};
 ghost use Rattle.properties_tools.specs.Private.Table.{places_of, IsKeyTable};
 
 use crate::messages::Escaped;
@@ -18,6 +18,7 @@ use crate::propedit::ill_formed::{
 };
 use crate::propedit::key_table::KeyTable;
 use crate::propedit::line_findings::line_findings;
+use crate::propedit::misread::{Misread, find_misread};
 use crate::propedit::request::{Allowed, Check};
 use crate::propedit::sound::in_utf_16;
 use java_properties::{Encoding, MalformedEscape, PropertiesError};
@@ -48,6 +49,7 @@ pub(crate) enum FindingKind {
     NonAscii,
     // This byte, which ISO 8859-1 reads as another character than windows-1252 does.
     ReadOtherwise(u8),
+    Misread(Misread),
     Escape(MalformedEscape),
     // The key in this row of the source's keys, which an earlier pair has.
     Repeats(usize),
@@ -67,11 +69,12 @@ pub(crate) enum Words {
 
 /// Returns what is wrong in a source, a line for each finding, in the order of the source's lines: the first line with
 /// U+0000, if UTF-8 is in force without a byte order mark; the lines that are ill-formed in the encoding in force; the
-/// first line with a non-ASCII character, if windows-1252 is in force though the source is well-formed UTF-8; the
-/// well-formed lines with a non-ASCII character, if only ASCII is allowed; each byte of a line that ISO 8859-1 reads as
-/// another character, if that isn't allowed and windows-1252 is in force; malformed escapes, but those in comments if only pairs are asked
-/// for; and pairs that repeat a key. The text is empty if nothing is wrong. Fails only if memory runs out. Whether the
-/// check is quiet is the caller's concern.
+/// first line with a non-ASCII character, if windows-1252 is in force though the source is well-formed UTF-8; the well-
+/// formed lines with a non-ASCII character, if only ASCII is allowed; a byte order mark of UTF-8 or UTF-32 at the
+/// front, and in UTF-8 each line with U+FEFF; each byte of a line that ISO 8859-1 reads as another character, if that
+/// isn't allowed and windows-1252 is in force; malformed escapes, but those in comments if only pairs are asked for;
+/// and pairs that repeat a key. The text is empty if nothing is wrong. Fails only if memory runs out. Whether the check
+/// is quiet is the caller's concern.
 ///
 /// If a line is ill-formed, a key with U+FFFD repeats no other, since that character may stand for any bytes.
 ///
@@ -218,7 +221,7 @@ fn refused_lines(
     }
 }
 
-// Returns the lines with bytes that ISO 8859-1 reads otherwise, byte by byte, if these aren't allowed.
+// Returns what Java reads otherwise: than people think, and of bytes that aren't allowed, than windows-1252 has it.
 fn read_otherwise(
     alloc: Global,
     source: &[u8],
@@ -226,6 +229,21 @@ fn read_otherwise(
     allowed: Allowed,
 ) -> Result<Vec<Finding>, PropertiesError>
     ensures { FindsOtherwise allowed (encoding_of encoding) source.now result }
+{
+    let mut findings = find_misread(alloc, source, encoding)?;
+    let bytes = other_bytes(alloc, source, encoding, allowed)?;
+    findings.extend_from_slice(&bytes)?;
+    Ok(findings)
+}
+
+// Returns the lines with bytes that ISO 8859-1 reads otherwise, byte by byte, if these aren't allowed.
+fn other_bytes(
+    alloc: Global,
+    source: &[u8],
+    encoding: Encoding,
+    allowed: Allowed,
+) -> Result<Vec<Finding>, PropertiesError>
+    ensures { FindsOtherBytes allowed (encoding_of encoding) source.now result }
 {
     match allowed {
         Allowed::Latin1 => lines_with(alloc, source, encoding, READ_OTHERWISE),
@@ -250,7 +268,7 @@ fn lines_with(
     Ok(findings)
 }
 
-fn push_all(
+pub(crate) fn push_all(
     findings: &mut Vec<Finding>,
     numbers: &[usize],
     kind: FindingKind,
@@ -335,6 +353,7 @@ fn push_words(text: &mut String, keys: &KeyTable, kind: FindingKind) -> Result<(
         FindingKind::LooksUtf8 => text.push_str(LOOKS_UTF_8),
         FindingKind::NonAscii => text.push_str("has a non-ASCII character"),
         FindingKind::ReadOtherwise(byte) => write!(text, "{}", OtherByte(byte)),
+        FindingKind::Misread(misread) => text.push_str(misread.words()),
         FindingKind::Escape(escape) => {
             let place = place_words(escape.in_comment);
             write!(text, "{}{place}", escape.kind)

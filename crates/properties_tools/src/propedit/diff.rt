@@ -1,23 +1,24 @@
 // What differs between two sources.
 
-ghost use Rattle.std.specs.Prelude.{◌≡◌, ◌<◌, ◌++◌, ℕ, List, length, get_or, string_bytes, IfOk, OnOk};
+ghost use Rattle.std.specs.Prelude.{◌≡◌, ◌++◌, ◌||◌, if◌then◌else◌, ℕ, List, string_bytes, IfOk, OnOk};
 ghost use Rattle.std.specs.List.{flat_map};
 ghost use Rattle.std.specs.Str.{chars};
 ghost use Rattle.counted_io.specs.Streams.{IsSameReader, IsSameSink};
 ghost use Rattle.properties_text.specs.Encoding.{encoding_of};
+ghost use Rattle.properties_text.specs.declared.print.Repertoire.TheVariants.{Ascii, Utf8};
 ghost use Rattle.properties_tools.specs.Propedit.{report_status};
-ghost use Rattle.properties_tools.specs.Propedit.Diff.{Diffs, PrintsDiff, RunsDiff};
-ghost use Rattle.properties_tools.specs.Propedit.Differences.{difference_text, line_front, pair_line, row_line};
-ghost use Rattle.properties_tools.specs.Propedit.Table.{Row};
-ghost use Rattle.properties_tools.specs.Private.Differing.{differences, of_new, of_old, CanBeCompared};
+ghost use Rattle.properties_tools.specs.Propedit.Diff.{Compares, Diffs, PrintsDiff, RunsDiff};
+ghost use Rattle.properties_tools.specs.Propedit.Differences.{changed, came, difference_lines, gone, has_late_control, is_late_control, line_front, pair_line, row_line, Difference};
+ghost use Rattle.properties_tools.specs.Private.Differing.{differences, of_new, of_old, row_at, CanBeCompared, DiffsEach, IsSide};
 ghost use Rattle.properties_tools.specs.Private.Table.{rows_of};
 
 use crate::messages::Escaped;
 use crate::propedit::answer::Answer;
 use crate::propedit::answers::name;
+use crate::propedit::diff_json::diff_json;
 use crate::propedit::error::{Failure, STANDARD_OUTPUT};
 use crate::propedit::exit_status;
-use crate::propedit::request::Comparison;
+use crate::propedit::request::{Comparison, Report};
 use crate::propedit::table::{Table, table_of};
 use counted_io::{CountedRead, CountedWrite};
 use java_properties::{Encoding, PropertiesError, read_source, write_source};
@@ -102,12 +103,33 @@ fn print_diff<R: CountedRead, S: CountedRead, W: CountedWrite>(
         Ok(bytes) => bytes,
         Err(error) => return Err(DiffFailure::New(Failure::from(error))),
     };
-    let old_name = name(&sources.old);
-    let new_name = name(&sources.new);
-    let answer = diff(alloc, old_name, &old, new_name, &new, encoding)?;
+    let answer = compared(alloc, sources, &old, &new)?;
     match write_source(output, &answer.text) {
         Ok(()) => Ok(answer.status),
         Err(error) => Err(DiffFailure::Output(error)),
+    }
+}
+
+// Returns what differs between the sources of a request.
+fn compared(
+    alloc: Global,
+    sources: &Comparison,
+    old: &[u8],
+    new: &[u8],
+) -> Result<Answer, DiffFailure>
+    ensures { Compares sources.now old.now new.now result }
+{
+    let encoding = sources.encoding;
+    match sources.report {
+        Report::Lines => diff(
+            alloc,
+            name(&sources.old),
+            old,
+            name(&sources.new),
+            new,
+            encoding,
+        ),
+        Report::Json => diff_json(alloc, old, new, encoding),
     }
 }
 
@@ -116,7 +138,8 @@ fn print_diff<R: CountedRead, S: CountedRead, W: CountedWrite>(
 ///
 /// A pair that went is printed as `NAME:LINE: -PAIR`, one that came as `NAME:LINE: +PAIR`, and one with another value as
 /// both. The line is that of the last pair with the key, and the pair is one line of a properties file in UTF-8, with a
-/// readable value. First come the keys of the old source, in its order, and then those that only the new one has.
+/// readable value, or in ASCII if it has a control character past U+007F. First come the keys of the old source, in its
+/// order, and then those that only the new one has.
 ///
 /// Comments, layout, spelling, order and pairs that a later one overrules don't count. Each source is refused as `list`
 /// refuses it, the old one first.
@@ -137,6 +160,20 @@ pub fn diff(
 ) -> Result<Answer, DiffFailure>
     ensures { Diffs old_name.now new_name.now (encoding_of encoding) old.now new.now result }
 {
+    let form = NamedLines { old_name, new_name };
+    diff_in(alloc, &form, old, new, encoding)
+}
+
+/// Compares two sources, and prints what differs in this form. The status is 1 if anything is printed.
+pub(crate) fn diff_in<F: DiffForm>(
+    alloc: Global,
+    form: &F,
+    old: &[u8],
+    new: &[u8],
+    encoding: Encoding,
+) -> Result<Answer, DiffFailure>
+    ensures { DiffsEach (F.printed form.now) (encoding_of encoding) old.now new.now result }
+{
     let olds = match table_of(alloc, old, encoding) {
         Ok(table) => table,
         Err(failure) => return Err(DiffFailure::Old(failure)),
@@ -145,7 +182,7 @@ pub fn diff(
         Ok(table) => table,
         Err(failure) => return Err(DiffFailure::New(failure)),
     };
-    match lines(alloc, old_name, new_name, &olds, &news) {
+    match lines(alloc, form, &olds, &news) {
         Ok(text) => Ok(Answer {
             status: status_of(&text),
             text,
@@ -162,109 +199,196 @@ fn status_of(text: &[u8]) -> u8
 }
 
 // Returns the lines of what differs between two tables.
-fn lines(
+fn lines<F: DiffForm>(
     alloc: Global,
-    old_name: &str,
-    new_name: &str,
+    form: &F,
     olds: &Table,
     news: &Table,
 ) -> Result<Vec<u8>, AllocError>
     requires old { CanBeCompared olds.now }
     requires new { CanBeCompared news.now }
     ensures { let between = differences (rows_of olds.now) (rows_of news.now) in
-        IfOk result (λ text. text.items ≡ difference_text old_name.now new_name.now between) }
+        IfOk result (λ text. text.items ≡ flat_map (F.printed form.now) between) }
 {
     let mut text = Vec::new(alloc);
-    push_old(alloc, &mut text, old_name, new_name, olds, news)?;
-    push_new(alloc, &mut text, new_name, olds, news)?;
+    push_old(alloc, form, &mut text, olds, news)?;
+    push_new(alloc, form, &mut text, olds, news)?;
     Ok(text)
 }
 
-// Appends the lines of the keys of the old table.
-fn push_old(
+// Appends what is printed of the keys of the old table.
+fn push_old<F: DiffForm>(
     alloc: Global,
+    form: &F,
     text: &mut Vec<u8>,
-    old_name: &str,
-    new_name: &str,
     olds: &Table,
     news: &Table,
 ) -> Result<(), AllocError>
     requires old { CanBeCompared olds.now }
     requires new { CanBeCompared news.now }
     ensures { let gone = flat_map (of_old (rows_of news.now)) (rows_of olds.now) in
-        OnOk result (text.new.items ≡ text.old.items ++ difference_text old_name.now new_name.now gone) }
+        OnOk result (text.new.items ≡ text.old.items ++ flat_map (F.printed form.now) gone) }
 {
     for row in 0..olds.len() {
-        push_became(alloc, text, old_name, new_name, olds, row, news)?;
+        push_became(alloc, form, text, Side { table: olds, row }, news)?;
     }
     Ok(())
 }
 
-// Appends the lines of the keys that only the new table has.
-fn push_new(
+// Appends what is printed of the keys that only the new table has.
+fn push_new<F: DiffForm>(
     alloc: Global,
+    form: &F,
     text: &mut Vec<u8>,
-    new_name: &str,
     olds: &Table,
     news: &Table,
 ) -> Result<(), AllocError>
     requires old { CanBeCompared olds.now }
     requires new { CanBeCompared news.now }
     ensures { let came = flat_map (of_new (rows_of olds.now)) (rows_of news.now) in
-        OnOk result ((old : List ℕ) → text.new.items ≡ text.old.items ++ difference_text old new_name.now came) }
+        OnOk result (text.new.items ≡ text.old.items ++ flat_map (F.printed form.now) came) }
 {
     for row in 0..news.len() {
-        push_came(alloc, text, new_name, olds, news, row)?;
+        push_came(alloc, form, text, olds, Side { table: news, row })?;
     }
     Ok(())
 }
 
-// Appends the lines of what became of a row of the old table.
+// Appends what is printed of what became of a row of the old table.
 #[inline(always)]
-fn push_became(
+fn push_became<F: DiffForm>(
     alloc: Global,
+    form: &F,
     text: &mut Vec<u8>,
-    old_name: &str,
-    new_name: &str,
-    olds: &Table,
-    row: usize,
+    old: Side<'_>,
     news: &Table,
 ) -> Result<(), AllocError>
-    requires old { CanBeCompared olds.now }
+    requires old { IsSide old }
     requires new { CanBeCompared news.now }
-    requires within { row < length (rows_of olds.now) }
-    ensures { OnOk result ((d : Row) → let became = of_old (rows_of news.now) (get_or (rows_of olds.now) row d) in
-        text.new.items ≡ text.old.items ++ difference_text old_name.now new_name.now became) }
+    ensures { let became = of_old (rows_of news.now) (row_at old.entry) in
+        OnOk result (text.new.items ≡ text.old.items ++ flat_map (F.printed form.now) became) }
 {
-    let Some(other) = news.find(olds.key(row)) else {
-        return push_row(alloc, text, old_name, "-", olds, row);
+    let Some(row) = news.find(old.key()) else {
+        return form.gone(alloc, text, old);
     };
-    if olds.value(row) == news.value(other) {
+    let new = Side { table: news, row };
+    if old.value() == new.value() {
         return Ok(());
     }
-    push_row(alloc, text, old_name, "-", olds, row)?;
-    push_row(alloc, text, new_name, "+", news, other)
+    form.changed(alloc, text, old, new)
 }
 
-// Appends the line of a row of the new table, if the old one hasn't its key.
+// Appends what is printed of a row of the new table, if the old one hasn't its key.
 #[inline(always)]
-fn push_came(
+fn push_came<F: DiffForm>(
     alloc: Global,
+    form: &F,
     text: &mut Vec<u8>,
-    new_name: &str,
     olds: &Table,
-    news: &Table,
-    row: usize,
+    new: Side<'_>,
 ) -> Result<(), AllocError>
     requires old { CanBeCompared olds.now }
-    requires new { CanBeCompared news.now }
-    requires within { row < length (rows_of news.now) }
-    ensures { OnOk result ((old : List ℕ) (d : Row) → let came = of_new (rows_of olds.now) (get_or (rows_of news.now) row d) in
-        text.new.items ≡ text.old.items ++ difference_text old new_name.now came) }
+    requires new { IsSide new }
+    ensures { let came = of_new (rows_of olds.now) (row_at new.entry) in
+        OnOk result (text.new.items ≡ text.old.items ++ flat_map (F.printed form.now) came) }
 {
-    match olds.find(news.key(row)) {
+    match olds.find(new.key()) {
         Some(_) => Ok(()),
-        None => push_row(alloc, text, new_name, "+", news, row),
+        None => form.came(alloc, text, new),
+    }
+}
+
+/// A row of a table.
+#[derive(Clone, Copy)]
+pub(crate) struct Side<'a> {
+    pub table: &'a Table,
+    pub row: usize,
+}
+
+impl Side<'_> {
+    /// Returns its key.
+    #[inline(always)]
+    pub fn key(&self) -> &str
+        requires { IsSide self.now }
+        ensures { chars result.now ≡ (row_at self.now).key }
+    {
+        self.table.key(self.row)
+    }
+
+    /// Returns its value.
+    #[inline(always)]
+    pub fn value(&self) -> &str
+        requires { IsSide self.now }
+        ensures { chars result.now ≡ (row_at self.now).value }
+    {
+        self.table.value(self.row)
+    }
+
+    /// Returns the line in which the last pair with the key begins.
+    #[inline(always)]
+    pub fn line(&self) -> usize
+        requires { IsSide self.now }
+        ensures { result ≡ (row_at self.now).last }
+    {
+        self.table.last_line(self.row)
+    }
+}
+
+/// How what differs is printed.
+pub(crate) trait DiffForm {
+    /// What is printed of a difference.
+    ghost printed: { Self → Difference → List ℕ };
+
+    /// Appends what is printed of a row of the old source whose key the new one lacks.
+    fn gone(&self, alloc: Global, text: &mut Vec<u8>, old: Side<'_>) -> Result<(), AllocError>
+        requires { IsSide old }
+        ensures { OnOk result (text.new.items ≡ text.old.items ++ printed self.now (gone (row_at old.entry))) };
+
+    /// Appends what is printed of a row of the new source whose key the old one lacks.
+    fn came(&self, alloc: Global, text: &mut Vec<u8>, new: Side<'_>) -> Result<(), AllocError>
+        requires { IsSide new }
+        ensures { OnOk result (text.new.items ≡ text.old.items ++ printed self.now (came (row_at new.entry))) };
+
+    /// Appends what is printed of two rows that have the same key and other values.
+    fn changed(
+        &self,
+        alloc: Global,
+        text: &mut Vec<u8>,
+        old: Side<'_>,
+        new: Side<'_>,
+    ) -> Result<(), AllocError>
+        requires { IsSide old × IsSide new }
+        ensures { OnOk result (text.new.items ≡ text.old.items ++ printed self.now (changed (row_at old.entry) (row_at new.entry))) };
+}
+
+// Lines, each with the name of its source.
+#[derive(Clone, Copy)]
+struct NamedLines<'a> {
+    old_name: &'a str,
+    new_name: &'a str,
+}
+
+impl DiffForm for NamedLines<'_> {
+    ghost printed = { λ names. difference_lines names.old_name.now names.new_name.now };
+
+    fn gone(&self, alloc: Global, text: &mut Vec<u8>, old: Side<'_>) -> Result<(), AllocError> {
+        push_row(alloc, text, self.old_name, "-", old)
+    }
+
+    fn came(&self, alloc: Global, text: &mut Vec<u8>, new: Side<'_>) -> Result<(), AllocError> {
+        push_row(alloc, text, self.new_name, "+", new)
+    }
+
+    fn changed(
+        &self,
+        alloc: Global,
+        text: &mut Vec<u8>,
+        old: Side<'_>,
+        new: Side<'_>,
+    ) -> Result<(), AllocError> {
+        push_row(alloc, text, self.old_name, "-", old)?;
+        push_row(alloc, text, self.new_name, "+", new)?;
+        Ok(())
     }
 }
 
@@ -275,17 +399,14 @@ fn push_row(
     text: &mut Vec<u8>,
     name: &str,
     sign: &str,
-    table: &Table,
-    row: usize,
+    side: Side<'_>,
 ) -> Result<(), AllocError>
-    requires table { CanBeCompared table.now }
-    requires within { row < length (rows_of table.now) }
-    ensures { OnOk result ((d : Row) →
-        text.new.items ≡ text.old.items ++ row_line name.now sign.now (get_or (rows_of table.now) row d)) }
+    requires { IsSide side }
+    ensures { OnOk result (text.new.items ≡ text.old.items ++ row_line name.now sign.now (row_at side.entry)) }
 {
-    let front = front(alloc, name, table.last_line(row), sign)?;
+    let front = front(alloc, name, side.line(), sign)?;
     let mut pair = LineBuffer::new(alloc);
-    push_pair(&mut pair, table.key(row), table.value(row))?;
+    push_pair(&mut pair, side.key(), side.value())?;
     text.extend_from_slice(front.as_bytes())?;
     text.extend_from_slice(pair.as_slice())
 }
@@ -297,9 +418,40 @@ fn front(alloc: Global, name: &str, number: usize, sign: &str) -> Result<String,
     format!(in alloc; "{name}:{number}: {sign}")
 }
 
-// Appends a pair as the first line of a properties file in UTF-8, with a readable value.
+// Appends a pair as the first line of a properties file in UTF-8, with a readable value, but in ASCII if it has a control
+// character past U+007F, which a terminal may obey.
 fn push_pair(line: &mut LineBuffer, key: &str, value: &str) -> Result<(), AllocError>
     ensures { OnOk result (line.new ≡ line.old ++ pair_line (chars key.now) (chars value.now)) }
 {
-    print_readable_texts(line, Repertoire::Utf8, true, key, value, "=", "\n")
+    let repertoire = repertoire_for(key, value);
+    print_readable_texts(line, repertoire, true, key, value, "=", "\n")
+}
+
+fn repertoire_for(key: &str, value: &str) -> Repertoire
+    ensures { let late = has_late_control (chars key.now) || has_late_control (chars value.now) in
+        result ≡ (if late then Ascii else Utf8) }
+{
+    if has_late_control(key) || has_late_control(value) {
+        Repertoire::Ascii
+    } else {
+        Repertoire::Utf8
+    }
+}
+
+// Returns whether a text has a control character past U+007F.
+fn has_late_control(text: &str) -> bool
+    ensures { result ≡ has_late_control (chars text.now) }
+{
+    for character in text.chars() {
+        if is_late_control(character) {
+            return true;
+        }
+    }
+    false
+}
+
+fn is_late_control(character: char) -> bool
+    ensures { result ≡ is_late_control character }
+{
+    character.is_control() && !character.is_ascii()
 }

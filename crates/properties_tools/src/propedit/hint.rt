@@ -96,10 +96,13 @@ pub(crate) fn hint(
     }
     match &job.command {
         Command::Get(_, _, _) => file_hint(alloc, source, job.encoding, files),
-        Command::List(prefix, _) | Command::ListValues(prefix, _) => {
+        Command::List(prefix, _) | Command::ListValues(prefix, _) | Command::ListJson(prefix) => {
             Ok(prefix_hint(alloc, &job.source, prefix.as_str())?)
         }
-        Command::Check(_) | Command::Change(_) => Ok(None),
+        Command::Comment(_)
+        | Command::Check(_)
+        | Command::CheckAgainst(_, _)
+        | Command::Change(_) => Ok(None),
     }
 }
 

@@ -7,7 +7,7 @@ ghost use Rattle.properties_lines.specs.Scanner.{bytes_of};
 ghost use Rattle.properties_tools.specs.Propedit.Lines as spec;
 ghost use Rattle.properties_tools.specs.Propedit.Lines.{FindsFlawed, IsFirstFlawed, IsFirstUtf8, starts_with_bom};
 ghost use Rattle.properties_tools.specs.Private.Flawed.{are_ascii, are_paired, is_ascii, is_flawed, is_well_formed, unit_in, FindsNext, HasLinesOf, IsFound, IsScanning};
-ghost use Rattle.properties_tools.specs.declared.propedit.ill_formed.Flaw.TheVariants.{Byte, IllFormed, NonAscii, Zero};
+ghost use Rattle.properties_tools.specs.declared.propedit.ill_formed.Flaw.TheVariants.{Byte, IllFormed, MarkInside, NonAscii, Zero};
 
 use java_properties::{Encoding, PropertiesError};
 use memchr::memchr;
@@ -28,6 +28,9 @@ pub enum Flaw {
     NonAscii,
     /// One of them is this byte. It is sought only if windows-1252 is in force.
     Byte(u8),
+    /// They hold U+FEFF, which is a byte order mark only at the front of a source. It is sought only if UTF-8 is in
+    /// force.
+    MarkInside,
 }
 
 /// Returns the numbers of the natural lines that are ill-formed in the encoding in force, in order. Fails only if
@@ -106,6 +109,7 @@ fn body_to_search(source: &[u8], encoding: Encoding, flaw: Flaw) -> (Encoding, &
         Flaw::Zero => body_with_zeros(source, encoding),
         Flaw::NonAscii => whole_body(source, encoding),
         Flaw::Byte(byte) => body_in_windows_1252(source, encoding, byte),
+        Flaw::MarkInside => body_with_marks(source, encoding),
     }
 }
 
@@ -148,6 +152,20 @@ fn body_in_windows_1252(source: &[u8], encoding: Encoding, byte: u8) -> (Encodin
     }
 }
 
+fn body_with_marks(source: &[u8], encoding: Encoding) -> (Encoding, &[u8])
+    ensures { HasLinesOf MarkInside (encoding_of encoding) source.now (encoding_of result.0) result.1.now }
+{
+    let (in_force, start) = encoding_in_force(source, encoding);
+    let body = &source[start..];
+    let Encoding::UTF_8 = in_force else {
+        return (in_force, &[]);
+    };
+    if !holds_mark(body) {
+        return (in_force, &[]);
+    }
+    (in_force, body)
+}
+
 fn whole_body(source: &[u8], encoding: Encoding) -> (Encoding, &[u8])
     ensures { HasLinesOf NonAscii (encoding_of encoding) source.now (encoding_of result.0) result.1.now }
 {
@@ -183,6 +201,7 @@ fn has_flaw(encoding: Encoding, body: &[u8], line: &RawLine, flaw: Flaw) -> bool
         Flaw::IllFormed => !is_well_formed(encoding, body, line),
         Flaw::Zero => holds_zero(&body[line.start..line.end]),
         Flaw::Byte(byte) => holds(&body[line.start..line.end], byte),
+        Flaw::MarkInside => holds_mark(&body[line.start..line.end]),
         Flaw::NonAscii => {
             !is_ascii(encoding, body, line) && is_well_formed(encoding, body, line)
         }
@@ -224,6 +243,21 @@ fn holds(bytes: &[u8], byte: u8) -> bool
     ensures { result ≡ spec.holds_byte byte bytes.now }
 {
     memchr(byte, bytes).is_some()
+}
+
+// Returns whether U+FEFF is in some bytes in UTF-8.
+fn holds_mark(bytes: &[u8]) -> bool
+    ensures { result ≡ spec.holds_mark bytes.now }
+{
+    let mut rest = bytes;
+    while let Some(at) = memchr(0xef, rest) {
+        rest = &rest[at..];
+        if has_byte_order_mark(rest) {
+            return true;
+        }
+        rest = &rest[1..];
+    }
+    false
 }
 
 // Returns whether each surrogate is one of a pair, and no byte is left over.

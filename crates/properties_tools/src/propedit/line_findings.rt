@@ -91,7 +91,8 @@ impl LineFindings {
     }
 }
 
-fn may_stand_for_bytes(key: &str) -> bool
+/// Returns whether ill-formed bytes may have been read as a character of a key.
+pub(crate) fn may_stand_for_bytes(key: &str) -> bool
     ensures { result ≡ has_replacement (chars key.now) }
 {
     for character in key.chars() {

@@ -1,5 +1,6 @@
 // What the arguments of `propedit` ask for.
 
+use crate::propedit::against::Base;
 use java_properties::{Edit, Encoding, Repertoire, Spelling};
 
 /// What the arguments ask for.
@@ -32,17 +33,29 @@ pub struct CheckedFiles {
     /// The encoding of each. A byte order mark overrides it.
     pub encoding: Encoding,
     pub check: Check,
+    /// The file whose keys theirs are compared with.
+    pub base: Option<Source>,
     /// Their names. There is one at least.
     pub paths: Vec<String>,
 }
 
-/// Two sources that are compared. One of them at most is standard input.
+/// Two sources that are compared. At most one of them is standard input.
 #[derive(Drop)]
 pub struct Comparison {
     /// The encoding of each. A byte order mark overrides it.
     pub encoding: Encoding,
     pub old: Source,
     pub new: Source,
+    pub report: Report,
+}
+
+/// How what differs is printed.
+#[derive(Clone, Copy, Debug, PartialEq, Eq)]
+pub enum Report {
+    /// As lines that begin with the name of a source.
+    Lines,
+    /// As JSON objects, each on a line.
+    Json,
 }
 
 /// A file that is changed in place.
@@ -69,7 +82,7 @@ pub struct Merge {
     /// How the pairs are set. There are no edits yet.
     pub edits: Edits,
     /// What they are set in.
-    pub target: Target,
+    pub destination: Destination,
 }
 
 /// How pairs are written.
@@ -83,7 +96,7 @@ pub enum Form {
 
 /// Where a changed source goes.
 #[derive(Drop)]
-pub enum Target {
+pub enum Destination {
     /// The source is read from here, and printed after the change.
     Printed(Source),
     /// The file of this name is changed in place. Beside it stand what is done if there is none, and whether a line
@@ -162,8 +175,14 @@ pub enum Command {
     List(String, Terminator),
     /// Print these keys, each with its last value.
     ListValues(String, Terminator),
+    /// Print them as one JSON object.
+    ListJson(String),
+    /// Print the comment of this key.
+    Comment(String),
     /// Find what is wrong.
     Check(Check),
+    /// Find what is wrong, and which keys only the source or only this base has.
+    CheckAgainst(Check, Base),
     /// Print the source after this change.
     Change(Change),
 }

@@ -73,17 +73,7 @@ impl Table {
         self.keys.key(row)
     }
 
-    /// Returns the line in which the first pair with the key of a row begins.
-    #[inline(always)]
-    pub fn first_line(&self, row: usize) -> usize
-        requires table { IsTable self.now }
-        requires within { row < length (rows_of self.now) }
-        ensures { (d : Row) → result ≡ (get_or (rows_of self.now) row d).first }
-    {
-        self.keys.first_line(row)
-    }
-
-    /// Returns the line in which the last pair with it begins.
+    /// Returns the line in which the last pair with the key of a row begins.
     #[inline(always)]
     pub fn last_line(&self, row: usize) -> usize
         requires table { IsTable self.now }

@@ -2,8 +2,7 @@ use Rattle.std.proofs.Common.{◌<◌, [], ◌∷◌, ◌++◌, length, ap, sym,
 use Rattle.std.proofs.lemmas.List.{map-append}
 use Rattle.java_properties.specs.Editing.{edit_in, edits_in}
 use Rattle.properties_editing.proofs.EditComparisons.{edit-clone}
-use Rattle.properties_tools.specs.Private.Collected.{value_texts}
-use Rattle.properties_tools.specs.Propedit.Change.{with_values}
+use Rattle.properties_tools.specs.Private.Collected.{value_texts, with_values}
 use Rattle.properties_tools.proofs.Merging.{none-more, one-more, same-edit}
 use Rattle.properties_tools.proofs.propedit.change.with_values.Goals.{then-is_some+in_ok-clone+in_ok-push, else-is_some}
 use Rattle.properties_tools.proofs.propedit.change.with_values.Goals as goal

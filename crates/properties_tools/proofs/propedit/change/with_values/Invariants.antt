@@ -1,7 +1,6 @@
 use Rattle.std.proofs.Common.{◌≡◌, ◌++◌, drop}
 use Rattle.java_properties.specs.Editing.{edits_in}
-use Rattle.properties_tools.specs.Private.Collected.{value_texts}
-use Rattle.properties_tools.specs.Propedit.Change.{with_values}
+use Rattle.properties_tools.specs.Private.Collected.{value_texts, with_values}
 use Rattle.properties_tools.proofs.propedit.change.with_values.Given as goal
 
 abbrev pub invariant-loop-place : goal.invariant-loop-place

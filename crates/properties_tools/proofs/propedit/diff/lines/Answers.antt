@@ -3,7 +3,6 @@ use Rattle.properties_tools.proofs.Differing.{text-both}
 use Rattle.properties_tools.proofs.propedit.diff.lines.Goals as goal
 
 pub returns : goal.returns
-returns c =
+returns g c =
     let gone = rw c.new-text.ensures.items at c.in_ok-push_old.ensures in
-    text-both c.args.old_name.now c.args.new_name.now _ _ (rows_of c.args.olds.now) (rows_of c.args.news.now) gone
-    (c.in_ok-push_new.ensures c.args.old_name.now)
+    text-both (g.F.DiffForm.printed c.args.form.now) _ _ (rows_of c.args.olds.now) (rows_of c.args.news.now) gone c.in_ok-push_new.ensures

@@ -3,7 +3,7 @@ use Rattle.properties_tools.proofs.propedit.diff.print_diff.Goals as goal
 
 pub returns-in-Ok-write_source-clause-prints : goal.returns-in-Ok-write_source-clause-prints
 returns-in-Ok-write_source-clause-prints g c =
-    let compares = rw (c.deref.ensures.value, c.deref-2.ensures.value, c.name-old_name.ensures, c.name-new_name.ensures) at c.in_ok-answer.ensures in
+    let compares = rw (c.deref.ensures.value, c.deref-2.ensures.value) at c.in_ok-answer.ensures in
     let writes = rw c.deref-3.ensures.value at c.in-Ok-write_source.ensures.writes in (
       c.in_ok-answer.answer,
       record {
@@ -19,7 +19,7 @@ returns-in-Ok-write_source-clause-prints g c =
 
 pub returns-clause-prints : goal.returns-clause-prints
 returns-clause-prints g c =
-    let compares = rw (c.deref.ensures.value, c.deref-2.ensures.value, c.name-old_name.ensures, c.name-new_name.ensures) at c.in_ok-answer.ensures in
+    let compares = rw (c.deref.ensures.value, c.deref-2.ensures.value) at c.in_ok-answer.ensures in
     let writes = rw c.deref-3.ensures.value at c.in-Err-write_source.ensures.writes in (
       c.in_ok-answer.answer,
       record {

@@ -1,14 +1,20 @@
 use Rattle.std.proofs.Common.{◌<◌, arith, length}
-use Rattle.properties_tools.specs.Private.Differing.{of_old}
+use Rattle.properties_tools.specs.Private.Differing.{no_row, of_old}
 use Rattle.properties_tools.specs.Private.Table.{rows_of}
-use Rattle.properties_tools.proofs.Differing.{no_row, text-more}
+use Rattle.properties_tools.proofs.Differing.{text-more}
 use Rattle.properties_tools.proofs.propedit.diff.push_old.Goals as goal
 
+pub push_became-requires-clause-old : goal.push_became-requires-clause-old
+push_became-requires-clause-old g c =
+    let size = c.len-row-end.ensures in
+    let test = c.loop-row-test.true in
+    record { can = c.requires.old; within = omega arith }
+
 pub loop-row-preserved : goal.loop-row-preserved
-loop-row-preserved c =
+loop-row-preserved g c =
     let rows = rows_of c.args.olds.now in
     let size = c.len-row-end.ensures in
     let test = c.loop-row-test.true in
     let within : c.loop-row.row < length rows = omega arith in
-    text-more c.args.old_name.now c.args.new_name.now c.args.text.now.items c.loop-row.text.items c.push_became.new.text.items
-    (of_old (rows_of c.args.news.now)) rows c.loop-row.row no_row within c.loop-row.invariant (c.in_ok-push_became.ensures no_row)
+    text-more (g.F.DiffForm.printed c.args.form.now) c.args.text.now.items c.loop-row.text.items c.push_became.new.text.items
+    (of_old (rows_of c.args.news.now)) rows c.loop-row.row no_row within c.loop-row.invariant c.in_ok-push_became.ensures

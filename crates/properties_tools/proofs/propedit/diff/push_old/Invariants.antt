@@ -1,10 +1,9 @@
 use Rattle.std.proofs.Common.{◌≡◌, ◌++◌, take}
 use Rattle.std.specs.List.{flat_map}
-use Rattle.properties_tools.specs.Propedit.Differences.{difference_text}
 use Rattle.properties_tools.specs.Private.Differing.{of_old}
 use Rattle.properties_tools.specs.Private.Table.{rows_of}
 use Rattle.properties_tools.proofs.propedit.diff.push_old.Given as goal
 
 abbrev pub invariant-loop-row : goal.invariant-loop-row
-invariant-loop-row l =
-    l.text.items ≡ l.fn.text.items ++ difference_text l.old_name l.new_name (flat_map (of_old (rows_of l.news)) (take l.row (rows_of l.olds)))
+invariant-loop-row g l =
+    l.text.items ≡ l.fn.text.items ++ flat_map (g.F.DiffForm.printed l.form) (flat_map (of_old (rows_of l.news)) (take l.row (rows_of l.olds)))

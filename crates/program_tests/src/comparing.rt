@@ -1,0 +1,288 @@
+// Runs of `propedit diff`, and what the library gives for two sources.
+
+use crate::same::{Bytes, same};
+use crate::streams::{AMPLE, FULL, Plan, reader, sink, words_of};
+use counted_io::{ScriptedSink, Tail};
+use java_properties::Encoding;
+use propedit_arguments::{asked_for, explain};
+use properties_tools::propedit::diff::{DiffFailure, diff, run_diff};
+use properties_tools::propedit::request::Request;
+use std::alloc::{AllocError, Global};
+use std::io::ErrorKind;
+use std::process::Abort;
+use std::test::Fail;
+
+// What comes after the bytes of the old source and of the new one, and how the output behaves.
+type Streams = (Tail, Tail, Plan);
+
+const SOUND: Streams = (Tail::End, Tail::End, AMPLE);
+
+// What stands for the status of words that ask for anything else.
+const NO_COMPARISON: u8 = 9;
+
+// Runs `propedit` as its `main` does, but over these bytes of the old source and of the new one. Returns the status,
+// and the sinks of the output and of the errors.
+fn compare(
+    alloc: Global,
+    (old_tail, new_tail, plan): Streams,
+    words: &str,
+    old: &[u8],
+    new: &[u8],
+) -> Result<(u8, ScriptedSink, ScriptedSink), AllocError> {
+    let words = words_of(alloc, words)?;
+    let mut old = reader(alloc, old, 5, old_tail)?;
+    let mut new = reader(alloc, new, 1024, new_tail)?;
+    let mut output = sink(alloc, plan);
+    let mut errors = sink(alloc, AMPLE);
+    let status = match asked_for(alloc, words.as_slice()) {
+        Ok(Request::Diff(sources)) => run_diff(
+            alloc,
+            &sources,
+            &mut old,
+            &mut new,
+            &mut output,
+            &mut errors,
+        ),
+        Ok(_other) => NO_COMPARISON,
+        Err(error) => explain(alloc, error, &mut output, &mut errors),
+    };
+    Ok((status, output, errors))
+}
+
+// The words, the old source and the new one, the status, the output, and what is printed on standard error.
+type Run<'a> = (&'a str, &'a [u8], &'a [u8], u8, &'a [u8], &'a str);
+
+// Compares a run with the row of this number.
+fn check_run<R: Abort + AllocGlobal>(
+    rt: &R,
+    number: usize,
+    streams: Streams,
+    row: Run<'_>,
+) -> Result<(), Fail> {
+    let (words, old, new, status, output, errors) = row;
+    let (found, printed, said) = compare(rt.alloc(), streams, words, old, new)?;
+    let found = (words, found, Bytes(printed.bytes()), Bytes(said.bytes()));
+    let wanted = (words, status, Bytes(output), Bytes(errors.as_bytes()));
+    same(rt, number, found, wanted);
+    Ok(())
+}
+
+// The words, both sources, the status, and the output of a run that prints nothing on standard error.
+type Row<'a> = (&'a str, &'a [u8], &'a [u8], u8, &'a [u8]);
+
+const OLD: &[u8] = b"# c\nport = 80\nhost=a\npath=b\nport = 81\n";
+
+const NEW: &[u8] = b"port: 8080\r\nname = x\\ty\r\nhost = \\u0061\r\n";
+
+const DIFF: &[Row<'static>] = &[
+    // What went, what has another value, and what came. The last pair with a key counts, and so does its line.
+    (
+        "diff old new",
+        OLD,
+        NEW,
+        1,
+        b"old:5: -port=81\nnew:1: +port=8080\nold:4: -path=b\nnew:2: +name=x\\ty\n",
+    ),
+    (
+        "diff old -",
+        OLD,
+        NEW,
+        1,
+        b"old:5: -port=81\nstandard input:1: +port=8080\n\
+          old:4: -path=b\nstandard input:2: +name=x\\ty\n",
+    ),
+    (
+        "diff -- - -new",
+        NEW,
+        OLD,
+        1,
+        b"standard input:1: -port=8080\n-new:5: +port=81\n\
+          standard input:2: -name=x\\ty\n-new:4: +path=b\n",
+    ),
+    ("diff a b", b"", b"", 0, b""),
+    ("diff a b", b"", b"k", 1, b"b:1: +k=\n"),
+    ("diff a b", b"k\n=v", b"", 1, b"a:1: -k=\na:2: -=v\n"),
+    // Layout, comments, order, spelling and pairs that a later one overrules don't count.
+    (
+        "diff a b",
+        b"# C:\\users\na=1\nb = 2\\\n  3\r\n",
+        b"b=9\n\\u0062 23\n!\na:1",
+        0,
+        b"",
+    ),
+    // A value of the same length, one that is empty, and keys that differ by case or by a blank.
+    (
+        "diff a b",
+        b"k=ab\nl=\nm\nn",
+        b"k=ac\nl\nm=\\ \nN\n",
+        1,
+        b"a:1: -k=ab\nb:1: +k=ac\na:3: -m=\nb:3: +m=\\u0020\na:4: -n=\nb:4: +N=\n",
+    ),
+    // A pair is one line, whatever is in it, and its value is readable. So is the name of a source.
+    (
+        "diff 'a\n' b",
+        b"\\u00e9 k\\=\\\n  \\n=\\ \\u00e9\\n#\\\\x\\u0000",
+        b"",
+        1,
+        b"a\\u{a}:1: -\xc3\xa9=k=\\n= \xc3\xa9\\n#\\\\x\\u0000\n",
+    ),
+    // A pair with a control character past U+007F is in ASCII.
+    (
+        "diff a b",
+        b"\xc3\xa9=\xc2\x9b\na=\xc2\xa0\xc2\x85\xc3\xa9\n\xc2\x80\xc3\xa9",
+        b"\xc3\xa9=\xc2\xa0\x7f\xc3\xa9\n",
+        1,
+        b"a:1: -\\u00e9=\\u009b\nb:1: +\xc3\xa9=\xc2\xa0\x7f\xc3\xa9\n\
+          a:2: -a=\\u00a0\\u0085\\u00e9\na:3: -\\u0080\\u00e9=\n",
+    ),
+    // Both sources are in the encoding, unless a byte order mark says otherwise.
+    (
+        "-e latin1 diff a b",
+        b"a=\xe9\nb=\xe9",
+        b"\xef\xbb\xbfa=\xc3\xa9\nb=\xc3\xa8",
+        1,
+        b"a:2: -b=\xc3\xa9\nb:2: +b=\xc3\xa8\n",
+    ),
+    (
+        "diff -e utf-16le a b",
+        b"a\0=\01\0",
+        b"\xfe\xff\0a\0=\02",
+        1,
+        b"a:1: -a=1\nb:1: +a=2\n",
+    ),
+];
+
+#[test]
+fn diff_prints_what_differs(rt: HostRuntime) -> Result<(), Fail> {
+    for (number, row) in (1usize..).zip(DIFF) {
+        let (words, old, new, status, output) = *row;
+        let row = (words, old, new, status, output, "");
+        check_run(&rt, number, SOUND, row)?;
+    }
+    Ok(())
+}
+
+const NOT_UTF_8: &str =
+    "not UTF-8; if it is in windows-1252 or Latin-1, -e windows-1252 reads it\n";
+
+const TOO_FEW: &str = "Malformed \\uxxxx encoding: not enough digits.\n";
+
+// The words, both sources, the source that is refused and its line, and why.
+type Refused<'a> = (&'a str, &'a [u8], &'a [u8], &'a str, &'a str);
+
+const REFUSED: &[Refused<'static>] = &[
+    ("diff a b", b"a=1\nb=\xe9", b"a=1", "a:2", NOT_UTF_8),
+    ("diff a b", b"a=1", b"\nb=\xe9", "b:2", NOT_UTF_8),
+    ("diff - b", b"a=\\u12", b"a=1", "standard input:1", TOO_FEW),
+    ("diff a -", b"a=1", b"a=\\u12", "standard input:1", TOO_FEW),
+    // The old one is refused first.
+    ("diff a b", b"a=\\u12", b"b=\xe9", "a:1", TOO_FEW),
+    (
+        "diff a b",
+        b"a=1",
+        b"a\0",
+        "b:1",
+        "U+0000; if this is UTF-16, -e utf-16le or -e utf-16be reads it\n",
+    ),
+];
+
+#[test]
+fn each_source_that_is_not_sound_is_refused(rt: HostRuntime) -> Result<(), Fail> {
+    for (number, row) in (1usize..).zip(REFUSED) {
+        let (words, old, new, place, wrong) = *row;
+        let errors = format!(in rt.alloc(); "propedit: {place}: {wrong}")?;
+        let row = (words, old, new, 2, b"".as_slice(), errors.as_str());
+        check_run(&rt, number, SOUND, row)?;
+    }
+    Ok(())
+}
+
+const CUT_OFF: Tail = Tail::Fault(ErrorKind::NotFound);
+
+// The streams, both sources, what is written, and what is printed on standard error.
+const FAULTS: &[(Streams, &[u8], &[u8], &[u8], &str)] = &[
+    (
+        (CUT_OFF, CUT_OFF, AMPLE),
+        b"a=1\n",
+        b"b=1",
+        b"",
+        "propedit: old:2: entity not found\n",
+    ),
+    // Both are read before one is refused.
+    (
+        (Tail::End, CUT_OFF, AMPLE),
+        b"a=\\u12",
+        b"b=1",
+        b"",
+        "propedit: standard input: entity not found\n",
+    ),
+    (
+        (Tail::End, Tail::End, FULL),
+        b"a=1",
+        b"b=1",
+        b"ol",
+        "propedit: standard output: I/O error\n",
+    ),
+];
+
+#[test]
+fn a_stream_of_a_comparison_that_fails_is_named(rt: HostRuntime) -> Result<(), Fail> {
+    for (number, row) in (1usize..).zip(FAULTS) {
+        let (streams, old, new, written, errors) = *row;
+        let row = ("diff old -", old, new, 2, written, errors);
+        check_run(&rt, number, streams, row)?;
+    }
+    Ok(())
+}
+
+// What stands for the status of sources of which one is refused.
+const REFUSAL: u8 = 8;
+
+// Returns what the library gives for two sources in windows-1252: the status and the text, or which one it refuses.
+fn answer(alloc: Global, old: &[u8], new: &[u8]) -> Result<(u8, Vec<u8>), AllocError> {
+    match diff(alloc, "old", old, "\u{e9}\t", new, Encoding::WINDOWS_1252) {
+        Ok(answer) => Ok((answer.status, answer.text)),
+        Err(DiffFailure::Old(_failure)) => Ok((REFUSAL, b"old".to_vec(alloc)?)),
+        Err(DiffFailure::New(_failure)) => Ok((REFUSAL, b"new".to_vec(alloc)?)),
+        Err(DiffFailure::Output(_error)) => Ok((REFUSAL, b"output".to_vec(alloc)?)),
+    }
+}
+
+// Both sources, the status, and the text.
+type Answered<'a> = (&'a [u8], &'a [u8], u8, &'a [u8]);
+
+const ANSWERS: &[Answered<'static>] = &[
+    (OLD, OLD, 0, b""),
+    (
+        b"a=1\nb=\xe9",
+        b"c = 3\r\na: 1\r\n",
+        1,
+        b"old:2: -b=\xc3\xa9\n\xc3\xa9\\u{9}:1: +c=3\n",
+    ),
+    (b"a=\\u12", b"a=\\u1", REFUSAL, b"old"),
+    (b"a=1", b"a=\\u12", REFUSAL, b"new"),
+];
+
+fn check_answer<R: Abort + AllocGlobal>(
+    rt: &R,
+    number: usize,
+    row: Answered<'_>,
+) -> Result<(), Fail> {
+    let (old, new, status, text) = row;
+    let (found, given) = answer(rt.alloc(), old, new)?;
+    same(
+        rt,
+        number,
+        (found, Bytes(given.as_slice())),
+        (status, Bytes(text)),
+    );
+    Ok(())
+}
+
+#[test]
+fn what_differs_is_given_as_a_text(rt: HostRuntime) -> Result<(), Fail> {
+    for (number, row) in (1usize..).zip(ANSWERS) {
+        check_answer(&rt, number, *row)?;
+    }
+    Ok(())
+}

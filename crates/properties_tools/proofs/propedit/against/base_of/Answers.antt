@@ -1,0 +1,21 @@
+use Rattle.std.proofs.Common.{refl}
+use Rattle.std.specs.Prelude.{string_bytes}
+use Rattle.properties_text.specs.Encoding.{encoding_of}
+use Rattle.properties_tools.specs.declared.propedit.check.Reported.{Reported}
+use Rattle.properties_tools.proofs.Lacking.{base-kept}
+use Rattle.properties_tools.proofs.propedit.against.base_of.Goals as goal
+
+pub invariant_of-base : goal.invariant_of-base
+invariant_of-base c = c.in_ok-text.ensures.table
+
+pub returns : goal.returns
+returns c =
+    let r : Reported = c.in_ok-text.field-0 in (
+      record {
+        report = string_bytes r.text;
+        is_report = c.in_ok-text.ensures.report;
+        text = c.reported.ensures.text;
+        status = c.reported.ensures.status;
+      },
+      base-kept c.args.name.now (encoding_of c.args.encoding) c.args.asked c.args.source.now r c.in_ok-text.ensures _ c.in_ok-from_str.ensures.ok refl refl,
+    )

@@ -1,0 +1,15 @@
+use Rattle.std.proofs.Common.{◌∙◌, ap, sym}
+use Rattle.std.specs.Prelude.{encode_utf8_all}
+use Rattle.std.proofs.lemmas.Result.{on_ok_weaker}
+use Rattle.std.proofs.lemmas.Str.{encodes-chars}
+use Rattle.properties_tools.specs.Propedit.Differences.{came}
+use Rattle.properties_tools.specs.Private.Differing.{row_at}
+use Rattle.properties_tools.proofs.Objects.{object-written}
+use Rattle.properties_tools.proofs.propedit.diff_json.ObjectsDiffForm.came.Goals as goal
+
+pub returns : goal.returns
+returns c =
+    let name = sym (encodes-chars c.key.result.now c.key.utf8) ∙ ap encode_utf8_all c.key.ensures in
+    on_ok_weaker c.end.result
+    (object-written (came (row_at c.args.new)) c.args.text.now.items c.key.result.now c.end.new.text.items c.in_ok-writer.writer c.write_side.new.writer
+    c.in_ok-writer.ensures.before c.in_ok-writer.ensures.tokens name c.in_ok-write_side.ensures) c.end.ensures

@@ -1,0 +1,16 @@
+use Rattle.std.proofs.Common.{◌∙◌, ap, sym}
+use Rattle.std.specs.Prelude.{encode_utf8_all}
+use Rattle.std.proofs.lemmas.Result.{on_ok_weaker}
+use Rattle.std.proofs.lemmas.Str.{encodes-chars}
+use Rattle.properties_tools.specs.Propedit.Differences.{changed}
+use Rattle.properties_tools.specs.Private.Differing.{row_at}
+use Rattle.properties_tools.proofs.Objects.{both-written, object-written}
+use Rattle.properties_tools.proofs.propedit.diff_json.ObjectsDiffForm.changed.Goals as goal
+
+pub returns : goal.returns
+returns c =
+    let name = sym (encodes-chars c.key.result.now c.key.utf8) ∙ ap encode_utf8_all c.key.ensures in
+    on_ok_weaker c.end.result
+    (object-written (changed (row_at c.args.old) (row_at c.args.new)) c.args.text.now.items c.key.result.now c.end.new.text.items c.in_ok-writer.writer
+    c.write_side-2.new.writer c.in_ok-writer.ensures.before c.in_ok-writer.ensures.tokens name
+    (both-written c.in_ok-write_side.ensures c.in_ok-write_side-2.ensures)) c.end.ensures

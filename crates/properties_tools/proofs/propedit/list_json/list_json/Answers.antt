@@ -1,0 +1,10 @@
+use Rattle.properties_tools.proofs.Rows.{last-pairs}
+use Rattle.properties_tools.proofs.propedit.list_json.list_json.Goals as goal
+
+pub listed-requires : goal.listed-requires
+listed-requires c = c.in_ok-table.ensures.1
+
+pub returns : goal.returns
+returns c =
+    let read = c.in_ok-table.ensures in
+    record { sound = read.0; pairs = _; are = last-pairs read.2; prints = c.in_ok-listed.ensures }

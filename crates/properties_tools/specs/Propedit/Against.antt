@@ -1,0 +1,94 @@
+-- What `check` says of the keys of a source beside those of another one, its base: which keys only one of the two has a
+-- pair of. Comments, layout, spelling, order, values and pairs that repeat a key don't count, nor do malformed pairs.
+use Rattle.std.specs.Prelude.{◌≡◌, ◌↔◌, ℕ, ◌==◌, ◌&&◌, ◌||◌, not, length, Bool, true, List, ◌++◌, codes, map, All, AllPairs, Contains}
+use Rattle.std.specs.Fmt.{decimal}
+use Rattle.std.specs.List.{flat_map}
+use Rattle.properties_format.specs.Edits.{ArePairs}
+use Rattle.properties_format.specs.Encoding.{Encoding}
+use Rattle.properties_format.specs.Items.{Entry}
+use Rattle.properties_format.specs.Maps.{AreKeys, HasNoPair, IsLastValue, PairComesBefore}
+use Rattle.java_properties.specs.Findings.{KeyPlace}
+use Rattle.properties_tools.specs.Messages.{all_shown, escaped}
+use Rattle.properties_tools.specs.Propedit.Check.{has_replacement, IsReport}
+use Rattle.properties_tools.specs.Propedit.Lines.{AreFlawedLines}
+use Rattle.properties_tools.specs.Propedit.Table.{IsFirstLine}
+use Rattle.properties_tools.specs.declared.propedit.ill_formed.Flaw.TheVariants.{IllFormed}
+use Rattle.properties_tools.specs.declared.propedit.request.Check.{Check}
+
+-- ---- keys that are lacking
+
+abbrev pub keys_at : List KeyPlace → List (List ℕ)
+keys_at places = map (λ p. p.key) places
+
+-- These are the keys of pairs, each once, with the lines of their first pairs.
+pub record AreKeyPlaces (pairs : List Entry) (places : List KeyPlace) : Type 0 where
+  pub keys : AreKeys pairs (keys_at places)
+  pub lines : All (λ p. IsFirstLine pairs p.key p.number) places
+
+-- A key is compared. Where a line is ill-formed, one with U+FFFD isn't: that character may stand for any bytes.
+abbrev pub is_compared : Bool → List ℕ → Bool
+is_compared are_well_formed key = are_well_formed || not (has_replacement key)
+
+-- These keys are lacking: some pair has them, and none of the other pairs. Each stands once, with the line of its first
+-- pair, and in the order of these.
+pub record AreLacking (are_well_formed : Bool) (pairs other : List Entry) (lacking : List KeyPlace) : Type 0 where
+  pub each : (key : List ℕ) → Contains (keys_at lacking) key
+      ↔ ((value : List ℕ) × IsLastValue pairs key value × HasNoPair key other × (is_compared are_well_formed key ≡ true))
+  pub in_order : AllPairs (PairComesBefore pairs) (keys_at lacking)
+  pub lines : All (λ p. IsFirstLine pairs p.key p.number) lacking
+
+-- ---- a base
+
+-- what is kept of a base: its name, its keys, each once, with the lines of their first pairs, and whether it is well-formed
+pub record KnownBase : Type 0 where
+  pub name : List ℕ
+  pub keys : List KeyPlace
+  pub is_well_formed : Bool
+
+-- No line of the source is ill-formed, or some line is.
+pub record TellsWellFormed (e : Encoding) (source : List ℕ) (is_well_formed : Bool) : Type 0 where
+  pub numbers : List ℕ
+  pub are : AreFlawedLines IllFormed e source numbers
+  pub is : is_well_formed ≡ (length numbers == 0)
+
+-- This is kept of a source of this name.
+pub record IsBaseOf (name : List ℕ) (e : Encoding) (source : List ℕ) (base : KnownBase) : Type 0 where
+  pub named : base.name ≡ name
+  pub pairs : List Entry
+  pub are : ArePairs e source pairs
+  pub keys : AreKeyPlaces pairs base.keys
+  pub well_formed : TellsWellFormed e source base.is_well_formed
+
+-- ---- how they are printed
+
+-- `NAME: key 'KEY' is missing (BASE:LINE)`
+abbrev pub missing_line : List ℕ → List ℕ → KeyPlace → List ℕ
+missing_line name base p =
+    escaped name ++ (codes ": key '" ++ (all_shown p.key ++ (codes "' is missing (" ++ (escaped base ++ (codes ":" ++ (decimal p.number ++ codes ")\n"))))))
+
+-- `NAME:LINE: key 'KEY' is not in BASE`
+abbrev pub surplus_line : List ℕ → List ℕ → KeyPlace → List ℕ
+surplus_line name base p =
+    escaped name ++ (codes ":" ++ (decimal p.number ++ (codes ": key '" ++ (all_shown p.key ++ (codes "' is not in " ++ (escaped base ++ codes "\n"))))))
+
+abbrev pub comparison : List ℕ → List ℕ → List KeyPlace → List KeyPlace → List ℕ
+comparison name base missing surplus = flat_map (missing_line name base) missing ++ flat_map (surplus_line name base) surplus
+
+-- ---- a report
+
+-- The text is what a check reports of a source, then a line for each key of the base that the source lacks, in the order of
+-- the base, and then one for each key of the source that the base lacks, in the order of the source.
+pub record IsReportAgainst (base : KnownBase) (name : List ℕ) (e : Encoding) (check : Check) (source text : List ℕ) : Type 0 where
+  pub report : List ℕ
+  pub is_report : IsReport name e check source report
+  pub pairs : List Entry
+  pub are : ArePairs e source pairs
+  pub is_well_formed : Bool
+  pub well_formed : TellsWellFormed e source is_well_formed
+  pub missing : List KeyPlace
+  pub are_missing : (base_pairs : List Entry) → AreKeyPlaces base_pairs base.keys
+      → AreLacking (base.is_well_formed && is_well_formed) base_pairs pairs missing
+  pub surplus : List KeyPlace
+  pub are_surplus : (base_pairs : List Entry) → AreKeyPlaces base_pairs base.keys
+      → AreLacking (base.is_well_formed && is_well_formed) pairs base_pairs surplus
+  pub is : text ≡ report ++ comparison name base.name missing surplus

@@ -1,0 +1,80 @@
+#!/usr/bin/env python3
+"""Compares what `propedit` prints as JSON of random files with a model of the format in Python.
+
+    tests/try_json.py PROPEDIT [PAIRS]
+
+Each file is read by the model of try_diff.py, and each answer by Python's `json`, with the members of objects in order.
+It prints how many pairs of files passed, and stops with status 1 at the first that differs.
+"""
+import json
+import os
+import random
+import subprocess
+import sys
+import tempfile
+
+from try_diff import PIECES, is_sound, table, text
+
+PREFIXES = ["", "", "", "a", "ab", "é", "b"]
+
+
+def listed(rows, prefix):
+    """What `list` prints, and its status."""
+    pairs = [(key, value) for key, (_, value) in rows.items() if key.startswith(prefix)]
+    return [pairs], 0 if pairs else 1
+
+
+def compared(old, new):
+    """What `diff` prints, and its status."""
+    objects = []
+    for key in [*old, *(key for key in new if key not in old)]:
+        if key not in old or key not in new or old[key][1] != new[key][1]:
+            sides = [(name, rows[key]) for name, rows in (("old", old), ("new", new)) if key in rows]
+            objects.append([("key", key), *((name, [("line", line), ("value", value)]) for name, (line, value) in sides)])
+    return objects, 1 if objects else 0
+
+
+def read(printed):
+    """The values on the lines that were printed, each object as a list of its members."""
+    lines = printed.decode().split("\n")
+    if lines.pop():
+        raise ValueError("the last line has no end")
+    return [json.loads(line, object_pairs_hook=list) for line in lines]
+
+
+def answer(program, folder, words):
+    run = subprocess.run([program, "--json", *words], cwd=folder, capture_output=True)
+    if run.stderr:
+        raise ValueError(run.stderr)
+    return read(run.stdout), run.returncode
+
+
+def main(program, count):
+    draw = random.Random(87)
+    with tempfile.TemporaryDirectory() as folder:
+        passed = 0
+        while passed < count:
+            old = text(draw)
+            new = old.replace(draw.choice(PIECES), draw.choice(PIECES), 1) if draw.random() < 0.5 else text(draw)
+            if not (is_sound(old) and is_sound(new)):
+                continue
+            for name, made in (("old", old), ("new", new)):
+                with open(os.path.join(folder, name), "w", encoding="utf8", newline="") as file:
+                    file.write(made)
+            prefix = draw.choice(PREFIXES)
+            for words, wanted in (
+                (["list", "-f", "old", "--", prefix], listed(table(old), prefix)),
+                (["diff", "old", "new"], compared(table(old), table(new))),
+            ):
+                found = answer(program, folder, words)
+                if found != wanted:
+                    print(f"old {old!r}\nnew {new!r}\n{words}\nfound {found}\nwanted {wanted}", file=sys.stderr)
+                    sys.exit(1)
+            passed += 1
+    print(f"{passed} pairs of files passed")
+
+
+if __name__ == "__main__":
+    if len(sys.argv) not in (2, 3):
+        sys.exit("usage: try_json.py PROPEDIT [PAIRS]")
+    main(os.path.abspath(sys.argv[1]), int(sys.argv[2]) if len(sys.argv) > 2 else 3000)
