@@ -23,7 +23,9 @@ use crate::source::BodyStart;
 use properties_text::characters::is_blank;
 use properties_text::encoding::{Encoding, LineEncoding};
 use properties_text::parse::are_blanks;
-use properties_text::print::{LineBuffer, Repertoire, print_readable_texts, print_texts};
+use properties_text::print::{
+    LineBuffer, PairLayout, Repertoire, print_readable_texts, print_texts,
+};
 use std::alloc::{AllocError, Global};
 
 /// Appends a pair without a line ending. A pair that is `first` in a body is printed so that it isn't taken for a byte
@@ -37,7 +39,13 @@ pub fn print_new(
 ) -> Result<(), AllocError>
     ensures { AppendsOnOk line.old (pair_bytes (printed_in opened) first (chars key.now) (chars value.now)) result line.new }
 {
-    print_texts(line, repertoire_of(opened), first, key, value, "=", "")
+    let layout = PairLayout {
+        repertoire: repertoire_of(opened),
+        first,
+        separator: "=",
+        ending: "",
+    };
+    print_texts(line, layout, key, value)
 }
 
 /// Appends a pair with this separator likewise.
@@ -53,7 +61,13 @@ pub fn print_new_pair(
     ensures { AppendsOnOk line.old (unended_pair (printed_in opened) first (chars key.now) (chars separator.now) (chars value.now)) result line.new }
 {
     let repertoire = repertoire_of(opened);
-    print_readable_texts(line, repertoire, first, key, value, separator, "")
+    let layout = PairLayout {
+        repertoire,
+        first,
+        separator,
+        ending: "",
+    };
+    print_readable_texts(line, layout, key, value)
 }
 
 /// Returns the separator of a new pair with this key that looks like the pair of these bytes, which are one group, or

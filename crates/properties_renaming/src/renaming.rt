@@ -19,7 +19,7 @@ use properties_items::found::{find_item, pair_texts};
 use properties_text::characters::is_blank;
 use properties_text::encoding::{Encoding, LineEncoding};
 use properties_text::parse::{ParsedSpans, are_blanks, parse_spans};
-use properties_text::print::{LineBuffer, Repertoire, print_texts};
+use properties_text::print::{LineBuffer, PairLayout, Repertoire, print_texts};
 use std::alloc::{AllocError, Global};
 use std::error::Error;
 use std::fmt;
@@ -273,7 +273,13 @@ fn print_key(
         }
         return text.extend(b"=");
     }
-    print_texts(text, repertoire, first, key, "", "", "")
+    let layout = PairLayout {
+        repertoire,
+        first,
+        separator: "",
+        ending: "",
+    };
+    print_texts(text, layout, key, "")
 }
 
 // Returns whether a sign separates the key and the value of the pair that is this logical line.

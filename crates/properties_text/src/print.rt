@@ -122,6 +122,18 @@ impl<'a> Pair<'a> {
     }
 }
 
+/// The line of a pair: which characters are printed as they are, and what stands around the key and the value.
+#[derive(Clone, Copy)]
+pub struct PairLayout<'a> {
+    pub repertoire: Repertoire,
+    /// Whether the key comes first in a file. Then it is printed so that it isn't taken for a byte order mark.
+    pub first: bool,
+    /// What separates the key and the value, as it is printed.
+    pub separator: &'a str,
+    /// What ends the line, as it is printed.
+    pub ending: &'a str,
+}
+
 // Where a run of bytes stops, by whether a backslash begins an escape, and by whether non-ASCII bytes are copied.
 type Literal = Controls;
 
@@ -143,34 +155,23 @@ fn is_copied(encoding: LineEncoding, repertoire: Repertoire) -> bool
     }
 }
 
-/// Appends a pair, with `separator` and `ending` as they are.
-///
-/// If `first`, the key comes first in a file and is printed so that it isn't taken for a byte order mark. Fails with
-/// the first malformed escape, or if memory runs out; then nothing is appended.
+/// Appends a pair. Fails with the first malformed escape, or if memory runs out; then nothing is appended.
 #[inline(always)]
 pub fn print_pair(
     line: &mut LineBuffer,
-    repertoire: Repertoire,
-    first: bool,
+    layout: PairLayout<'_>,
     pair: Pair<'_>,
-    separator: &str,
-    ending: &str,
 ) -> Result<(), UnescapeError>
     requires { IsPair pair }
-    ensures printed { PrintsPair repertoire first (puts_of repertoire) line.old pair.entry separator.now ending.now result line.new }
+    ensures printed { let l = layout.entry in
+        PrintsPair l.repertoire l.first (puts_of l.repertoire) line.old pair.entry l.separator.now l.ending.now result line.new }
     ensures unchanged { OnErr result (line.new ≡ line.old) }
 {
-    match (pair.escaped, is_copied(pair.encoding, repertoire)) {
-        (true, true) => { print_parts::<Escaped>(line, repertoire, first, pair, separator, ending) }
-        (true, false) => {
-            print_parts::<EscapedAscii>(line, repertoire, first, pair, separator, ending)
-        }
-        (false, true) => {
-            print_parts::<Literal>(line, repertoire, first, pair, separator, ending)
-        }
-        (false, false) => {
-            print_parts::<LiteralAscii>(line, repertoire, first, pair, separator, ending)
-        }
+    match (pair.escaped, is_copied(pair.encoding, layout.repertoire)) {
+        (true, true) => print_parts::<Escaped>(line, layout, pair),
+        (true, false) => print_parts::<EscapedAscii>(line, layout, pair),
+        (false, true) => print_parts::<Literal>(line, layout, pair),
+        (false, false) => print_parts::<LiteralAscii>(line, layout, pair),
     }
 }
 
@@ -178,16 +179,14 @@ pub fn print_pair(
 #[inline(always)]
 fn print_parts<Stops: ByteClass>(
     line: &mut LineBuffer,
-    repertoire: Repertoire,
-    first: bool,
+    layout: PairLayout<'_>,
     pair: Pair<'_>,
-    separator: &str,
-    ending: &str,
 ) -> Result<(), UnescapeError>
     requires well { IsPair pair }
-    requires stops { StopsIn Stops.holds pair.encoding repertoire }
+    requires stops { StopsIn Stops.holds pair.encoding layout.repertoire }
     requires escaped { Stops.holds backslash ≡ pair.escaped }
-    ensures printed { PrintsPair repertoire first (puts_of repertoire) line.old pair.entry separator.now ending.now result line.new }
+    ensures printed { let l = layout.entry in
+        PrintsPair l.repertoire l.first (puts_of l.repertoire) line.old pair.entry l.separator.now l.ending.now result line.new }
     ensures unchanged { OnErr result (line.new ≡ line.old) }
 {
     let Pair {
@@ -198,10 +197,11 @@ fn print_parts<Stops: ByteClass>(
     } = pair;
     let out = &mut line.bytes;
     let filled = line.filled;
-    let after_key = print_first::<Stops>(out, filled, repertoire, first, encoding, key)?;
-    let after_separator = put_raw(out, after_key, separator.as_bytes())?;
+    let repertoire = layout.repertoire;
+    let after_key = print_first::<Stops>(out, filled, layout, encoding, key)?;
+    let after_separator = put_raw(out, after_key, layout.separator.as_bytes())?;
     let after_value = print_bytes::<Stops>(out, after_separator, repertoire, encoding, value)?;
-    line.filled = put_raw(out, after_value, ending.as_bytes())?;
+    line.filled = put_raw(out, after_value, layout.ending.as_bytes())?;
     Ok(())
 }
 
@@ -211,18 +211,20 @@ fn print_parts<Stops: ByteClass>(
 fn print_first<Stops: ByteClass>(
     out: &mut Vec<u8>,
     at: usize,
-    repertoire: Repertoire,
-    first: bool,
+    layout: PairLayout<'_>,
     encoding: LineEncoding,
     part: Part<'_>,
 ) -> Result<usize, UnescapeError>
     requires at { at ≤ length out.old.items }
-    requires stops { StopsIn Stops.holds encoding repertoire }
+    requires stops { StopsIn Stops.holds encoding layout.repertoire }
     requires well { IsWell encoding (bytes_of part) }
-    ensures printed { Prints (meaning_in encoding (Stops.holds backslash) (bytes_of part.entry)) (key_bytes repertoire first) out.old.items at out.new.items result }
+    ensures printed { let key = key_bytes layout.entry.repertoire layout.entry.first in
+        Prints (meaning_in encoding (Stops.holds backslash) (bytes_of part.entry)) key out.old.items at out.new.items result }
     ensures same { take at out.new.items ≡ take at out.old.items }
     ensures longer { length out.old.items ≤ length out.new.items }
 {
+    let repertoire = layout.repertoire;
+    let first = layout.first;
     let end = print_bytes::<Stops>(out, at, repertoire, encoding, part)?;
     if first && begins_like_byte_order_mark(&out[at..end]) {
         return print_with_first_escaped::<Stops>(out, at, repertoire, encoding, part);
@@ -264,20 +266,18 @@ fn print_with_first_escaped<Stops: ByteClass>(
 #[inline(always)]
 pub fn print_texts(
     line: &mut LineBuffer,
-    repertoire: Repertoire,
-    first: bool,
+    layout: PairLayout<'_>,
     key: &str,
     value: &str,
-    separator: &str,
-    ending: &str,
 ) -> Result<(), AllocError>
-    ensures appended { let value = puts_of repertoire (chars value.now) in
-        let bytes = key_bytes repertoire first (chars key.now) ++ (separator.now ++ (value ++ ending.now)) in
+    ensures appended { let l = layout.entry in
+        let value = puts_of l.repertoire (chars value.now) in
+        let bytes = key_bytes l.repertoire l.first (chars key.now) ++ (l.separator.now ++ (value ++ l.ending.now)) in
         AppendsOnOk line.old bytes result line.new }
     ensures unchanged { OnErr result (line.new ≡ line.old) }
 {
     let pair = Pair::literal(key, value);
-    match print_pair(line, repertoire, first, pair, separator, ending) {
+    match print_pair(line, layout, pair) {
         Ok(()) => Ok(()),
         // No escape is malformed, since a backslash begins none.
         Err(_) => Err(AllocError),
@@ -322,33 +322,43 @@ pub fn print_value(
 ) -> Result<(), AllocError>
     ensures { AppendsOnOk line.old (value_bytes repertoire after_blanks (chars text.now)) result line.new }
 {
-    let bytes = text.as_bytes();
-    match print_value_in(
-        line,
-        repertoire,
-        after_blanks,
-        LineEncoding::Utf8,
-        false,
-        bytes,
-    ) {
+    let value = Spelt {
+        encoding: LineEncoding::Utf8,
+        escaped: false,
+        bytes: text.as_bytes(),
+    };
+    match print_value_in(line, repertoire, after_blanks, value) {
         Ok(()) => Ok(()),
         // No escape is malformed, since a backslash begins none.
         Err(_) => Err(AllocError),
     }
 }
 
-// Prints the value that bytes mean, in which a backslash begins an escape if `escaped`.
+// Bytes that mean a text, and how they are read.
+#[derive(Clone, Copy)]
+struct Spelt<'a> {
+    encoding: LineEncoding,
+    // Whether a backslash begins an escape.
+    escaped: bool,
+    bytes: &'a [u8],
+}
+
+// Prints the value that bytes mean.
 fn print_value_in(
     line: &mut LineBuffer,
     repertoire: Repertoire,
     after_blanks: bool,
-    encoding: LineEncoding,
-    escaped: bool,
-    bytes: &[u8],
+    value: Spelt<'_>,
 ) -> Result<(), UnescapeError>
-    requires { IsWell encoding bytes.now }
-    ensures { PrintsMeant (meaning_in encoding escaped bytes.now) (value_bytes repertoire after_blanks) line.old result line.new }
+    requires { IsWell value.encoding value.bytes.now }
+    ensures { let v = value.entry in
+        PrintsMeant (meaning_in v.encoding v.escaped v.bytes.now) (value_bytes repertoire after_blanks) line.old result line.new }
 {
+    let Spelt {
+        encoding,
+        escaped,
+        bytes,
+    } = value;
     if bytes.is_empty() {
         return Ok(());
     }

@@ -20,8 +20,8 @@ use properties_text::encoding::LineEncoding;
 use properties_text::escape::UnescapeError;
 use properties_text::parse::Span;
 use properties_text::print::{
-    LineBuffer, Pair, Place, Repertoire, print_pair, print_readable_pair, print_readable_texts,
-    print_text, print_texts,
+    LineBuffer, Pair, PairLayout, Place, Repertoire, print_pair, print_readable_pair,
+    print_readable_texts, print_text, print_texts,
 };
 use std::alloc::{AllocError, Global};
 use std::io;
@@ -178,13 +178,16 @@ impl Engine {
     {
         let repertoire = self.repertoire();
         self.line.clear();
-        let first = self.lines == 0;
-        let separator = self.settings.kv_separator();
-        let ending = ending_text(self.settings.line_ending());
+        let layout = PairLayout {
+            repertoire,
+            first: self.lines == 0,
+            separator: self.settings.kv_separator(),
+            ending: ending_text(self.settings.line_ending()),
+        };
         if readable {
-            return print_readable_pair(&mut self.line, repertoire, first, pair, separator, ending);
+            return print_readable_pair(&mut self.line, layout, pair);
         }
-        print_pair(&mut self.line, repertoire, first, pair, separator, ending)
+        print_pair(&mut self.line, layout, pair)
     }
 
     // Builds the bytes of the line.
@@ -207,15 +210,13 @@ impl Engine {
                 if self.settings.readable() {
                     return self.build_readable(key, value);
                 }
-                print_texts(
-                    &mut self.line,
+                let layout = PairLayout {
                     repertoire,
-                    self.lines == 0,
-                    key,
-                    value,
-                    self.settings.kv_separator(),
-                    ending_text(self.settings.line_ending()),
-                )
+                    first: self.lines == 0,
+                    separator: self.settings.kv_separator(),
+                    ending: ending_text(self.settings.line_ending()),
+                };
+                print_texts(&mut self.line, layout, key, value)
             }
         }
     }
@@ -232,15 +233,13 @@ impl Engine {
     {
         let repertoire = self.repertoire();
         self.line.clear();
-        print_readable_texts(
-            &mut self.line,
+        let layout = PairLayout {
             repertoire,
-            self.lines == 0,
-            key,
-            value,
-            self.settings.kv_separator(),
-            ending_text(self.settings.line_ending()),
-        )
+            first: self.lines == 0,
+            separator: self.settings.kv_separator(),
+            ending: ending_text(self.settings.line_ending()),
+        };
+        print_readable_texts(&mut self.line, layout, key, value)
     }
 
     fn print_comment(&mut self, text: &str) -> Result<(), AllocError>

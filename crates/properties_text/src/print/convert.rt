@@ -32,6 +32,14 @@ struct Front<'a> {
     rest: &'a [u8],
 }
 
+// How the spellings of a text are converted: from its encoding to a repertoire, and whether escapes become characters.
+#[derive(Clone, Copy)]
+struct Respelling {
+    repertoire: Repertoire,
+    readable: bool,
+    encoding: LineEncoding,
+}
+
 /// Returns a text, each of whose spellings is converted: a character that the repertoire lacks is escaped, and if
 /// `readable`, the spelling of a non-ASCII character that it has becomes the character. Fails if memory runs out.
 pub fn convert_text(
@@ -47,10 +55,23 @@ pub fn convert_text(
     if !readable && is_copied(encoding, repertoire) {
         return LineBuffer::from_slice(alloc, text);
     }
+    let how = Respelling {
+        repertoire,
+        readable,
+        encoding,
+    };
+    convert_units(alloc, how, text)
+}
+
+// Returns a text, each of whose spellings is converted.
+fn convert_units(alloc: Global, how: Respelling, text: &[u8]) -> Result<LineBuffer, AllocError>
+    requires { IsWell how.encoding text.now }
+    ensures { IfOk result (λ line. line ≡ converted_in how.repertoire how.readable how.encoding text.now) }
+{
     let mut line = LineBuffer::new(alloc);
     let mut rest = text;
     while !rest.is_empty() {
-        rest = convert_front(&mut line, repertoire, readable, encoding, rest)?;
+        rest = convert_front(&mut line, how, rest)?;
     }
     Ok(line)
 }
@@ -59,55 +80,39 @@ pub fn convert_text(
 #[inline(always)]
 fn convert_front<'a>(
     line: &mut LineBuffer,
-    repertoire: Repertoire,
-    readable: bool,
-    encoding: LineEncoding,
+    how: Respelling,
     text: &'a [u8],
 ) -> Result<&'a [u8], AllocError>
-    requires well { IsWell encoding text.now }
+    requires well { IsWell how.encoding text.now }
     requires some { 0 < length text.now }
-    ensures well { IfOk result (λ rest. IsWell encoding rest.now) }
+    ensures well { IfOk result (λ rest. IsWell how.encoding rest.now) }
     ensures shorter { IfOk result (λ rest. length rest.now < length text.now) }
     ensures converted { IfOk result (λ rest.
-        line.old ++ converted_in repertoire readable encoding text.now ≡ line.new ++ converted_in repertoire readable encoding rest.now) }
+        line.old ++ converted_in how.repertoire how.readable how.encoding text.now ≡ line.new ++ converted_in how.repertoire how.readable how.encoding rest.now) }
 {
     make_room(
         &mut line.bytes,
         line.filled,
         text.len().saturating_add(ROOM),
     )?;
-    let front = put_front(
-        &mut line.bytes,
-        line.filled,
-        repertoire,
-        readable,
-        encoding,
-        text,
-    );
+    let front = put_front(&mut line.bytes, line.filled, how, text);
     line.filled = front.end;
     Ok(front.rest)
 }
 
 // Copies a run, and converts the units at which it stops.
 #[inline(always)]
-fn put_front<'a>(
-    out: &mut [u8],
-    at: usize,
-    repertoire: Repertoire,
-    readable: bool,
-    encoding: LineEncoding,
-    text: &'a [u8],
-) -> Front<'a>
-    requires well { IsWell encoding text.now }
+fn put_front<'a>(out: &mut [u8], at: usize, how: Respelling, text: &'a [u8]) -> Front<'a>
+    requires well { IsWell how.encoding text.now }
     requires some { 0 < length text.now }
     requires room { at + (length text.now + 32) ≤ length out.old }
     ensures same_room { length out.new ≡ length out.old }
     ensures within { result.end ≤ length out.new }
     ensures shorter { length result.rest.now < length text.now }
-    ensures converted { IsConvertedFront repertoire readable encoding out.old at text.now result.end result.rest.now out.new }
+    ensures converted { IsConvertedFront how.repertoire how.readable how.encoding out.old at text.now result.end result.rest.now out.new }
 {
-    let run = copy_front(out, at, text, run_length(readable, text));
-    put_units(out, run.end, repertoire, readable, encoding, run.rest)
+    let run = copy_front(out, at, text, run_length(how.readable, text));
+    put_units(out, run.end, how, run.rest)
 }
 
 // The length of the run at the front, which stays as it is: up to a stop; or if spellings are kept, up to a non-ASCII byte
@@ -144,20 +149,13 @@ fn first_of<C: ByteClass>(text: &[u8]) -> usize
 
 // Converts the units at which a run stops, as long as there is room.
 #[inline(always)]
-fn put_units<'a>(
-    out: &mut [u8],
-    at: usize,
-    repertoire: Repertoire,
-    readable: bool,
-    encoding: LineEncoding,
-    text: &'a [u8],
-) -> Front<'a>
-    requires well { IsWell encoding text.now }
+fn put_units<'a>(out: &mut [u8], at: usize, how: Respelling, text: &'a [u8]) -> Front<'a>
+    requires well { IsWell how.encoding text.now }
     requires room { at + 16 ≤ length out.old }
     ensures same_room { length out.new ≡ length out.old }
     ensures within { result.end ≤ length out.new }
     ensures shorter { 0 < length text.now → is_stop (get_or text.now 0 0) ≡ true → length result.rest.now < length text.now }
-    ensures converted { IsConvertedFront repertoire readable encoding out.old at text.now result.end result.rest.now out.new }
+    ensures converted { IsConvertedFront how.repertoire how.readable how.encoding out.old at text.now result.end result.rest.now out.new }
 {
     let mut front = Front {
         end: at,
@@ -167,36 +165,29 @@ fn put_units<'a>(
         && Stops::contains(front.rest[0])
         && out.len() - front.end >= LONGEST
     {
-        front = put_unit(out, front.end, repertoire, readable, encoding, front.rest);
+        front = put_unit(out, front.end, how, front.rest);
     }
     front
 }
 
 // Converts the unit at the front of a text, which is a stop.
 #[inline(always)]
-fn put_unit<'a>(
-    out: &mut [u8],
-    at: usize,
-    repertoire: Repertoire,
-    readable: bool,
-    encoding: LineEncoding,
-    text: &'a [u8],
-) -> Front<'a>
-    requires well { IsWell encoding text.now }
+fn put_unit<'a>(out: &mut [u8], at: usize, how: Respelling, text: &'a [u8]) -> Front<'a>
+    requires well { IsWell how.encoding text.now }
     requires some { 0 < length text.now }
     requires stop { is_stop (get_or text.now 0 0) ≡ true }
     requires room { at + 16 ≤ length out.old }
     ensures same_room { length out.new ≡ length out.old }
     ensures within { result.end ≤ length out.new }
-    ensures unit { IsUnitFront repertoire readable encoding out.old at text.now result.end result.rest.now out.new }
+    ensures unit { IsUnitFront how.repertoire how.readable how.encoding out.old at text.now result.end result.rest.now out.new }
 {
     if text[0] != b'\\' {
-        let first = encoding.first_character(text);
-        let end = put_literal(out, at, repertoire, first.character);
+        let first = how.encoding.first_character(text);
+        let end = put_literal(out, at, how.repertoire, first.character);
         return after(end, text, first.length);
     }
-    match read_escape(encoding, text) {
-        Ok(spelt) => put_spelling(out, at, repertoire, readable, encoding, text, spelt),
+    match read_escape(how.encoding, text) {
+        Ok(spelt) => put_spelling(out, at, how, text, spelt),
         // No spelling begins here: the backslash and the `u` stay.
         Err(_) => copy_front(out, at, text, 2),
     }
@@ -207,37 +198,36 @@ fn put_unit<'a>(
 fn put_spelling<'a>(
     out: &mut [u8],
     at: usize,
-    repertoire: Repertoire,
-    readable: bool,
-    encoding: LineEncoding,
+    how: Respelling,
     text: &'a [u8],
     spelt: ReadCharacter,
 ) -> Front<'a>
-    requires well { IsWell encoding text.now }
-    requires read { IsRead encoding text.now spelt }
+    requires well { IsWell how.encoding text.now }
+    requires read { IsRead how.encoding text.now spelt }
     requires escape { get_or text.now 0 0 ≡ backslash }
     requires room { at + 16 ≤ length out.old }
     ensures same_room { length out.new ≡ length out.old }
     ensures within { result.end ≤ length out.new }
-    ensures unit { IsUnitFront repertoire readable encoding out.old at text.now result.end result.rest.now out.new }
+    ensures unit { IsUnitFront how.repertoire how.readable how.encoding out.old at text.now result.end result.rest.now out.new }
 {
     if spelt.character.is_ascii() {
         return copy_front(out, at, text, spelt.length);
     }
-    let is_held = has(repertoire, spelt.character);
+    let readable = how.readable;
+    let is_held = has(how.repertoire, spelt.character);
     if begins_unicode(text) {
         if is_held && readable {
-            let end = put_literal(out, at, repertoire, spelt.character);
+            let end = put_literal(out, at, how.repertoire, spelt.character);
             return after(end, text, spelt.length);
         }
         return copy_front(out, at, text, spelt.length);
     }
     if is_held && !readable {
         out[at] = b'\\';
-        let end = put_literal(out, at + 1, repertoire, spelt.character);
+        let end = put_literal(out, at + 1, how.repertoire, spelt.character);
         return after(end, text, spelt.length);
     }
-    let end = put_literal(out, at, repertoire, spelt.character);
+    let end = put_literal(out, at, how.repertoire, spelt.character);
     after(end, text, spelt.length)
 }
 

@@ -7,8 +7,8 @@ ghost use Rattle.properties_text.specs.Printing.{AppendsOnOk, key_bytes, puts_of
 ghost use Rattle.properties_text.specs.PrintedTexts.{IsPair, PrintsPair};
 
 use super::{
-    Escaped, EscapedAscii, LineBuffer, Literal, LiteralAscii, Pair, Part, Repertoire, is_copied,
-    print_parts, print_value_in,
+    Escaped, EscapedAscii, LineBuffer, Literal, LiteralAscii, Pair, PairLayout, Part, Spelt,
+    is_copied, print_parts, print_value_in,
 };
 use crate::escape::UnescapeError;
 use crate::parse::are_blanks;
@@ -18,23 +18,27 @@ use std::alloc::AllocError;
 /// [`print_value`](super::print_value) prints it. Fails if memory runs out.
 ///
 /// ```text
-/// print_readable_texts(&mut line, repertoire, false, "a b", "c d", "=", "\n")?; // appends `a\ b=c d` and a line feed
+/// let layout = PairLayout {
+///     repertoire,
+///     first: false,
+///     separator: "=",
+///     ending: "\n",
+/// };
+/// print_readable_texts(&mut line, layout, "a b", "c d")?; // appends `a\ b=c d` and a line feed
 /// ```
 pub fn print_readable_texts(
     line: &mut LineBuffer,
-    repertoire: Repertoire,
-    first: bool,
+    layout: PairLayout<'_>,
     key: &str,
     value: &str,
-    separator: &str,
-    ending: &str,
 ) -> Result<(), AllocError>
-    ensures { let value = value_bytes repertoire (is_blanks (chars separator.now)) (chars value.now) in
-        let bytes = key_bytes repertoire first (chars key.now) ++ (separator.now ++ (value ++ ending.now)) in
+    ensures { let l = layout.entry in
+        let value = value_bytes l.repertoire (is_blanks (chars l.separator.now)) (chars value.now) in
+        let bytes = key_bytes l.repertoire l.first (chars key.now) ++ (l.separator.now ++ (value ++ l.ending.now)) in
         AppendsOnOk line.old bytes result line.new }
 {
     let pair = Pair::literal(key, value);
-    match print_readable_pair(line, repertoire, first, pair, separator, ending) {
+    match print_readable_pair(line, layout, pair) {
         Ok(()) => Ok(()),
         // No escape is malformed, since a backslash begins none.
         Err(_) => Err(AllocError),
@@ -46,15 +50,13 @@ pub fn print_readable_texts(
 /// part of the pair may have been appended.
 pub fn print_readable_pair(
     line: &mut LineBuffer,
-    repertoire: Repertoire,
-    first: bool,
+    layout: PairLayout<'_>,
     pair: Pair<'_>,
-    separator: &str,
-    ending: &str,
 ) -> Result<(), UnescapeError>
     requires { IsPair pair }
-    ensures { let puts = value_bytes repertoire (is_blanks (chars separator.now)) in
-        PrintsPair repertoire first puts line.old pair.entry separator.now ending.now result line.new }
+    ensures { let l = layout.entry in
+        let puts = value_bytes l.repertoire (is_blanks (chars l.separator.now)) in
+        PrintsPair l.repertoire l.first puts line.old pair.entry l.separator.now l.ending.now result line.new }
 {
     let Pair {
         encoding,
@@ -68,11 +70,18 @@ pub fn print_readable_pair(
         key,
         value: Part::of(""),
     };
-    print_front(line, repertoire, first, front, separator, "")?;
-    let after_blanks = are_blanks(separator);
-    let bytes = &value.bytes[..value.size];
-    print_value_in(line, repertoire, after_blanks, encoding, escaped, bytes)?;
-    line.extend(ending.as_bytes())?;
+    let front_layout = PairLayout {
+        ending: "",
+        ..layout
+    };
+    print_front(line, front_layout, front)?;
+    let spelt = Spelt {
+        encoding,
+        escaped,
+        bytes: &value.bytes[..value.size],
+    };
+    print_value_in(line, layout.repertoire, are_blanks(layout.separator), spelt)?;
+    line.extend(layout.ending.as_bytes())?;
     Ok(())
 }
 
@@ -80,25 +89,17 @@ pub fn print_readable_pair(
 // it from being inlined in the first, where it takes the time of each pair.
 fn print_front(
     line: &mut LineBuffer,
-    repertoire: Repertoire,
-    first: bool,
+    layout: PairLayout<'_>,
     pair: Pair<'_>,
-    separator: &str,
-    ending: &str,
 ) -> Result<(), UnescapeError>
     requires { IsPair pair }
-    ensures { PrintsPair repertoire first (puts_of repertoire) line.old pair.entry separator.now ending.now result line.new }
+    ensures { let l = layout.entry in
+        PrintsPair l.repertoire l.first (puts_of l.repertoire) line.old pair.entry l.separator.now l.ending.now result line.new }
 {
-    match (pair.escaped, is_copied(pair.encoding, repertoire)) {
-        (true, true) => { print_parts::<Escaped>(line, repertoire, first, pair, separator, ending) }
-        (true, false) => {
-            print_parts::<EscapedAscii>(line, repertoire, first, pair, separator, ending)
-        }
-        (false, true) => {
-            print_parts::<Literal>(line, repertoire, first, pair, separator, ending)
-        }
-        (false, false) => {
-            print_parts::<LiteralAscii>(line, repertoire, first, pair, separator, ending)
-        }
+    match (pair.escaped, is_copied(pair.encoding, layout.repertoire)) {
+        (true, true) => print_parts::<Escaped>(line, layout, pair),
+        (true, false) => print_parts::<EscapedAscii>(line, layout, pair),
+        (false, true) => print_parts::<Literal>(line, layout, pair),
+        (false, false) => print_parts::<LiteralAscii>(line, layout, pair),
     }
 }

@@ -162,35 +162,34 @@ fn print_rest<Stops: ByteClass>(
         end: at,
     };
     while put.read < size {
-        put = print_stops::<Stops>(out, put.end, repertoire, encoding, &bytes[..size], put.read)?;
+        put = print_stops::<Stops>(out, put, repertoire, encoding, &bytes[..size])?;
         put = print_run::<Stops>(out, put.end, part, put.read)?;
     }
     Ok(put.end)
 }
 
-// Makes room for a character, and puts the characters at which a run stops, from index `from` on.
+// Makes room for a character, and puts the characters at which a run stops.
 #[inline(always)]
 fn print_stops<Stops: ByteClass>(
     out: &mut Vec<u8>,
-    at: usize,
+    start: Put,
     repertoire: Repertoire,
     encoding: LineEncoding,
     text: &[u8],
-    from: usize,
 ) -> Result<Put, UnescapeError>
-    requires from { from ≤ length text.now }
-    requires at { at ≤ length out.old.items }
+    requires from { start.read ≤ length text.now }
+    requires at { start.end ≤ length out.old.items }
     requires stops { StopsIn Stops.holds encoding repertoire }
-    requires well { IsWell encoding (past_in encoding repertoire (drop from text.now)) }
-    ensures put { PutsStops encoding repertoire (Stops.holds backslash) out.old.items at text.now from out.new.items result }
-    ensures same { take at out.new.items ≡ take at out.old.items }
+    requires well { IsWell encoding (past_in encoding repertoire (drop start.read text.now)) }
+    ensures put { PutsStops encoding repertoire (Stops.holds backslash) out.old.items start.end text.now start.read out.new.items result }
+    ensures same { take start.end out.new.items ≡ take start.end out.old.items }
     ensures longer { length out.old.items ≤ length out.new.items }
-    ensures after { IfOk result (λ put. at ≤ put.end) }
-    ensures onwards { IfOk result (λ put. from ≤ put.read) }
-    ensures past { IfOk result (λ put. from < length text.now → Stops.holds (get_or text.now from 0) ≡ true → from < put.read) }
+    ensures after { IfOk result (λ put. start.end ≤ put.end) }
+    ensures onwards { IfOk result (λ put. start.read ≤ put.read) }
+    ensures past { IfOk result (λ put. start.read < length text.now → Stops.holds (get_or text.now start.read 0) ≡ true → start.read < put.read) }
 {
-    make_room(out, at, LONGEST)?;
-    put_stops::<Stops>(out, at, repertoire, encoding, text, from)
+    make_room(out, start.end, LONGEST)?;
+    put_stops::<Stops>(out, start, repertoire, encoding, text)
 }
 
 // Prints the characters that can't be copied in blocks, while there is room, and a single byte between two of them,
@@ -198,27 +197,23 @@ fn print_stops<Stops: ByteClass>(
 #[inline(always)]
 fn put_stops<Stops: ByteClass>(
     out: &mut [u8],
-    at: usize,
+    start: Put,
     repertoire: Repertoire,
     encoding: LineEncoding,
     text: &[u8],
-    from: usize,
 ) -> Result<Put, UnescapeError>
-    requires from { from ≤ length text.now }
-    requires room { at + 12 ≤ length out.old }
+    requires from { start.read ≤ length text.now }
+    requires room { start.end + 12 ≤ length out.old }
     requires stops { StopsIn Stops.holds encoding repertoire }
-    requires well { IsWell encoding (past_in encoding repertoire (drop from text.now)) }
+    requires well { IsWell encoding (past_in encoding repertoire (drop start.read text.now)) }
     ensures same_room { length out.new ≡ length out.old }
-    ensures put { PutsStops encoding repertoire (Stops.holds backslash) out.old at text.now from out.new result }
-    ensures same { take at out.new ≡ take at out.old }
-    ensures after { IfOk result (λ put. at ≤ put.end) }
-    ensures onwards { IfOk result (λ put. from ≤ put.read) }
-    ensures past { IfOk result (λ put. from < length text.now → Stops.holds (get_or text.now from 0) ≡ true → from < put.read) }
+    ensures put { PutsStops encoding repertoire (Stops.holds backslash) out.old start.end text.now start.read out.new result }
+    ensures same { take start.end out.new ≡ take start.end out.old }
+    ensures after { IfOk result (λ put. start.end ≤ put.end) }
+    ensures onwards { IfOk result (λ put. start.read ≤ put.read) }
+    ensures past { IfOk result (λ put. start.read < length text.now → Stops.holds (get_or text.now start.read 0) ≡ true → start.read < put.read) }
 {
-    let mut put = Put {
-        read: from,
-        end: at,
-    };
+    let mut put = start;
     while put.read < text.len() && out.len() - put.end >= LONGEST {
         let rest = &text[put.read..];
         if begins_with_stop::<Stops>(rest) {

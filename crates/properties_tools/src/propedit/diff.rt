@@ -22,7 +22,7 @@ use crate::propedit::request::{Comparison, Report};
 use crate::propedit::table::{Table, table_of};
 use counted_io::{CountedRead, CountedWrite};
 use java_properties::{Encoding, PropertiesError, read_source, write_source};
-use properties_text::print::{LineBuffer, Repertoire, print_readable_texts};
+use properties_text::print::{LineBuffer, PairLayout, Repertoire, print_readable_texts};
 use std::alloc::{AllocError, Global};
 
 /// Why two sources aren't compared, or what differs isn't printed.
@@ -424,7 +424,13 @@ fn push_pair(line: &mut LineBuffer, key: &str, value: &str) -> Result<(), AllocE
     ensures { OnOk result (line.new ≡ line.old ++ pair_line (chars key.now) (chars value.now)) }
 {
     let repertoire = repertoire_for(key, value);
-    print_readable_texts(line, repertoire, true, key, value, "=", "\n")
+    let layout = PairLayout {
+        repertoire,
+        first: true,
+        separator: "=",
+        ending: "\n",
+    };
+    print_readable_texts(line, layout, key, value)
 }
 
 fn repertoire_for(key: &str, value: &str) -> Repertoire

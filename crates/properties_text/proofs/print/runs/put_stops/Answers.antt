@@ -6,7 +6,7 @@ use Rattle.properties_text.proofs.print.runs.put_stops.Goals as goal
 pub returns-in-Err-clause-put : goal.returns-in-Err-clause-put
 returns-in-Err-clause-put g c =
     let first = rw (take_rest, drop_more c.args.text.now c.loop-put.put.read 0 c.loop-put-test.true) at c.begins_with_stop.ensures in
-    stop-broken c.args.out.now c.args.at c.args.from c.requires.stops c.loop-put-test.true (sym first ∙ c.if-begins_with_stop.true)
+    stop-broken c.args.out.now c.args.start.end c.args.start.read c.requires.stops c.loop-put-test.true (sym first ∙ c.if-begins_with_stop.true)
     c.loop-put.invariant.put (rw take_rest at c.in-Err.ensures)
 
 pub loop-put-preserved-then-begins_with_stop : goal.loop-put-preserved-then-begins_with_stop
@@ -15,7 +15,7 @@ loop-put-preserved-then-begins_with_stop g c =
     let put = c.put_printed-end in
     let first = rw (take_rest, drop_more c.args.text.now c.loop-put.put.read 0 c.loop-put-test.true) at c.begins_with_stop.ensures in
     let room : put.result ≤ length put.new.out = omega (arith, put.ensures.within, put.ensures.same_room, c.if-out-put-ge-LONGEST.true) in
-    let kept = front-kept c.loop-put.out put.new.out _ c.args.at c.loop-put.put.end put.result h.room (omega (arith, c.if-out-put-ge-LONGEST.true)) room
+    let kept = front-kept c.loop-put.out put.new.out _ c.args.start.end c.loop-put.put.end put.result h.room (omega (arith, c.if-out-put-ge-LONGEST.true)) room
     put.ensures.put in
     record {
       same = put.ensures.same_room ∙ h.same;
@@ -36,7 +36,7 @@ loop-put-preserved g c =
     let room : put.result ≤ length put.new.out = omega (arith, put.ensures.within, put.ensures.length, c.if-out-put-ge-LONGEST.true) in
     let before : c.loop-put.put.end ≤ length c.loop-put.out = omega (arith, c.if-out-put-ge-LONGEST.true) in
     let run = run-byte c.loop-put-test.true clear put.ensures.within (rw rest at put.ensures.printed) in
-    let kept = run-kept c.args.at h.room before run room in
+    let kept = run-kept c.args.start.end h.room before run room in
     record {
       same = put.ensures.length ∙ h.same;
       front = kept.1 ∙ h.front;

@@ -6,12 +6,12 @@ use Rattle.properties_text.proofs.print.runs.put_stops.Given as goal
 abbrev pub invariant-loop-put : goal.invariant-loop-put
 invariant-loop-put g l = record {
   same : length l.out ≡ length l.fn.out;
-  front : take l.at l.out ≡ take l.at l.fn.out;
-  room : l.at ≤ l.put.end;
-  onwards : l.from ≤ l.put.read;
-  start : l.put.read ≡ l.from → l.put.end ≡ l.at;
-  put : ArePut l.encoding l.repertoire (g.Stops.ByteClass.holds backslash) (from_on l.encoding l.repertoire (g.Stops.ByteClass.holds backslash) l.fn.out l.at
-      l.text l.from) l.text l.put l.out;
+  front : take l.fn.start.end l.out ≡ take l.fn.start.end l.fn.out;
+  room : l.fn.start.end ≤ l.put.end;
+  onwards : l.fn.start.read ≤ l.put.read;
+  start : l.put.read ≡ l.fn.start.read → l.put.end ≡ l.fn.start.end;
+  put : ArePut l.encoding l.repertoire (g.Stops.ByteClass.holds backslash) (from_on l.encoding l.repertoire (g.Stops.ByteClass.holds backslash) l.fn.out l.fn.start.end
+      l.text l.fn.start.read) l.text l.put l.out;
 }
 
 abbrev pub decreases-loop-put : goal.decreases-loop-put
