@@ -4,9 +4,10 @@ use Rattle.std.specs.Prelude.{◌⊎◌, ◌==◌, ◌&&◌, not, bytes_eq, Opti
 use Rattle.std.specs.Global.{Vec}
 use Rattle.std.specs.Option.{unwrap_or}
 use Rattle.std.specs.Str.{chars}
-use Rattle.std.proofs.Math.Seq.{drop-append-add, drop-append_seam, take-add, take-append_seam}
+use Rattle.std.proofs.lemmas.Bool.{cases_Bool}
+use Rattle.std.proofs.Math.Seq.{drop-append_seam, take-add, take-append_seam}
 use Rattle.std.proofs.lemmas.Bool.Decides.{nat_tests}
-use Rattle.std.proofs.lemmas.List.{drop-append-le, drop-drop, length-drop, length-take-le, take-append-drop, take-append-le}
+use Rattle.std.proofs.lemmas.List.{drop-drop, length-drop, take-append-drop}
 use Rattle.std.proofs.lemmas.Str.{chars-nil}
 use Rattle.std.proofs.lemmas.Slice.Eq.{bytes_eq-Decides}
 use Rattle.properties_format.specs.Text.{equals_sign, is_blanks, is_empty}
@@ -36,12 +37,13 @@ use Rattle.properties_editing.specs.Private.Sources.{PrintsIn}
 use Rattle.properties_editing.specs.Editing.{MakesEditsFor}
 use Rattle.properties_editing.specs.declared.source.Comments.{Comments}
 use Rattle.properties_editing.specs.declared.source.Comments.TheVariants.{PassedOver, Read}
-use Rattle.properties_editing.specs.Views.{GivesNext, AreGiven, AreOfPair, IsViewOf, ArePlaces, OpenView, TakesNext, line_of, past, size_before}
+use Rattle.properties_editing.specs.Views.{GivesNext, AreGiven, AreOfPair, IsViewOf, ArePlaces, OpenView, TakesNext, line_of, past, size_before, with_bytes}
 use Rattle.properties_editing.specs.declared.group.PartPlaces.{PartPlaces}
 use Rattle.properties_editing.specs.declared.group.ViewedGroup.{ViewedGroup}
-use Rattle.properties_renaming.specs.Renaming.{AreAlike, ArePrinted, AreRekeyed, IsRekeyed, IsRenamed, Replaced, with_new, with_old, is_join, key_text, later, past_joins}
+use Rattle.properties_renaming.specs.Renaming.{AreAlike, ArePrinted, AreRekeyed, IsRekeyed, IsRenamed, Replaced, with_new, with_old, key_text}
 use Rattle.properties_renaming.specs.Private.Copied.{IsNew, IsReplacedIn, copied_to}
-use Rattle.properties_renaming.specs.Private.Renaming.{Names, PrintsKeys, IsAnyPair, IsRekeyedIn, IsSlice, TellsTaken, TellsThere, AreRenamed}
+use Rattle.properties_renaming.specs.Private.Renaming.{IsAmong, Names, PrintsKeys, IsAnyPair, IsRekeyedIn, IsSlice, TellsTaken, TellsThere, AreRenamed, is_join, later, past_joins}
+use Rattle.properties_renaming.proofs.KeyPlaces.{IsPlaced}
 use Rattle.properties_renaming.specs.declared.copied.Copied.{Copied}
 use Rattle.properties_renaming.specs.declared.renaming.Named.{Named}
 use Rattle.properties_renaming.specs.declared.renaming.Named.TheVariants.{Old, New, Other}
@@ -67,16 +69,9 @@ join-stops (b ∷ bs) h = rw h refl
 pub later-add : (a m n : ℕ) → later (a + m) (a + n) ≡ a + later m n
 later-add a m n = grind (arith, nat_tests)
 
-pub later-bound : (m n most : ℕ) → m ≤ most → n ≤ most → later m n ≤ most
-later-bound m n most h k = grind (arith, nat_tests)
-
-pub later-first : (m n : ℕ) → m ≤ later m n
-later-first m n = grind (arith, nat_tests)
-
-pub front-empty : (bytes : List ℕ) (start n : ℕ) → n ≤ length bytes → (start + n == start) ≡ is_empty (take n bytes)
-front-empty bytes start zero h = grind (arith, nat_tests)
-front-empty [] start (suc n) h = absurd (omega arith)
-front-empty (b ∷ bs) start (suc n) h = grind (arith, nat_tests)
+front-empty : (start : ℕ) (front : List ℕ) → (start + length front == start) ≡ is_empty front
+front-empty start [] = grind (arith, nat_tests)
+front-empty start (c ∷ front) = grind (arith, nat_tests)
 
 -- ---- a group that is a pair
 
@@ -120,49 +115,57 @@ copied-group v c h k = copied-more c v.start (length (group_bytes v.group)) k �
 pub rekeyed-in : (characters : Characters) (v : OpenView) (old new : Copied) (key : NewKey) (places : PartPlaces) (name value text : List ℕ) (n : ℕ)
     (first : Bool)
     → (let t : Repertoire = record { encoding = v.encoding; characters = characters } in
-    IsSlice v old.source.now → old.done ≤ v.start → n ≤ length (group_bytes v.group) → drop n (group_bytes v.group) ≡ past_joins (group_bytes v.group)
-    → AreOfPair v name value places → places.key_end ≤ v.start + length (group_bytes v.group)
+    IsSlice v old.source.now → old.done ≤ v.start → (at : AreOfPair v name value places)
+    → IsPlaced v.encoding v.group at.is_pair.indent name n (size_before at.key_end.0)
     → first ≡ (key.first && (v.start + n == v.start))
     → text ≡ encoded_text t.encoding (key_text t first (between_in (line_of v)) (chars key.text.now))
     → IsReplacedIn old (v.start + n) (later (v.start + n) places.key_end) text new → IsRekeyedIn t v old key new)
-rekeyed-in characters v old new key places name value text n first slice done within rest at ends is_first printed replaced =
+rekeyed-in characters v old new key places name value text n first slice done at k is_first printed replaced =
     let t : Repertoire = record { encoding = v.encoding; characters = characters } in
     let gb = group_bytes v.group in
     let s = old.source.now in
-    let size = size_before at.key_end.0 in
-    let m = later n size in
-    let end : later (v.start + n) places.key_end ≡ v.start + m = ap (later (v.start + n)) at.key_end.1 ∙ later-add v.start n size in
-    let place = at.key_end.1 in
-    let bound : m ≤ length gb = later-bound n size (length gb) within (omega arith) in
+    let m = length (k.front ++ k.old) in
+    let end : later (v.start + n) places.key_end ≡ v.start + m =
+    ap (later (v.start + n)) at.key_end.1 ∙ later-add v.start n (size_before at.key_end.0) ∙ ap (λ w. v.start + w) k.end in
+    let whole : gb ≡ (k.front ++ k.old) ++ k.back = k.whole ∙ sym (append_assoc k.front k.old k.back) in
+    let sizes : length gb ≡ m + length k.back = ap length whole ∙ length-append (k.front ++ k.old) k.back in
     let after = drop (length gb) (drop v.start s) in
-    let whole = slice-front v s slice in
-    let front : take n (drop v.start s) ≡ take n gb = ap (take n) whole ∙ take-append-le n gb after within in
-    let count : v.start + length gb - (v.start + m) ≡ length (drop m gb) = let left = length-drop m gb in omega arith in
-    let back : take (v.start + length gb - (v.start + m)) (drop (v.start + m) s) ≡ drop m gb =
-    ap₂ take count (sym (drop-drop m v.start s) ∙ ap (drop m) whole ∙ drop-append-le m gb after bound) ∙ take-append_seam (drop m gb) after in
-    let length_front : length (take n gb) ≡ n = length-take-le n gb within in
-    let key_bytes : text ≡ encoded_text t.encoding (key_text t (key.first && is_empty (take n gb)) at.is_pair.between (chars key.text.now)) =
+    let source : drop v.start s ≡ gb ++ after = slice-front v s slice in
+    let front : take n (drop v.start s) ≡ k.front =
+    ap₂ take k.start (source ∙ ap (λ w. w ++ after) k.whole ∙ append_assoc k.front (k.old ++ k.back) after) ∙ take-append_seam k.front ((k.old ++ k.back) ++ after) in
+    let count : v.start + length gb - (v.start + m) ≡ length k.back = omega arith in
+    let back : take (v.start + length gb - (v.start + m)) (drop (v.start + m) s) ≡ k.back =
+    ap₂ take count
+    (sym (drop-drop m v.start s)
+    ∙ ap (drop m) (source ∙ ap (λ w. w ++ after) whole ∙ append_assoc (k.front ++ k.old) k.back after)
+    ∙ drop-append_seam (k.front ++ k.old) (k.back ++ after))
+    ∙ take-append_seam k.back after in
+    let key_bytes : text ≡ encoded_text t.encoding (key_text t (key.first && is_empty k.front) at.is_pair.between (chars key.text.now)) =
     printed
     ∙ ap₂ (λ f b. encoded_text t.encoding (key_text t f b (chars key.text.now)))
-    (is_first ∙ ap (λ b. key.first && b) (front-empty gb v.start n within)) (between_in-pair (line_of v) name value at.is_pair) in
-    let bytes : copied_to new (v.start + length gb) ≡ (copied_to old (v.start + n) ++ text) ++ drop m gb =
+    (is_first ∙ ap (λ b. key.first && b) (ap (λ w. v.start + w == v.start) k.start ∙ front-empty v.start k.front))
+    (between_in-pair (line_of v) name value at.is_pair) in
+    let bytes : copied_to new (v.start + length gb) ≡ (copied_to old (v.start + n) ++ text) ++ k.back =
     ap₂ (λ d r. new.bytes.items ++ take (v.start + length gb - d) (drop d r)) (replaced.done ∙ end) replaced.source_is
     ∙ ap₂ (λ a b. a ++ b) replaced.bytes_are back in
-    let began : copied_to old (v.start + n) ≡ copied_to old v.start ++ take n gb =
+    let began : copied_to old (v.start + n) ≡ copied_to old v.start ++ k.front =
     copied-more old v.start n done ∙ ap (λ w. copied_to old v.start ++ w) front in
     record {
-      made = take n gb ++ (text ++ drop m gb);
+      made = k.front ++ (text ++ k.back);
       rekeyed = record {
         key = name;
         value = value;
         is_pair = at.is_pair;
-        front = take n gb;
-        division = sym (take-append-drop n gb) ∙ ap (λ w. take n gb ++ w) rest;
-        through = at.key_end.0;
-        bytes_are = ap₂ (λ a k. take n gb ++ (a ++ drop k gb)) key_bytes (ap (λ k. later k size) (sym length_front));
+        front = k.front;
+        old = k.old;
+        back = k.back;
+        whole = k.whole;
+        before = k.before;
+        through = k.through;
+        bytes_are = ap (λ a. k.front ++ (a ++ k.back)) key_bytes;
       };
       copied = bytes
-          ∙ ap (λ w. (w ++ text) ++ drop m gb) began
+          ∙ ap (λ w. (w ++ text) ++ k.back) began
           ∙ simp (append_assoc);
       done = let d = replaced.done ∙ end in omega arith;
       source_is = replaced.source_is;
@@ -189,6 +192,28 @@ held-push (f ∷ gs) g =
     let a = length-append f (held_in (gs ++ g ∷ [])) in
     let b = length-append f (held_in gs) in
     omega arith
+
+-- A group with bytes is one of all groups.
+none-among : (before : List (List HeldLine)) (g : List HeldLine) (after : List (List HeldLine)) → [] ≡ before ++ g ∷ after → ⊥
+none-among [] g after h = cc
+none-among (f ∷ before) g after h = cc
+
+bytes-front : (all before : List (List HeldLine)) (g : List HeldLine) (after : List (List HeldLine)) → with_bytes all ≡ before ++ g ∷ after
+    → (more : List (List HeldLine)) × (all ≡ before ++ g ∷ more)
+bytes-front [] before g after h = absurd (none-among before g after h)
+bytes-front (f ∷ []) before g after h = elim (cases_Bool (is_empty (group_bytes f))) [
+  | inl k ↦
+      let none : with_bytes (f ∷ []) ≡ [] = rw k refl in
+      absurd (none-among before g after (sym none ∙ h))
+  | inr k ↦
+      let one : with_bytes (f ∷ []) ≡ f ∷ [] = rw k refl in
+      (after, sym one ∙ h)
+]
+bytes-front (f ∷ i ∷ all) [] g after h = let t : f ≡ g = cc in (i ∷ all, ap (λ w. w ∷ i ∷ all) t)
+bytes-front (f ∷ i ∷ all) (d ∷ before) g after h =
+    let t : f ≡ d = cc in
+    let m = bytes-front (i ∷ all) before g after (cc) in
+    (m.0, ap₂ (λ v w. v ∷ w) t m.1)
 
 -- What was copied, and found, of the groups that a view gave so far.
 pub record IsUpTo (characters : Characters) (source old new : List ℕ) (v now : OpenView) (c : Copied) (is_there : Bool) (taken : Option ℕ)
@@ -244,7 +269,15 @@ pub one-key : (old new : List ℕ) (g : List HeldLine) → has_key old g ≡ tru
 one-key old new g h apart k = apart (grind (arith, HasKey-test new g k, bytes_eq-Decides))
 
 module _ {characters : Characters} {source old new : List ℕ} {v : OpenView} where
-  -- the next group is a slice of the source
+  -- the next group is one of the groups of the source, and a slice of it
+  pub next-among : {requested : Encoding} {now next : OpenView} {c : Copied} {is_there first : Bool} {taken : Option ℕ} → IsViewOf requested source v
+      → IsUpTo characters source old new v now c is_there taken first → (group : ViewedGroup) → TakesNext now group next → IsAmong next.encoding next.group
+  next-among {now = now} {next = next} o h group t =
+      let encoding : next.encoding ≡ v.encoding = ap (λ w. let o : OpenView = w in o.encoding) t.moves ∙ h.encoding in
+      let m = bytes-front o.given.all h.passed next.group next.to_come (sym o.given.are ∙ h.division ∙ ap (λ w. h.passed ++ w) t.takes) in
+      subst (λ e. IsAmong e next.group) (sym encoding)
+      (record { editable = o.editable; body = drop v.start source; groups = o.given.all; are = o.given.division; before = h.passed; after = m.0; division = m.1 })
+
   pub next-slice : {now next : OpenView} {c : Copied} {is_there first : Bool} {taken : Option ℕ}
       → IsUpTo characters source old new v now c is_there taken first → (group : List HeldLine)
       → now.to_come ≡ next.group ∷ next.to_come → next.start ≡ (past now).start → IsSlice next c.source.now
@@ -520,14 +553,6 @@ alike-behind {r} {key} {old} {new} x h = by h.parts h.printed h.old_is h.new_is
       new_is = ap (λ w. x ++ w) n ∙ sym (append_assoc x p.kept (p.new ++ with_new ps h.last));
     }
 
--- what a pair's new key leaves behind it
-behind-key : (gb front rest : List ℕ) (m : ℕ) → gb ≡ front ++ rest → length front ≤ m → gb ≡ front ++ (take (m - length front) rest ++ drop m gb)
-behind-key gb front rest m h l =
-    let n = m - length front in
-    let count : length front + n ≡ m = omega arith in
-    let back : drop m gb ≡ drop n rest = ap₂ drop (sym count) h ∙ drop-append-add front rest n in
-    h ∙ ap (λ w. front ++ w) (sym (take-append-drop n rest) ∙ ap (λ w. take n rest ++ w) (sym back))
-
 pub renamed-alike : (r : Repertoire) (old key : List ℕ) (first : Bool) (gs : List (List HeldLine)) (bytes : List ℕ) → AreRekeyed r old key first gs bytes
     → AreAlike r key (groups_bytes gs) bytes
 renamed-alike r old key first [] bytes h = record { parts = []; last = []; printed = tt; old_is = refl; new_is = h }
@@ -536,24 +561,19 @@ renamed-alike r old key first (g ∷ gs) bytes (made, more, inr other, is, rest)
     (alike-behind (group_bytes g) (renamed-alike r old key false gs more rest))
 renamed-alike r old key first (g ∷ gs) bytes (made, more, inl has, is, rest) =
     let k = has.1 in
-    let gb = group_bytes g in
-    let m = later (length k.front) (size_before k.through) in
     let text = encoded_text r.encoding (key_text r (first && is_empty k.front) k.is_pair.between key) in
-    let gone = take (m - length k.front) (past_joins gb) in
-    let behind = alike-behind (drop m gb) (renamed-alike r old key false gs more rest) in
-    let whole : gb ≡ k.front ++ (gone ++ drop m gb) =
-    behind-key gb k.front (past_joins gb) m k.division (later-first (length k.front) (size_before k.through)) in
+    let behind = alike-behind k.back (renamed-alike r old key false gs more rest) in
     record {
-      parts = record { kept = k.front; old = gone; new = text } ∷ behind.parts;
+      parts = record { kept = k.front; old = k.old; new = text } ∷ behind.parts;
       last = behind.last;
       printed = ((first && is_empty k.front, k.is_pair.between, refl), behind.printed);
-      old_is = ap (λ w. w ++ groups_bytes gs) whole
-          ∙ append_assoc k.front (gone ++ drop m gb) (groups_bytes gs)
-          ∙ ap (λ w. k.front ++ w) (append_assoc gone (drop m gb) (groups_bytes gs) ∙ ap (λ w. gone ++ w) behind.old_is);
+      old_is = ap (λ w. w ++ groups_bytes gs) k.whole
+          ∙ append_assoc k.front (k.old ++ k.back) (groups_bytes gs)
+          ∙ ap (λ w. k.front ++ w) (append_assoc k.old k.back (groups_bytes gs) ∙ ap (λ w. k.old ++ w) behind.old_is);
       new_is = is
           ∙ ap (λ w. w ++ more) k.bytes_are
-          ∙ append_assoc k.front (text ++ drop m gb) more
-          ∙ ap (λ w. k.front ++ w) (append_assoc text (drop m gb) more ∙ ap (λ w. text ++ w) behind.new_is);
+          ∙ append_assoc k.front (text ++ k.back) more
+          ∙ ap (λ w. k.front ++ w) (append_assoc text k.back more ∙ ap (λ w. text ++ w) behind.new_is);
     }
 
 pub source-alike : (r : Repertoire) (source old new result : List ℕ) → IsRenamed r source old new result → AreAlike (in_force r source) new source result

@@ -1,2 +1,4 @@
-pub mod Renaming
+pub mod Commented
+pub mod Laws
 pub mod Private
+pub mod Renaming

@@ -1,37 +1,50 @@
 -- A source in which a key has another name: of each pair with the key, only the bytes of the key are replaced.
 -- Source: java.util.Properties of Java SE 7, load and store (how a key is distinguished, and how it is written).
-use Rattle.std.specs.Prelude.{◌≡◌, ◌≢◌, ◌⊎◌, ℕ, ◌+◌, ◌==◌, nat_le, ◌&&◌, ◌||◌, Bool, true, false, if◌then◌else◌, List, [], ◌∷◌, ◌++◌, length, drop, Result, Ok, Err}
+use Rattle.std.specs.Prelude.{◌≡◌, ◌≢◌, ◌⊎◌, ℕ, ◌+◌, ◌&&◌, Bool, true, false, if◌then◌else◌, List, [], ◌∷◌, ◌++◌, length, Result, Ok, Err}
 use Rattle.std.specs.Global.{Vec}
-use Rattle.properties_format.specs.Text.{backslash, equals_sign, begins, is_blank, is_blanks, is_empty, is_line_ending}
+use Rattle.properties_format.specs.Text.{backslash, equals_sign, begins, is_blank, is_blanks, is_empty}
 use Rattle.properties_format.specs.Encoding.{Encoding, Repertoire, byte_order_mark, in_force}
 use Rattle.properties_format.specs.Lines.{joined}
-use Rattle.properties_format.specs.Split.{IsPair}
+use Rattle.properties_format.specs.Split.{AreBlanks, IsPair}
 use Rattle.properties_format.specs.Printing.{printed_key, encoded_text}
 use Rattle.properties_format.specs.Body.{HeldLine, HasKey, NoneHasKey, as_lines, group_bytes, held_in}
 use Rattle.properties_format.specs.Edited.{bom_of}
 use Rattle.properties_items.specs.Errors.{IsBareError}
 use Rattle.properties_items.specs.declared.error.ErrorKind.TheVariants as kind
 use Rattle.properties_editing.specs.Editing.{EditsWith, asked_for}
-use Rattle.properties_editing.specs.Views.{AreGiven, IsCutBehind, size_before}
+use Rattle.properties_editing.specs.Views.{AreGiven, IsCutBehind}
 use Rattle.properties_editing.specs.declared.source.SourceOptions.{SourceOptions}
 use Rattle.properties_renaming.specs.declared.renaming.RenameError.{RenameError}
 use Rattle.properties_renaming.specs.declared.renaming.RenameError.TheVariants.{Source, NoKey, KeyTaken}
 
 -- ---- where the key of a pair is
 
--- whether the first byte is a blank, or a part of what joins two lines: a backslash before a line ending, or that ending
-abbrev pub is_join : List ℕ → Bool
-is_join [] = false
-is_join (b ∷ bs) = is_blank b || (is_line_ending b || (b == backslash && begins is_line_ending bs))
+-- Each of the lines is blank, and ends in a backslash that joins it to the next line.
+abbrev pub AreJoinedBlanks : List HeldLine → Type 0
+AreJoinedBlanks [] = Unit {0}
+AreJoinedBlanks (h ∷ hs) = ((blanks : List ℕ) × AreBlanks blanks × (h.bytes ≡ blanks ++ backslash ∷ [])) × AreJoinedBlanks hs
 
--- the bytes after the blanks at their front, and after what joins lines there
-abbrev pub past_joins : List ℕ → List ℕ
-past_joins [] = []
-past_joins (b ∷ bs) = if is_join (b ∷ bs) then past_joins bs else b ∷ bs
+-- The bytes before the key of a pair: all lines of this kind that its group begins with, and the blanks at the front of
+-- the line after them.
+pub record IsBeforeKey (group : List HeldLine) (front : List ℕ) : Type 0 where
+  pub kept : List HeldLine
+  pub line : HeldLine
+  pub more : List HeldLine
+  pub division : group ≡ kept ++ line ∷ more
+  pub joined : AreJoinedBlanks kept
+  pub indent : List ℕ
+  pub rest : List ℕ
+  pub cut : line.bytes ≡ indent ++ rest
+  pub indent_blank : AreBlanks indent
+  pub rest_full : begins is_blank rest ≡ false
+  pub not_blank : rest ≢ []
+  pub not_joined : rest ≢ backslash ∷ []
+  pub bytes : front ≡ group_bytes kept ++ indent
 
--- the later of two places
-abbrev pub later : ℕ → ℕ → ℕ
-later a b = if nat_le a b then b else a
+-- These bytes go up to the end of the key; an empty key is directly before what separates it from the value.
+abbrev pub IsThroughKey : (e : Encoding) (group : List HeldLine) (indent key front old : List ℕ) → Type 0
+IsThroughKey e group indent key front old =
+    (key ≡ []) × (old ≡ []) ⊎ (key ≢ []) × (cut : IsCutBehind e group (indent ++ key)) × (front ++ old ≡ group_bytes cut.kept ++ cut.head)
 
 -- ---- a key gets another name
 
@@ -41,19 +54,19 @@ abbrev pub key_text : Repertoire → Bool → List ℕ → List ℕ → List ℕ
 key_text r first between [] = if is_blanks between then equals_sign ∷ [] else []
 key_text r first between (c ∷ cs) = printed_key r first (c ∷ cs)
 
--- The bytes are those of the pair with another key, which is put between those before the key and those behind it. An
--- empty key is directly before what separates it from the value.
+-- The bytes are those of the pair with another key in place of the old one: what comes before the key and behind it
+-- stays.
 pub record IsRekeyed (r : Repertoire) (first : Bool) (group : List HeldLine) (new bytes : List ℕ) : Type 0 where
   pub key : List ℕ
   pub value : List ℕ
   pub is_pair : IsPair (joined (as_lines group)) key value
   pub front : List ℕ
-  pub division : group_bytes group ≡ front ++ past_joins (group_bytes group)
-  pub through : IsCutBehind r.encoding group (is_pair.indent ++ key)
-  pub bytes_are : bytes
-      ≡ front
-      ++ (encoded_text r.encoding (key_text r (first && is_empty front) is_pair.between new)
-      ++ drop (later (length front) (size_before through)) (group_bytes group))
+  pub old : List ℕ
+  pub back : List ℕ
+  pub whole : group_bytes group ≡ front ++ (old ++ back)
+  pub before : IsBeforeKey group front
+  pub through : IsThroughKey r.encoding group is_pair.indent key front old
+  pub bytes_are : bytes ≡ front ++ (encoded_text r.encoding (key_text r (first && is_empty front) is_pair.between new) ++ back)
 
 -- The bytes are those of the groups, in order, each pair with the old key with the new one.
 abbrev pub AreRekeyed : Repertoire → List ℕ → List ℕ → Bool → List (List HeldLine) → List ℕ → Type 0

@@ -1,4 +1,4 @@
-//! Renames a key of a `.properties` source where it stands, and keeps every other byte.
+//! Renames a key of a `.properties` source where it stands, or removes it with its comment, and keeps every other byte.
 //!
 //! ```text
 //! let options = SourceOptions::new(Encoding::UTF_8);
@@ -10,11 +10,12 @@
 //! ```
 #![tactic(auto)]
 
+mod comments;
 mod copied;
+pub mod laws;
 mod renaming;
-#[cfg(test)]
-mod rows;
 
+pub use comments::remove_with_comment;
 pub use properties_editing::{Comments, SourceOptions};
 pub use properties_items::error::{ErrorKind, PropertiesError};
 pub use properties_text::encoding::Encoding;

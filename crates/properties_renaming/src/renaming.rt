@@ -9,8 +9,8 @@ ghost use Rattle.properties_format.specs.Text.{is_line_ending};
 ghost use Rattle.properties_text.specs.Encoding.{encoding_of};
 ghost use Rattle.properties_editing.specs.Editing.{asked_for};
 ghost use Rattle.properties_editing.specs.Views.{IsGroup, line_of};
-ghost use Rattle.properties_renaming.specs.Renaming.{RenamesKey, is_join, later, past_joins};
-ghost use Rattle.properties_renaming.specs.Private.Renaming.{AppendsKey, IsAnyPair, IsSlice, Names, PrintsKeys, RekeysIn, RenamesGroups, TellsSign};
+ghost use Rattle.properties_renaming.specs.Renaming.{RenamesKey};
+ghost use Rattle.properties_renaming.specs.Private.Renaming.{AppendsKey, IsAmong, IsAnyPair, IsSlice, Names, PrintsKeys, RekeysIn, RenamesGroups, TellsSign, is_join, later, past_joins};
 
 use crate::copied::Copied;
 use properties_editing::{SourceOptions, View, ViewedGroup, edit_with};
@@ -155,7 +155,7 @@ fn rename_groups(
 
 // Whether a logical line is a pair with one of two keys.
 #[derive(Clone, Copy)]
-enum Named {
+pub(crate) enum Named {
     Old,
     New,
     Other,
@@ -163,7 +163,12 @@ enum Named {
 
 // Returns which of two keys this logical line has as a pair, if it has one. If they are the same,
 // it is the old one.
-fn find_named(alloc: Global, line: &str, old: &str, new: &str) -> Result<Named, AllocError>
+pub(crate) fn find_named(
+    alloc: Global,
+    line: &str,
+    old: &str,
+    new: &str,
+) -> Result<Named, AllocError>
     ensures { IfOk result (Names (outcome_of (chars line.now)) (chars old.now) (chars new.now)) }
 {
     match find_item(alloc, 1, line) {
@@ -208,6 +213,7 @@ fn put_key(
     key: NewKey<'_>,
 ) -> Result<(), AllocError>
     requires group { IsGroup view.now group }
+    requires among { IsAmong view.now.encoding view.now.group }
     requires pair { IsAnyPair (line_of view.now) }
     requires slice { IsSlice view.now copied.old.source.now }
     requires done { copied.old.done ≤ group.start }

@@ -1,12 +1,12 @@
 -- How a key is renamed, group after group of a view.
-use Rattle.std.specs.Prelude.{◌≡◌, ◌≢◌, ◌≤◌, ◌⊎◌, ◌++◌, ℕ, ◌+◌, not, Bool, true, false, List, [], ◌∷◌, length, take, drop, Option, Some, None, Result, Ok, Err}
+use Rattle.std.specs.Prelude.{◌≡◌, ◌≢◌, ◌≤◌, ◌⊎◌, ◌++◌, ℕ, ◌+◌, ◌==◌, nat_le, ◌&&◌, ◌||◌, not, Bool, true, false, if◌then◌else◌, List, [], ◌∷◌, length, take, drop, Option, Some, None, Result, Ok, Err}
 use Rattle.std.specs.Str.{chars}
-use Rattle.properties_format.specs.Text.{equals_sign, is_blanks}
-use Rattle.properties_format.specs.Encoding.{Characters, Repertoire, byte_order_mark, in_force}
+use Rattle.properties_format.specs.Text.{backslash, begins, equals_sign, is_blank, is_blanks, is_line_ending}
+use Rattle.properties_format.specs.Encoding.{Characters, Encoding, Repertoire, byte_order_mark, in_force}
 use Rattle.properties_format.specs.Split.{IsPair}
 use Rattle.properties_format.specs.Printing.{encoded_text, printed_key}
 use Rattle.properties_format.specs.Items.{Outcome}
-use Rattle.properties_format.specs.Body.{HasKey, HeldLine, NoneHasKey, group_bytes, held_in}
+use Rattle.properties_format.specs.Body.{AreGroupsOf, HasKey, HeldLine, NoneHasKey, group_bytes, held_in}
 use Rattle.properties_format.specs.Edited.{bom_of, is_editable}
 use Rattle.properties_format.specs.Computed.Body.{is_pair_with}
 use Rattle.properties_format.specs.Computed.Valued.{between_in}
@@ -23,6 +23,22 @@ use Rattle.properties_renaming.specs.declared.renaming.Named.{Named}
 use Rattle.properties_renaming.specs.declared.renaming.Named.TheVariants.{Old, New, Other}
 use Rattle.properties_renaming.specs.declared.renaming.NewKey.{NewKey}
 use Rattle.properties_renaming.specs.declared.renaming.Renamed.{Renamed}
+
+-- ---- what joins lines before a key
+
+-- whether the first byte is a blank, or a part of what joins two lines: a backslash before a line ending, or that ending
+abbrev pub is_join : List ℕ → Bool
+is_join [] = false
+is_join (b ∷ bs) = is_blank b || (is_line_ending b || (b == backslash && begins is_line_ending bs))
+
+-- the bytes after the blanks at their front, and after what joins lines there
+abbrev pub past_joins : List ℕ → List ℕ
+past_joins [] = []
+past_joins (b ∷ bs) = if is_join (b ∷ bs) then past_joins bs else b ∷ bs
+
+-- the later of two places
+abbrev pub later : ℕ → ℕ → ℕ
+later a b = if nat_le a b then b else a
 
 -- ---- a logical line
 
@@ -51,6 +67,16 @@ AppendsKey r first x key old result new =
     IsAnyPair x → (t : Repertoire) → PrintsKeys t r → AppendsOnOk old (encoded_text t.encoding (key_text t first (between_in x) key)) result new
 
 -- ---- a group
+
+-- It is one of the groups of a body.
+pub record IsAmong (e : Encoding) (group : List HeldLine) : Type 0 where
+  pub editable : is_editable e ≡ true
+  pub body : List ℕ
+  pub groups : List (List HeldLine)
+  pub are : AreGroupsOf e body groups
+  pub before : List (List HeldLine)
+  pub after : List (List HeldLine)
+  pub division : groups ≡ before ++ group ∷ after
 
 -- The bytes of the group are a part of the source.
 pub record IsSlice (v : OpenView) (source : List ℕ) : Type 0 where

@@ -1,6 +1,6 @@
 use Rattle.std.proofs.Common.{◌∙◌, ◌≡◌, ap, arith, drop, sym, true}
 use Rattle.std.proofs.lemmas.List.{take_rest}
-use Rattle.properties_renaming.specs.Renaming.{is_join}
+use Rattle.properties_renaming.specs.Private.Renaming.{is_join}
 use Rattle.properties_renaming.proofs.RenamedKeys.{join-more}
 use Rattle.properties_renaming.proofs.renaming.joins_size.Goals as goal
 

@@ -1,5 +1,5 @@
 use Rattle.std.proofs.Common.{◌≡◌, ◌≤◌, ◌-◌, length, drop}
-use Rattle.properties_renaming.specs.Renaming.{past_joins}
+use Rattle.properties_renaming.specs.Private.Renaming.{past_joins}
 use Rattle.properties_renaming.proofs.renaming.joins_size.Given as goal
 
 abbrev pub invariant-loop-at : goal.invariant-loop-at

@@ -5,7 +5,7 @@ use Rattle.properties_format.proofs.Edited.Made.{has_key-false, has_key-true}
 use Rattle.properties_text.specs.Encoding.{encoding_of}
 use Rattle.properties_editing.specs.Views.{OpenView, past}
 use Rattle.properties_editing.specs.Editing.{asked_for}
-use Rattle.properties_renaming.proofs.RenamedKeys.{all-up, copied-group, has-pair, next-slice, next-up, none-left, none-yet, one-key, prints-next, taken-new, taken-next, there-next, there-now}
+use Rattle.properties_renaming.proofs.RenamedKeys.{all-up, copied-group, has-pair, next-among, next-slice, next-up, none-left, none-yet, one-key, prints-next, taken-new, taken-next, there-next, there-now}
 use Rattle.properties_renaming.proofs.renaming.rename_groups.Goals as goal
 use Rattle.properties_renaming.proofs.renaming.rename_groups.Goals.{in-Old+in_ok-put_key-in-Old, in-New, in-Other}
 
@@ -15,6 +15,10 @@ loop-copied-init c = none-yet c.in_ok-view.ensures c.in_ok-copied.ensures
 pub put_key-requires-clause-pair : goal.put_key-requires-clause-pair
 put_key-requires-clause-pair c =
     has-pair (chars c.args.old.now) c.next.new.self.group (rw c.line.ensures at rw c.in-Old.is at c.in_ok-find_named.ensures)
+
+pub put_key-requires-clause-among : goal.put_key-requires-clause-among
+put_key-requires-clause-among c =
+    next-among c.in_ok-view.ensures c.loop-copied.invariant c.in-Some.group (rw c.in-Some.is at c.in_ok-group.ensures.gives)
 
 pub put_key-requires-clause-slice : goal.put_key-requires-clause-slice
 put_key-requires-clause-slice c =

@@ -1,0 +1,54 @@
+-- How the pairs with a key are left out with their comment lines, group after group of a view.
+use Rattle.std.specs.Prelude.{◌≡◌, ◌⊎◌, ◌==◌, ◌&&◌, ◌++◌, ℕ, ◌+◌, Bool, true, false, List, ◌∷◌, length, Option, Some, None, Result, Ok, Err}
+use Rattle.std.specs.Global.{Vec}
+use Rattle.properties_format.specs.Encoding.{Encoding, byte_order_mark}
+use Rattle.properties_format.specs.Body.{HeldLine, groups_bytes}
+use Rattle.properties_format.specs.Edited.{bom_of, is_editable}
+use Rattle.properties_items.specs.Errors.{IsBareError}
+use Rattle.properties_items.specs.declared.error.ErrorKind.TheVariants as error
+use Rattle.properties_items.specs.declared.error.PropertiesError.{PropertiesError}
+use Rattle.properties_editing.specs.declared.group.GroupKind.{GroupKind}
+use Rattle.properties_editing.specs.declared.group.GroupKind.TheVariants as kind
+use Rattle.properties_editing.specs.declared.group.ViewedGroup.{ViewedGroup}
+use Rattle.properties_editing.specs.Views.{IsGroup, OpenView, past}
+use Rattle.properties_renaming.specs.Commented.{AreCommentGroups, AreOthers, IsCommentGroup}
+use Rattle.properties_renaming.specs.Renaming.{AreIn}
+use Rattle.properties_renaming.specs.declared.comments.Headed.{Headed}
+
+-- whether the kind is that of a comment
+abbrev pub is_comment : GroupKind → Bool
+is_comment kind.Comment = true
+is_comment other = false
+
+-- whether a group is a comment line
+abbrev pub is_line_of_comment : ViewedGroup → Bool
+is_line_of_comment group = is_comment group.kind && (group.line_count == 1)
+
+-- The next group that isn't a comment line was given, with the comment lines directly above it;
+pub record TakesHeaded (old : OpenView) (headed : Headed) (new : OpenView) : Type 0 where
+  pub run : List (List HeldLine)
+  pub are_comments : AreCommentGroups run
+  pub other : ¬ (IsCommentGroup new.group)
+  pub takes : old.to_come ≡ run ++ new.group ∷ new.to_come
+  pub start : headed.start ≡ (past old).start
+  pub group_start : new.start ≡ (past old).start + length (groups_bytes run)
+  pub is_group : IsGroup new headed.group
+
+-- or comment lines alone were to come.
+abbrev pub GivesHeaded : OpenView → Option Headed → OpenView → Type 0
+GivesHeaded old None new = AreCommentGroups old.to_come
+GivesHeaded old (Some headed) new = TakesHeaded old headed new
+
+-- The bytes are the byte order mark and the other groups.
+pub record AreLeft (e : Encoding) (source key bytes : List ℕ) : Type 0 where
+  pub groups : List (List HeldLine)
+  pub held : AreIn e source groups
+  pub rest : List ℕ
+  pub others : AreOthers key groups rest
+  pub whole : bytes ≡ bom_of source ++ rest
+
+-- Or the encoding can't be edited, or memory ran out.
+abbrev pub LeavesOthers : Encoding → List ℕ → List ℕ → Result (Vec ℕ) PropertiesError → Type 0
+LeavesOthers e source key (Ok bytes) = AreLeft e source key bytes.items
+LeavesOthers e source key (Err reason) =
+    (is_editable (byte_order_mark e source).encoding ≡ false) × IsBareError error.Unsupported reason ⊎ IsBareError error.Memory reason
