@@ -14,6 +14,8 @@ mod random_edits;
 #[cfg(test)]
 mod reading;
 #[cfg(test)]
+mod renaming;
+#[cfg(test)]
 mod same;
 #[cfg(test)]
 mod script;

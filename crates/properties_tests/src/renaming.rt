@@ -1,0 +1,232 @@
+// Sources in which a key is renamed, or removed with its comment, and what comes of each.
+
+use java_properties::{
+    Comments, Encoding, ErrorKind, RenameError, SourceOptions, remove_with_comment, rename_key,
+};
+use std::alloc::Global;
+use std::process::Abort;
+use std::test::Fail;
+
+// A source, its key, the new key, and the source after that.
+type Row = (&'static [u8], &'static str, &'static str, &'static [u8]);
+
+// A source, its key, the new key, and why that is refused.
+type Refused = (&'static [u8], &'static str, &'static str, Why);
+
+#[derive(Clone, Copy, Debug, PartialEq)]
+enum Why {
+    NoKey,
+    KeyTaken(usize),
+    Source(ErrorKind, Option<usize>),
+}
+
+fn same<T: PartialEq + Copy>(rt: &impl Abort, row: usize, found: T, wanted: T) {
+    assert!(*rt; found == wanted, "row {row}");
+}
+
+fn check(rt: &impl Abort, alloc: Global, options: SourceOptions, rows: &[Row]) -> Result<(), Fail> {
+    for (row, (source, old, new, wanted)) in rows.iter().enumerate() {
+        let renamed = rename_key(alloc, source, options, old, new)?;
+        same(rt, row, renamed.as_slice(), *wanted);
+    }
+    Ok(())
+}
+
+fn check_refused(rt: &impl Abort, alloc: Global, options: SourceOptions, rows: &[Refused]) {
+    for (row, (source, old, new, wanted)) in rows.iter().enumerate() {
+        match rename_key(alloc, source, options, old, new) {
+            Ok(_) => panic!(*rt; "row {row}"),
+            Err(error) => same(rt, row, reason_of(&error), *wanted),
+        }
+    }
+}
+
+fn reason_of(error: &RenameError) -> Why {
+    match error {
+        RenameError::NoKey => Why::NoKey,
+        RenameError::KeyTaken(number) => Why::KeyTaken(*number),
+        RenameError::Source(error) => Why::Source(error.kind(), error.line_number()),
+    }
+}
+
+#[test]
+fn only_the_bytes_of_the_key_change(rt: HostRuntime) -> Result<(), Fail> {
+    let rows: [Row; 13] = [
+        (b"  a : 1\r\nb=2", "a", "c", b"  c : 1\r\nb=2"),
+        (b"a=1\nb=2\na: 3\r", "a", "c", b"c=1\nb=2\nc: 3\r"),
+        (b"# a\na=a\n", "a", "b", b"# a\nb=a\n"),
+        (b"a b\n", "a", "c", b"c b\n"),
+        (b"a", "a", "c", b"c"),
+        (b"ke\\\n  y = 1\\\n  2\n", "key", "k", b"k = 1\\\n  2\n"),
+        (b"key\\\n  = 1\n", "key", "k", b"k\\\n  = 1\n"),
+        (b"  \\\n  key=1\n", "key", "k", b"  \\\n  k=1\n"),
+        (b"\\\n\\\n \\\na=1", "a", "b", b"\\\n\\\n \\\nb=1"),
+        (b"\\u0061=1\n", "a", "b", b"b=1\n"),
+        (b"\\u00\\\n  61=1\n", "a", "b", b"b=1\n"),
+        (b"a\\ b=1\n", "a b", "a.b", b"a.b=1\n"),
+        (b"a\\", "a", "b", b"b\\"),
+    ];
+    let options = SourceOptions::new(Encoding::UTF_8);
+    check(&rt, rt.alloc(), options, rows.as_slice())
+}
+
+#[test]
+fn a_new_key_is_printed_as_it_is_set(rt: HostRuntime) -> Result<(), Fail> {
+    let rows: [Row; 6] = [
+        (b"a=1\n", "a", "#x", b"\\#x=1\n"),
+        (b"a=1\n", "a", " =:\\\n", b"\\ \\=\\:\\\\\\n=1\n"),
+        (b"a=1\n", "a", "\u{e9}", b"\xc3\xa9=1\n"),
+        (b"a=1\n", "a", "\u{feff}k", b"\\ufeffk=1\n"),
+        (b" a=1\n", "a", "\u{feff}k", b" \xef\xbb\xbfk=1\n"),
+        (
+            b"\xef\xbb\xbfa=1\n",
+            "a",
+            "\u{feff}k",
+            b"\xef\xbb\xbf\\ufeffk=1\n",
+        ),
+    ];
+    let options = SourceOptions::new(Encoding::UTF_8);
+    check(&rt, rt.alloc(), options, rows.as_slice())
+}
+
+#[test]
+fn a_new_key_has_what_the_encoding_has(rt: HostRuntime) -> Result<(), Fail> {
+    let rows: [Row; 3] = [
+        (b"a=1\n", "a", "\u{3042}", b"\\u3042=1\n"),
+        (b"a=1\n", "a", "\u{20ac}", b"\x80=1\n"),
+        (b"a=1\n", "a", "\u{ef}\u{bb}\u{bf}", b"\\u00ef\xbb\xbf=1\n"),
+    ];
+    let options = SourceOptions::new(Encoding::WINDOWS_1252);
+    check(&rt, rt.alloc(), options, rows.as_slice())
+}
+
+#[test]
+fn options_say_how_it_is_printed(rt: HostRuntime) -> Result<(), Fail> {
+    let ascii = SourceOptions {
+        ascii_only: true,
+        ..SourceOptions::new(Encoding::UTF_8)
+    };
+    let row: [Row; 1] = [(
+        b"\xc3\xbc=\xc3\xbc\n",
+        "\u{fc}",
+        "\u{e9}",
+        b"\\u00e9=\xc3\xbc\n",
+    )];
+    check(&rt, rt.alloc(), ascii, row.as_slice())?;
+    let latin_1 = SourceOptions {
+        latin_1: true,
+        ..SourceOptions::new(Encoding::WINDOWS_1252)
+    };
+    let row: [Row; 1] = [(b"a=1\n", "a", "\u{e9}\u{20ac}", b"\xe9\\u20ac=1\n")];
+    check(&rt, rt.alloc(), latin_1, row.as_slice())?;
+    let passed_over = SourceOptions {
+        comments: Comments::PassedOver,
+        ..SourceOptions::new(Encoding::UTF_8)
+    };
+    let row: [Row; 1] = [(b"# C:\\users\na=1\n", "a", "b", b"# C:\\users\nb=1\n")];
+    check(&rt, rt.alloc(), passed_over, row.as_slice())
+}
+
+#[test]
+fn a_key_may_be_empty(rt: HostRuntime) -> Result<(), Fail> {
+    let rows: [Row; 8] = [
+        (b"a=1\n", "a", "", b"=1\n"),
+        (b"a : 1\n", "a", "", b" : 1\n"),
+        (b"a b\n", "a", "", b"= b\n"),
+        (b"a\n", "a", "", b"=\n"),
+        (b"a\\\n  b\n", "ab", "", b"=\n"),
+        (b"a\\\n  =b\n", "a", "", b"\\\n  =b\n"),
+        (b"  \\\n  =1\n", "", "a", b"  \\\n  a=1\n"),
+        (b"a=1\n", "a", "a", b"a=1\n"),
+    ];
+    let options = SourceOptions::new(Encoding::UTF_8);
+    check(&rt, rt.alloc(), options, rows.as_slice())
+}
+
+#[test]
+fn others_are_refused(rt: HostRuntime) {
+    let few = Why::Source(ErrorKind::NotEnoughDigits, Some(2));
+    let utf_16 = Why::Source(ErrorKind::Unsupported, None);
+    let not_hex = Why::Source(ErrorKind::NotHex, Some(1));
+    let rows: [Refused; 9] = [
+        (b"x=1\\\na=2\n", "a", "b", Why::NoKey),
+        (b"b=1\n", "a", "b", Why::NoKey),
+        (b"b=1\n", "a", "a", Why::NoKey),
+        (b"a=1\n", "b", "c", Why::NoKey),
+        (b"a=1\nb=2\n", "a", "b", Why::KeyTaken(2)),
+        (b"a=1\nc=1\nb=2\nb=3\n", "a", "b", Why::KeyTaken(3)),
+        (b"a=1\nb=\\u12\n", "a", "c", few),
+        (b"# C:\\users\na=1\n", "a", "b", not_hex),
+        (b"\xff\xfea\0=\0", "a", "c", utf_16),
+    ];
+    let options = SourceOptions::new(Encoding::UTF_8);
+    check_refused(&rt, rt.alloc(), options, rows.as_slice());
+}
+
+// A source, a key, and the source after it was removed with its comment.
+type Removed = (&'static [u8], &'static str, &'static [u8]);
+
+fn check_removed(
+    rt: &impl Abort,
+    alloc: Global,
+    options: SourceOptions,
+    rows: &[Removed],
+) -> Result<(), Fail> {
+    for (row, (source, key, wanted)) in rows.iter().enumerate() {
+        let removed = remove_with_comment(alloc, source, options, key)?;
+        same(rt, row, removed.as_slice(), *wanted);
+    }
+    Ok(())
+}
+
+#[test]
+fn a_key_is_removed_with_its_comment(rt: HostRuntime) -> Result<(), Fail> {
+    let rows: [Removed; 12] = [
+        (
+            b"# one\na=1\n\n# two\nb=2\n# three\na=3\n",
+            "a",
+            b"\n# two\nb=2\n",
+        ),
+        (b"# head\n\n# one\na=1\nb=2\n", "a", b"# head\n\nb=2\n"),
+        (b"# one\nb=1\na=2\n", "a", b"# one\nb=1\n"),
+        (b"# one\n  !two\r\na=1", "a", b""),
+        (b"# one\nb=1\n# two", "a", b"# one\nb=1\n# two"),
+        (b"# one\na=1\n# two\n", "a", b"# two\n"),
+        (b"b=2\\\n# no\na=1\n", "a", b"b=2\\\n# no\n"),
+        (b"\\\n# no\na=1\n", "a", b"\\\n# no\n"),
+        (b"# ends \\\na=1\\\n  2\nb=1", "a", b"b=1"),
+        (b"# one\n \t\na=1\n", "a", b"# one\n \t\n"),
+        (
+            b"\xef\xbb\xbf# one\na=1\n# two\nb=2\n",
+            "a",
+            b"\xef\xbb\xbf# two\nb=2\n",
+        ),
+        (b"# one\n\\u0061=1\nb=2\n", "a", b"b=2\n"),
+    ];
+    let options = SourceOptions::new(Encoding::UTF_8);
+    check_removed(&rt, rt.alloc(), options, rows.as_slice())?;
+    // What is left would begin like a byte order mark.
+    let row: [Removed; 1] = [(
+        b"# one\na=1\n\xef\xbb\xbfb=2\n",
+        "a",
+        b"\n\xef\xbb\xbfb=2\n",
+    )];
+    let windows = SourceOptions::new(Encoding::WINDOWS_1252);
+    check_removed(&rt, rt.alloc(), windows, row.as_slice())
+}
+
+#[test]
+fn a_source_with_a_malformed_escape_keeps_its_comments(rt: HostRuntime) -> Result<(), Fail> {
+    let options = SourceOptions::new(Encoding::UTF_8);
+    let source = b"# C:\\users\na=1\n";
+    match remove_with_comment(rt.alloc(), source, options, "a") {
+        Ok(_) => panic!(rt; "it was edited"),
+        Err(error) => same(&rt, 0, error.kind(), ErrorKind::NotHex),
+    }
+    let passed_over = SourceOptions {
+        comments: Comments::PassedOver,
+        ..options
+    };
+    let row: [Removed; 1] = [(b"# C:\\users\na=1\nb=2\n", "a", b"b=2\n")];
+    check_removed(&rt, rt.alloc(), passed_over, row.as_slice())
+}
