@@ -13,7 +13,7 @@ import subprocess
 import sys
 import tempfile
 
-from try_diff import PIECES, is_sound, table, text
+from try_diff import PIECES, firsts, is_sound, pairs, shown, table, text
 
 PREFIXES = ["", "", "", "a", "ab", "é", "b"]
 
@@ -32,6 +32,37 @@ def compared(old, new):
             sides = [(name, rows[key]) for name, rows in (("old", old), ("new", new)) if key in rows]
             objects.append([("key", key), *((name, [("line", line), ("value", value)]) for name, (line, value) in sides)])
     return objects, 1 if objects else 0
+
+
+def repeated(name, made):
+    """What `check` says of keys that an earlier pair has."""
+    seen = {}
+    for number, key, _ in pairs(made):
+        first = seen.setdefault(key, number)
+        if first != number:
+            yield [("file", name), ("line", number), ("kind", "repeated-key"), ("key", key), ("first", first),
+                   ("message", f"repeats the key '{shown(key)}' of line {first}")]
+
+
+def keys_checked(old, new):
+    """What `check --base` says of keys."""
+    yield from repeated("old", old)
+    yield from repeated("new", new)
+    for key, number in firsts(old).items():
+        if key not in firsts(new):
+            yield [("file", "new"), ("kind", "missing-key"), ("key", key), ("base", "old"), ("base_line", number),
+                   ("message", f"key '{shown(key)}' is missing (old:{number})")]
+    for key, number in firsts(new).items():
+        if key not in firsts(old):
+            yield [("file", "new"), ("line", number), ("kind", "surplus-key"), ("key", key), ("base", "old"),
+                   ("message", f"key '{shown(key)}' is not in old")]
+
+
+def line_of(finding):
+    """The line that is printed of a finding without `--json`."""
+    said = dict(finding)
+    place = f"{said['file']}:{said['line']}" if "line" in said else said["file"]
+    return f"{place}: {said['message']}"
 
 
 def read(printed):
@@ -70,6 +101,14 @@ def main(program, count):
                 if found != wanted:
                     print(f"old {old!r}\nnew {new!r}\n{words}\nfound {found}\nwanted {wanted}", file=sys.stderr)
                     sys.exit(1)
+            words = ["check", "--base", "old", "new"]
+            found, status = answer(program, folder, words)
+            plain = subprocess.run([program, *words], cwd=folder, capture_output=True)
+            wanted = list(keys_checked(old, new))
+            if ([finding for finding in found if "key" in dict(finding)], [line_of(finding) for finding in found], status) != (
+                    wanted, plain.stdout.decode().split("\n")[:-1], plain.returncode):
+                print(f"old {old!r}\nnew {new!r}\n{words}\nfound {found}\nwanted {wanted}", file=sys.stderr)
+                sys.exit(1)
             passed += 1
     print(f"{passed} pairs of files passed")
 

@@ -84,7 +84,7 @@ run --help
 gives 0 "$(cat ../output)\n" ''
 cp ../output ../usage
 for words in 'Usage: propedit COMMAND [OPTION ..] [ARGUMENT ..]' '  get KEY ..  ' '  list [PREFIX]  ' '  comment KEY  ' '  check [FILE ..]  ' '  diff OLD NEW  ' \
-    '  set KEY VALUE  ' '  remove KEY  ' '  merge FILE  ' '  convert ENCODING  ' '  help [COMMAND]  ' '-f, --file FILE' '-i, --in-place FILE' '--create' '-e, --encoding NAME' \
+    '  set KEY VALUE  ' '  remove KEY  ' '  rename OLD NEW  ' '  merge FILE  ' '  convert ENCODING  ' '  help [COMMAND]  ' '-f, --file FILE' '-i, --in-place FILE' '--create' '-e, --encoding NAME' \
     '-d, --default VALUE' '-z, --null' '-v, --values' '-a, --ascii' '-x, --existing' '--known' '--base FILE' '--pairs' '-q, --quiet' '-v, --verbose' '-r, --readable' '-h, --help' '-V, --version' 'utf-8 (default)' iso-8859-1 \
     'Options come before or after the command, but before its first argument' "comes after '--'" 'standard input' \
     'Status: 0'; do
@@ -95,9 +95,9 @@ is "$(awk 'length > 80' ../usage)" ''
 run -h
 gives 0 "$(cat ../usage)\n" ''
 run --version
-gives 0 'propedit 1.18.0\n' ''
+gives 0 'propedit 1.19.0\n' ''
 run -V
-gives 0 'propedit 1.18.0\n' ''
+gives 0 'propedit 1.19.0\n' ''
 run -f nowhere --help get
 gives 0 "$(cat ../usage)\n" ''
 run help
@@ -118,10 +118,11 @@ done <<'end'
 get file encoding default null
 list file encoding null values json
 comment file encoding
-check file encoding ascii base pairs quiet
+check file encoding json ascii base pairs quiet
 diff encoding json
 set file in-place create encoding ascii existing verbose
 remove file in-place create encoding ascii existing verbose
+rename file in-place create encoding ascii existing verbose
 merge file in-place create encoding null ascii existing known verbose
 convert file in-place encoding readable
 end
@@ -129,9 +130,9 @@ run help help
 gives 0 "$(cat ../output)\n" ''
 is "$(head -n 3 ../output)" $'Prints the commands, or the page of one of them\n\nUsage: propedit help [COMMAND]'
 run help remove
-is "$(tail -n 2 ../output)" $'Status: 0 done; 1 no pair has a KEY, and -x is given; 2 an error.\nThe option -a requires a \'set\'.'
+is "$(tail -n 2 ../output)" $'Status: 0 done; 1 no pair has a KEY, and -x is given; 2 an error.\nThe option -a requires a \'set\' or a \'rename\'.'
 run get -V
-gives 0 'propedit 1.18.0\n' ''
+gives 0 'propedit 1.19.0\n' ''
 
 # Each option, short and long.
 
@@ -225,12 +226,16 @@ run comment host
 gives 0 '' ''
 run comment -- port
 gives 1 '' ''
+run comment app.properties
+gives 1 '' "propedit: no pair has the key 'app.properties'; a file is named by -f\n"
+run comment -f app.properties app.properties
+gives 1 '' ''
 given '# one\nport = \\u12\n'
 run comment port
 gives 2 '' 'propedit: standard input:2: Malformed \\uxxxx encoding: not enough digits.\n'
 given '\0#\0a'
 run -e utf-16be comment a
-gives 2 '' "propedit: standard input: UTF-16 can be read but not edited; propedit convert utf-8 converts it\n"
+gives 2 '' "propedit: standard input: this command does not support UTF-16; propedit convert utf-8 converts it\n"
 
 # list
 
@@ -431,6 +436,23 @@ run check --pairs -q two.properties one.properties
 gives 1 '' ''
 run check -q two.properties
 gives 1 '' ''
+# With --json, each finding is an object. Statuses are the same.
+printf 'a=1\na=2\n' >one.properties
+object='{"file":"one.properties","line":2,"kind":"repeated-key","key":"a","first":1,"message":"repeats the key \x27a\x27 of line 1"}\n'
+other='{"file":"two.properties","line":1,"kind":"malformed-escape","in_comment":true,"message":"Malformed \\\\uxxxx encoding: not hex. (in a comment, which Java and propedit pass over)"}\n'
+run check --json one.properties two.properties
+gives 1 "$object$other" ''
+run --json check --pairs -f two.properties
+gives 0 '' ''
+run check --json -q one.properties
+gives 1 '' ''
+cp one.properties ../input
+run check --json -
+gives 1 "${object//one.properties/standard input}" ''
+run --json check
+gives 1 "${object//one.properties/standard input}" ''
+run check --json one.properties nowhere
+gives 2 "$object" 'propedit: nowhere: No such file or directory (os error 2)\n'
 rm one.properties two.properties
 
 # check --base
@@ -448,12 +470,26 @@ one.properties:5: key \x27a\\u{9}key\x27 is not in base.properties
 comment='two.properties:5: Malformed \\uxxxx encoding: not hex. (in a comment, which Java and propedit pass over)\n'
 run check --base base.properties one.properties
 gives 1 "$own$repeats$keys" ''
+# The base is checked once, also where it is one of the files.
+run check --base base.properties base.properties one.properties base.properties
+gives 1 "$own$repeats$keys" ''
+run check --base base.properties -f base.properties
+gives 1 "$own" ''
 run --base=base.properties check -- two.properties one.properties
 gives 1 "$own$comment$repeats$keys" ''
 run check --pairs --base base.properties -f one.properties
 gives 1 "$own$repeats$keys" ''
 run check -q --base base.properties one.properties
 gives 1 '' ''
+objects='{"file":"base.properties","line":5,"kind":"repeated-key","key":"price","first":2,"message":"repeats the key \x27price\x27 of line 2"}\n'
+objects+="${objects/base.properties\",\"line\":5/one.properties\",\"line\":4}"
+objects+='{"file":"one.properties","kind":"missing-key","key":"a key","base":"base.properties","base_line":3,"message":"key \x27a key\x27 is missing (base.properties:3)"}
+{"file":"one.properties","kind":"missing-key","key":"about","base":"base.properties","base_line":4,"message":"key \x27about\x27 is missing (base.properties:4)"}
+{"file":"one.properties","line":1,"kind":"surplus-key","key":"contact","base":"base.properties","message":"key \x27contact\x27 is not in base.properties"}
+{"file":"one.properties","line":5,"kind":"surplus-key","key":"a\\tkey","base":"base.properties","message":"key \x27a\\\\u{9}key\x27 is not in base.properties"}
+'
+run --json check --base base.properties one.properties
+gives 1 "$objects" ''
 # Repeated keys count once, and which of their lines is named doesn't depend on their values.
 sed -i 5d base.properties
 run check --pairs --base base.properties two.properties base.properties
@@ -492,6 +528,10 @@ run check --base $'\xe9' one.properties
 gives 2 '' 'propedit: \\xe9: this name is not UTF-8\n'
 run check --base base.properties $'\xe9' two.properties
 gives 2 "$comment" 'propedit: \\xe9: this name is not UTF-8\n'
+run check --base=$'\xe9' one.properties
+gives 2 '' 'propedit: \\xe9: this name is not UTF-8\n'
+run -f$'\xe9' check --base base.properties
+gives 2 '' 'propedit: \\xe9: this name is not UTF-8\n'
 command='propedit check --base base.properties >base.properties'
 ../propedit check --base base.properties two.properties >>base.properties 2>../errors
 is "$? $(cat ../errors)" '2 propedit: base.properties: is also standard output'
@@ -499,6 +539,8 @@ checks='Usage: propedit check [OPTION ..] [FILE ..]'
 is_refused "'check --base FILE' requires a FILE to check; '-' is standard input" "$checks" check --base base.properties
 is_refused "at most one file of 'check' can be standard input, '-'; './-' names a file" "$checks" check --base - one.properties -
 is_refused "at most one file of 'check' can be standard input, '-'; './-' names a file" "$checks" check --base - -f -
+is_refused "at most one file of 'check' can be standard input, '-'; './-' names a file" "$checks" check --base base.properties - one.properties -
+is_refused "unexpected '--base': options of 'check' come before the first argument" "$checks" check one.properties --base base.properties
 is_refused "the option '-f FILE' cannot be used with 'check FILE ..'" "$checks" -f one.properties --base base.properties check two.properties
 is_refused "the option '--base FILE' requires a FILE" "$checks" check --base= two.properties
 is_refused "the option '--base FILE' cannot be used with 'list'" 'Usage: propedit list [OPTION ..] [PREFIX]' --base base.properties list
@@ -606,6 +648,31 @@ rm $'b\n.properties'
 printf '# ports\r\n\r\n  host = b\r\n! end' >app.properties
 run set -xv -i app.properties prot 1
 gives 1 '' "propedit: app.properties: no pair has the key 'prot'\n"
+# rename keeps all but the key, and changes nothing that it refuses.
+printf '# of the user\r\n  login\\.user : me\\\r\n    too\r\nuser.id=7' >app.properties
+run -v -i app.properties rename login.user user.name
+gives 0 '' 'app.properties: 0 pairs changed, 1 added, 1 removed\n'
+holds app.properties '# of the user\r\n  user.name : me\\\r\n    too\r\nuser.id=7'
+run -i app.properties rename login.user user.name
+gives 1 '' "propedit: app.properties: no pair has the key 'login.user'\n"
+run -i app.properties rename user.name user.id
+gives 1 '' "propedit: app.properties:4: the key 'user.id' is there already\n"
+run -v rename -i app.properties user.id user.id
+gives 0 '' 'app.properties: unchanged\n'
+run -i app.properties set x 1 rename user.id id rename absent a
+gives 1 '' "propedit: app.properties: no pair has the key 'absent'\n"
+holds app.properties '# of the user\r\n  user.name : me\\\r\n    too\r\nuser.id=7'
+run -ai app.properties set x 1 rename user.id ż remove user.name rename x user.id
+gives 0 '' ''
+holds app.properties '# of the user\r\n\\u017c=7\r\nuser.id=1\r\n'
+run rename -i new.properties --create a b
+gives 1 '' "propedit: new.properties: no pair has the key 'a'\n"
+is "$(ls new.properties 2>&1 | grep -c 'No such file')" 1
+run set -i new.properties --create a 1 rename a b
+gives 0 '' ''
+holds new.properties 'b=1\n'
+rm new.properties
+printf '# ports\r\n\r\n  host = b\r\n! end' >app.properties
 # Options after the command have their effect on files too.
 run set -x -i app.properties prot 1
 gives 1 '' "propedit: app.properties: no pair has the key 'prot'\n"
@@ -718,12 +785,12 @@ gives 0 'a\n' ''
 run -e utf-16le check
 gives 0 '' ''
 run -e utf-16le set a 1
-gives 2 '' 'propedit: standard input: UTF-16 can be read but not edited; propedit convert utf-8 converts it\n'
+gives 2 '' 'propedit: standard input: this command does not support UTF-16; propedit convert utf-8 converts it\n'
 given '\0a\0=\0\xe9'
 run -e utf-16be get a
 gives 0 'é\n' ''
 run -e utf-16be -f app.properties remove a
-gives 2 '' 'propedit: app.properties: UTF-16 can be read but not edited; propedit convert utf-8 converts it\n'
+gives 2 '' 'propedit: app.properties: this command does not support UTF-16; propedit convert utf-8 converts it\n'
 given '\xff\xfea\0=\0\xe9\0'
 run get a
 gives 0 'é\n' ''
@@ -1058,18 +1125,21 @@ gives 2 '' 'propedit: standard input:2: not UTF-8; if it is in windows-1252 or L
 # Wrong arguments: the message names the word, and the usage is that of the command that was meant.
 
 given 'a = 1\n'
-edits='Usage: propedit set [OPTION ..] KEY VALUE [set KEY VALUE | remove KEY] ..
-       propedit remove [OPTION ..] KEY [set KEY VALUE | remove KEY] ..'
-all='Usage: propedit get [OPTION ..] KEY ..
+more='[set .. | remove .. | rename ..] ..'
+edits="Usage: propedit set [OPTION ..] KEY VALUE $more
+       propedit remove [OPTION ..] KEY $more
+       propedit rename [OPTION ..] OLD NEW $more"
+all="Usage: propedit get [OPTION ..] KEY ..
        propedit list [OPTION ..] [PREFIX]
        propedit comment [OPTION ..] KEY
        propedit check [OPTION ..] [FILE ..]
        propedit diff [OPTION ..] OLD NEW
-       propedit set [OPTION ..] KEY VALUE [set KEY VALUE | remove KEY] ..
-       propedit remove [OPTION ..] KEY [set KEY VALUE | remove KEY] ..
+       propedit set [OPTION ..] KEY VALUE $more
+       propedit remove [OPTION ..] KEY $more
+       propedit rename [OPTION ..] OLD NEW $more
        propedit merge [OPTION ..] FILE
        propedit convert [OPTION ..] ENCODING
-       propedit help [COMMAND]'
+       propedit help [COMMAND]"
 shape() {
     echo "Usage: $(grep -o "propedit $1 .*" <<<"$all")"
 }
@@ -1169,6 +1239,17 @@ is_refused "'set port=8080' requires a VALUE; did you mean 'set port 8080'?" "$(
 for words in remove 'remove --' 'set a 1 remove'; do
     is_refused "'remove' requires a KEY" "$(shape remove)" $words
 done
+for words in rename 'rename --' 'set a 1 rename'; do
+    is_refused "'rename' requires a KEY" "$(shape rename)" $words
+done
+for words in 'rename a' 'rename -- a' 'set a 1 rename a'; do
+    is_refused "'rename a' requires a new KEY" "$(shape rename)" $words
+done
+is_refused "'rename a' requires a new KEY; a key $dashes" "$(shape rename)" rename -x a
+for word in mv move; do
+    is_refused "unknown command '$word'; did you mean 'rename'?" "$(shape rename)" -f app.properties $word a b
+    is_refused "unknown edit '$word'; did you mean 'rename'?" "$edits" set a 1 $word a b
+done
 is_refused "'merge' requires a FILE" 'Usage: propedit merge [OPTION ..] FILE' merge -x
 is_refused "'merge -' reads standard input; '-f FILE' or '-i FILE' names the file to change" \
     'Usage: propedit merge [OPTION ..] FILE' merge -z -
@@ -1190,7 +1271,7 @@ run set a=1 b set a '=2' set '=c' b=2 set 'd e=' b=2
 gives 0 'a = =2\na\\=1 = b\n\\=c = b=2\nd\\ e\\= = b=2\n' ''
 run set -- -- 1 set -- set remove remove -- a
 gives 0 '-- = 1\nset = remove\n' ''
-edit="each edit begins with set or remove, and $first"
+edit="each edit begins with set, remove or rename, and $first"
 is_refused "unknown edit 'get': $edit" "$edits" set a 1 get a
 is_refused "unknown edit 'host': $edit" "$edits" -i app.properties set port 1 host 2
 is_refused "unknown edit '-i': $edit" "$edits" set a 1 -i app.properties
@@ -1239,7 +1320,7 @@ for words in 'get a' list; do
     is_refused "the option '-a' cannot be used with '${words%% *}'" "$(shape ${words%% *})" -a $words
 done
 for words in 'remove a' 'remove a remove b'; do
-    is_refused "the option '-a' requires a 'set'" "$(shape remove)" -a $words
+    is_refused "the option '-a' requires a 'set' or a 'rename'" "$(shape remove)" -a $words
 done
 for words in 'get a' list 'set a 1' 'remove a'; do
     is_refused "the option '-q' cannot be used with '${words%% *}'" "$(shape ${words%% *})" -q $words
@@ -1287,6 +1368,8 @@ rm $'two\nlines' $'two\nlines.propedit'
 is_refused "the argument 'éa\xff\u{a}\xc3' is not UTF-8" "$all" get $'éa\xff\n\xc3'
 is_refused "the argument '\xe9' is not UTF-8" "$all" -f $'\xe9' check
 is_refused "the argument '\xe9' is not UTF-8" "$all" -e $'\xe9' check app.properties
+is_refused "the argument '--enc=\xe9' is not UTF-8" "$all" check --enc=$'\xe9' app.properties
+is_refused "the argument '-q\xe9' is not UTF-8" "$all" check -q$'\xe9' app.properties
 # A check of files goes on after such a name. The name - is that of standard input.
 given 'a = 1\na = 2\n'
 run check app.properties $'a\n\xe9' -
@@ -1421,7 +1504,7 @@ gives 2 '' 'propedit: app.properties:2: Malformed \\uxxxx encoding: not enough d
 holds app.properties 'a=1\nb = \\user\n'
 given 'a\0=\0'
 run -e utf-16le -i app.properties set a 2
-gives 2 '' 'propedit: app.properties: UTF-16 can be read but not edited; propedit convert utf-8 converts it\n'
+gives 2 '' 'propedit: app.properties: this command does not support UTF-16; propedit convert utf-8 converts it\n'
 holds app.properties 'a\0=\0'
 leaves_nothing
 

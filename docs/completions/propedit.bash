@@ -6,10 +6,11 @@ _propedit_after() {
     get) wanted='KEY..' own='-f --file -e --encoding -d --default -z --null -h --help -V --version' ;;
     list) wanted='PREFIX' own='-f --file -e --encoding -z --null -v --values --json -h --help -V --version' ;;
     comment) wanted='KEY' own='-f --file -e --encoding -h --help -V --version' ;;
-    check) wanted='FILE..' own='-f --file -e --encoding -a --ascii --base --pairs -q --quiet -h --help -V --version' ;;
+    check) wanted='FILE..' own='-f --file -e --encoding --json -a --ascii --base --pairs -q --quiet -h --help -V --version' ;;
     diff) wanted='FILE FILE' own='-e --encoding --json -h --help -V --version' ;;
     set) wanted='KEY VALUE EDIT' own='-f --file -i --in-place --create -e --encoding -a --ascii -x --existing -v --verbose -h --help -V --version' ;;
     remove) wanted='KEY EDIT' own='-f --file -i --in-place --create -e --encoding -a --ascii -x --existing -v --verbose -h --help -V --version' ;;
+    rename) wanted='KEY VALUE EDIT' own='-f --file -i --in-place --create -e --encoding -a --ascii -x --existing -v --verbose -h --help -V --version' ;;
     merge) wanted='FILE' own='-f --file -i --in-place --create -e --encoding -z --null -a --ascii -x --existing --known -v --verbose -h --help -V --version' ;;
     convert) wanted='ENCODING' own='-f --file -i --in-place -e --encoding -r --readable -h --help -V --version' ;;
     help) wanted='TOPIC' own='-h --help -V --version' ;;
@@ -99,8 +100,8 @@ _propedit() {
     *) [ -z "$open" ] || hidden=(-X '-*') ;;
     esac
     case ${wanted%% *} in
-    COMMAND | TOPIC) choices='get list comment check diff set remove merge convert help' ;;
-    EDIT) choices='set remove' ;;
+    COMMAND | TOPIC) choices='get list comment check diff set remove rename merge convert help' ;;
+    EDIT) choices='set remove rename' ;;
     ENCODING) choices='utf-8 iso-8859-1 windows-1252 ascii' ;;
     KEY | KEY.. | PREFIX)
         _propedit_keys

@@ -167,6 +167,20 @@ const CHECK: &[Row] = &[
           standard input:3: has U+FEFF, a byte order mark that is not at the front\n",
     ),
     ("-e latin1 check", b"a=1\n\xef\xbb\xbfb=2\xff\n", 0, b""),
+    // In UTF-16 the unit counts, and not two bytes that belong to different ones.
+    (
+        "check",
+        b"\xff\xfea\0\n\0\xff\xfeb\0\n\0\x61\xff\xfe\x61",
+        1,
+        b"standard input:2: has U+FEFF, a byte order mark that is not at the front\n",
+    ),
+    (
+        "-e utf-16be check",
+        b"\0#\xfe\xff\0\n\0a\xff\xfe\0",
+        1,
+        b"standard input:1: has U+FEFF, a byte order mark that is not at the front\n\
+          standard input:2: not UTF-16\n",
+    ),
     // UTF-32, of which the first form begins as UTF-16 does.
     (
         "check",
@@ -213,6 +227,56 @@ const CHECK: &[Row] = &[
     ),
 ];
 
+// Lines that end in a backslash which continues nothing, and those that only look continued. A comment line is never
+// continued; a line with a comment sign that continues another is no comment line.
+const ENDS: &[Row] = &[
+    (
+        "check",
+        b"a=1\\",
+        1,
+        b"standard input:1: ends in a backslash that continues nothing\n",
+    ),
+    (
+        "check",
+        b"a=1\\\n  2\\\r\n",
+        1,
+        b"standard input:2: ends in a backslash that continues nothing\n",
+    ),
+    ("-q check --pairs", b"\\\r", 1, b""),
+    ("check", b"a=1\\\\\n", 0, b""),
+    ("check", b"a=1\\\n\n# b\\\n", 0, b""),
+    ("check", b" ! a\\", 0, b""),
+    ("check", b"a=\\\n \n", 0, b""),
+    (
+        "-f x check",
+        b"a=1 \\ \nb=2\\\\\\\t\x0c\r# c\\ \nd=\\\r\n #e\\ \n",
+        1,
+        b"x:1: ends in a backslash and a blank, so the next line does not continue it\n\
+          x:2: ends in a backslash and a blank, so the next line does not continue it\n\
+          x:5: ends in a backslash and a blank, so the next line does not continue it\n",
+    ),
+    ("check", b"a\\ b=c\\\\ \nd= \n", 0, b""),
+    (
+        "-e windows-1252 check",
+        b"a=\xe9\\ ",
+        1,
+        b"standard input:1: ends in a backslash and a blank, so the next line does not continue it\n",
+    ),
+    (
+        "check",
+        b"\xff\xfea\0\\\0 \0\n\0#\0\\\0\t\0\n\0b\0\\\0\n\0",
+        1,
+        b"standard input:1: ends in a backslash and a blank, so the next line does not continue it\n\
+          standard input:3: ends in a backslash that continues nothing\n",
+    ),
+    (
+        "-e utf-16be check",
+        b"\0a\x5c\0\0 \0\n\0b\0\\\0\x0c",
+        1,
+        b"standard input:2: ends in a backslash and a blank, so the next line does not continue it\n",
+    ),
+];
+
 // The status alone tells whether anything is wrong, of each kind.
 const QUIET: &[Row] = &[
     ("-q check", b"", 0, b""),
@@ -252,6 +316,11 @@ const PAIRS: &[Row] = &[
 #[test]
 fn a_check_of_pairs_passes_over_comments(rt: HostRuntime) -> Result<(), Fail> {
     check_runs(&rt, Program::Propedit, PAIRS)
+}
+
+#[test]
+fn check_prints_what_ends_in_a_backslash(rt: HostRuntime) -> Result<(), Fail> {
+    check_runs(&rt, Program::Propedit, ENDS)
 }
 
 #[test]

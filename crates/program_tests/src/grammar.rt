@@ -33,6 +33,7 @@ const PLACES: &[Placed] = &[
     ),
     ("-f x", "set a 2", b"a=1", 0, b"a=2"),
     ("-fx", "remove a", b"a=1", 0, b""),
+    ("-f x", "rename a b", b"a=1", 0, b"b=1"),
     ("--file x", "convert ascii", b"\xc3\xa9", 0, b"\\u00e9"),
     ("-e latin1", "get \u{e9}", b"\xe9=1", 0, b"1\n"),
     ("--encoding=latin1", "list", b"\xe9=1", 0, b"\xc3\xa9\n"),
@@ -46,6 +47,7 @@ const PLACES: &[Placed] = &[
     ("--create -i x", "set a 1", b"", 3, b""),
     ("-v -i x", "set a 1", b"", 3, b""),
     ("--verbose -i x", "remove a", b"", 3, b""),
+    ("--create -vi x", "rename a b", b"", 3, b""),
     ("-xvi x", "remove a set b 1", b"", 3, b""),
     ("-i x --create", "remove a", b"", 3, b""),
     ("-d 80", "get port", b"", 0, b"80\n"),
@@ -80,7 +82,7 @@ const PLACES: &[Placed] = &[
         0,
         b"a=\xc3\xa9",
     ),
-    ("-V", "get a", b"", 0, b"propedit 1.18.0\n"),
+    ("-V", "get a", b"", 0, b"propedit 1.19.0\n"),
 ];
 
 #[test]
@@ -143,8 +145,8 @@ const DASHES: &[Row] = &[
     ("list -v -- -v", b"-v=1\nv=2", 0, b"-v=1\n"),
     ("list -v -", b"-v=1\nv=2", 0, b"-v=1\n"),
     ("check -- -a", b"", 3, b""),
-    ("check a -q", b"", 3, b""),
-    ("check - --help", b"", 3, b""),
+    ("check a -- -q", b"", 3, b""),
+    ("check - -- --help", b"", 3, b""),
     ("set -- -key value", b"", 0, b"-key=value\n"),
     ("set opts -Xmx1g", b"opts=1", 0, b"opts=-Xmx1g"),
     ("set -a -- -a \u{e9}", b"", 0, b"-a=\\u00e9\n"),

@@ -78,6 +78,20 @@ fn a_file_that_is_taken_for_a_key_is_named(rt: HostRuntime) -> Result<(), Fail> 
     check_hints(&rt, GET)
 }
 
+const COMMENT: &[Run<'static>] = &[
+    ("comment app.properties", b"port=80", 1, b"", NO_KEY),
+    ("comment -- app.properties", b"", 1, b"", NO_KEY),
+    ("comment port", b"", 1, b"", ""),
+    ("comment b", b"# a\nb=1", 0, b"a\n", ""),
+    ("-f x comment app.properties", b"", 1, b"", ""),
+    ("-f - comment app.properties", b"", 1, b"", ""),
+];
+
+#[test]
+fn a_file_that_is_taken_for_the_key_of_a_comment_is_named(rt: HostRuntime) -> Result<(), Fail> {
+    check_hints(&rt, COMMENT)
+}
+
 const LIST: &[Run<'static>] = &[
     (
         "list app.properties",

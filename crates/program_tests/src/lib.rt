@@ -4,6 +4,8 @@
 #![tactic(auto)]
 
 #[cfg(test)]
+mod bases;
+#[cfg(test)]
 mod checking;
 #[cfg(test)]
 mod commenting;
@@ -33,6 +35,8 @@ mod merging;
 mod propedit;
 #[cfg(test)]
 mod propfilter;
+#[cfg(test)]
+mod renaming;
 #[cfg(test)]
 mod runs;
 #[cfg(test)]

@@ -5,13 +5,11 @@ use crate::streams::{AMPLE, reader, sink, words_of};
 use counted_io::{CountedWrite, ScriptedSink, Tail};
 use java_properties::{Edit, Encoding};
 use propedit_arguments::{asked_for, explain};
-use properties_tools::propedit::answers::name;
-use properties_tools::propedit::merge::edits_of;
-use properties_tools::propedit::request::{
-    Change, Command, Destination, Form, Job, Merge, Missing, Request,
-};
-use properties_tools::propedit::{self, exit_status};
+use properties_tools::propedit;
+use properties_tools::propedit::merge::{Merged, edits_of, read_merge};
+use properties_tools::propedit::request::{Form, Merge, Missing, Request};
 use std::alloc::{AllocError, Global};
+use std::io::ErrorKind;
 use std::process::Abort;
 use std::test::Fail;
 
@@ -23,12 +21,15 @@ const IN_PLACE: u8 = 3;
 
 const MADE: u8 = 4;
 
+// The bytes of a file of pairs, and what comes after them.
+type Pairs<'a> = (&'a [u8], Tail);
+
 // Runs `propedit` as its `main` does, but over these bytes of the file of pairs and of the source that is printed.
 // Returns the status, and the sinks of the output and of the errors.
 fn run(
     alloc: Global,
     words: &str,
-    pairs: &[u8],
+    pairs: Pairs<'_>,
     source: &[u8],
 ) -> Result<(u8, ScriptedSink, ScriptedSink), AllocError> {
     let words = words_of(alloc, words)?;
@@ -47,36 +48,22 @@ fn run(
 fn merge<W: CountedWrite, E: CountedWrite>(
     alloc: Global,
     asked: Merge,
-    file: &[u8],
+    (file, tail): Pairs<'_>,
     source: &[u8],
     output: &mut W,
     errors: &mut E,
 ) -> Result<u8, AllocError> {
-    let Merge {
-        pairs,
-        form,
-        encoding,
-        mut edits,
-        destination,
-    } = asked;
-    match edits_of(alloc, file, encoding, form) {
-        Ok(list) => edits.list = list,
-        Err(failure) => return Ok(exit_status(alloc, errors, name(&pairs), Err(failure))),
-    }
-    match destination {
-        Destination::Printed(printed) => {
-            let job = Job {
-                encoding,
-                source: printed,
-                command: Command::Change(Change::Edits(edits)),
-            };
+    let mut pairs = reader(alloc, file, 5, tail)?;
+    match read_merge(alloc, asked, &mut pairs, errors) {
+        Ok(Merged::Printed(job)) => {
             let mut input = reader(alloc, source, 5, Tail::End)?;
             Ok(propedit::run(alloc, &job, &[], &mut input, output, errors))
         }
-        Destination::InPlace(_path, missing, _verbose) => Ok(match missing {
+        Ok(Merged::InPlace(file)) => Ok(match file.missing {
             Missing::Refuse => IN_PLACE,
             Missing::Create => MADE,
         }),
+        Err(status) => Ok(status),
     }
 }
 
@@ -84,9 +71,14 @@ fn merge<W: CountedWrite, E: CountedWrite>(
 type Run<'a> = (&'a str, &'a [u8], &'a [u8], u8, &'a [u8], &'a str);
 
 // Compares a run with the row of this number.
-fn check_run<R: Abort + AllocGlobal>(rt: &R, number: usize, row: Run<'_>) -> Result<(), Fail> {
+fn check_run<R: Abort + AllocGlobal>(
+    rt: &R,
+    number: usize,
+    tail: Tail,
+    row: Run<'_>,
+) -> Result<(), Fail> {
     let (words, pairs, source, status, output, errors) = row;
-    let (found, printed, said) = run(rt.alloc(), words, pairs, source)?;
+    let (found, printed, said) = run(rt.alloc(), words, (pairs, tail), source)?;
     let found = (words, found, Bytes(printed.bytes()), Bytes(said.bytes()));
     let wanted = (words, status, Bytes(output), Bytes(errors.as_bytes()));
     same(rt, number, found, wanted);
@@ -99,7 +91,8 @@ type Row<'a> = (&'a str, &'a [u8], &'a [u8], u8, &'a [u8]);
 fn check_runs<R: Abort + AllocGlobal>(rt: &R, rows: &[Row<'static>]) -> Result<(), Fail> {
     for (number, row) in (1usize..).zip(rows) {
         let (words, pairs, source, status, output) = *row;
-        check_run(rt, number, (words, pairs, source, status, output, ""))?;
+        let row = (words, pairs, source, status, output, "");
+        check_run(rt, number, Tail::End, row)?;
     }
     Ok(())
 }
@@ -248,9 +241,17 @@ fn files_of_pairs_are_refused(rt: HostRuntime) -> Result<(), Fail> {
             b"".as_slice(),
             errors.as_str(),
         );
-        check_run(&rt, number, row)?;
+        check_run(&rt, number, Tail::End, row)?;
     }
     Ok(())
+}
+
+#[test]
+fn a_file_of_pairs_that_fails_is_named(rt: HostRuntime) -> Result<(), Fail> {
+    let (pairs, source, output) = (b"a=1\n".as_slice(), b"a=2".as_slice(), b"".as_slice());
+    let errors = "propedit: x:2: entity not found\n";
+    let row = ("-f y merge x", pairs, source, 2, output, errors);
+    check_run(&rt, 1, Tail::Fault(ErrorKind::NotFound), row)
 }
 
 // What `main` edits in place. The file of pairs is refused before.

@@ -59,7 +59,7 @@ const NOT_UTF_16: &str = "not UTF-16";
 
 const HAS_NUL: &str = "U+0000; if this is UTF-16, -e utf-16le or -e utf-16be reads it";
 
-const NOT_EDITED: &str = "UTF-16 can be read but not edited; propedit convert utf-8 converts it";
+const IN_UTF_16: &str = "this command does not support UTF-16; propedit convert utf-8 converts it";
 
 // The words, the input, what follows the name of the source where the error is printed, and what is wrong.
 type Refused = (&'static str, &'static [u8], &'static str, &'static str);
@@ -129,11 +129,12 @@ const REFUSED: &[Refused] = &[
     ),
     ("-e utf-16le get a", b"a\0\n\0\x1e\xdc", ":2", NOT_UTF_16),
     ("-e utf-16le remove a", b"\x1e\xdc", ":1", NOT_UTF_16),
-    ("set a 2", b"\xfe\xff\0a", "", NOT_EDITED),
-    ("-e utf-16le set a 1", b"a\0", "", NOT_EDITED),
+    ("set a 2", b"\xfe\xff\0a", "", IN_UTF_16),
+    ("-e utf-16le set a 1", b"a\0", "", IN_UTF_16),
+    ("-e utf-16le comment a", b"a\0", "", IN_UTF_16),
     // Whatever is wrong with a source comes before a key that it lacks.
     ("-x set b 2", b"a=1\nk=\\u12", ":2", TOO_FEW),
-    ("-x set b 2", b"\xfe\xff\0a", "", NOT_EDITED),
+    ("-x set b 2", b"\xfe\xff\0a", "", IN_UTF_16),
     // The name `-` is that of standard input.
     ("-f - get a", b"a=\\u1", ":1", TOO_FEW),
 ];
@@ -190,8 +191,8 @@ fn files_are_asked_for(rt: HostRuntime) -> Result<(), Fail> {
 }
 
 const THE_VERSION: &[Row] = &[
-    ("--version", b"", 0, b"propedit 1.18.0\n"),
-    ("-i x -V", b"", 0, b"propedit 1.18.0\n"),
+    ("--version", b"", 0, b"propedit 1.19.0\n"),
+    ("-i x -V", b"", 0, b"propedit 1.19.0\n"),
 ];
 
 #[test]

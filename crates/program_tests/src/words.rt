@@ -142,6 +142,23 @@ const OTHER_WORDS: &[Refusal] = &[
         "diff - -- -",
         "at most one file of 'diff' can be standard input, '-'; './-' names a file",
     ),
+    // So can at most one of the files that are checked, and of their base.
+    (
+        "check - a -",
+        "at most one file of 'check' can be standard input, '-'; './-' names a file",
+    ),
+    (
+        "check --base a - b -- -",
+        "at most one file of 'check' can be standard input, '-'; './-' names a file",
+    ),
+    (
+        "-f - check --base -",
+        "at most one file of 'check' can be standard input, '-'; './-' names a file",
+    ),
+    (
+        "check --base a",
+        "'check --base FILE' requires a FILE to check; '-' is standard input",
+    ),
     ("dif a b", "unknown command 'dif'; did you mean 'diff'?"),
     ("cmp a b", "unknown command 'cmp'; did you mean 'diff'?"),
 ];
@@ -163,6 +180,14 @@ const EDITS: &[Refusal] = &[
     ),
     ("remove", "'remove' requires a KEY"),
     ("set a 1 remove --", "'remove' requires a KEY"),
+    ("rename", "'rename' requires a KEY"),
+    ("rename --", "'rename' requires a KEY"),
+    ("rename a", "'rename a' requires a new KEY"),
+    ("set a 1 rename -- a", "'rename a' requires a new KEY"),
+    (
+        "rename -a b",
+        "'rename b' requires a new KEY; a key that begins with a dash comes after '--'",
+    ),
     ("set a 1 set b", "'set b' requires a VALUE"),
     // A KEY may be meant by an option.
     (
@@ -196,7 +221,7 @@ const EDITS: &[Refusal] = &[
     ),
     (
         "set a 1 set -i x y",
-        "unknown edit 'y': each edit begins with set or remove, and options come before the first KEY",
+        "unknown edit 'y': each edit begins with set, remove or rename, and options come before the first KEY",
     ),
     // A KEY and a VALUE that both look like NAME=TEXT.
     (
@@ -209,15 +234,15 @@ const EDITS: &[Refusal] = &[
     ),
     (
         "set a 1 -i x",
-        "unknown edit '-i': each edit begins with set or remove, and options come before the first KEY",
+        "unknown edit '-i': each edit begins with set, remove or rename, and options come before the first KEY",
     ),
     (
         "set port=8080 -i x",
-        "unknown edit 'x': each edit begins with set or remove, and options come before the first KEY",
+        "unknown edit 'x': each edit begins with set, remove or rename, and options come before the first KEY",
     ),
     (
         "-i x set port 1 host 2",
-        "unknown edit 'host': each edit begins with set or remove, and options come before the first KEY",
+        "unknown edit 'host': each edit begins with set, remove or rename, and options come before the first KEY",
     ),
     (
         "set a 1 delete b",
@@ -293,7 +318,7 @@ const OPTIONS: &[Refusal] = &[
     ("get -z --", "'get' requires a KEY"),
     (
         "set -e -i x a 1",
-        "unknown edit '1': each edit begins with set or remove, and options come before the first KEY",
+        "unknown edit '1': each edit begins with set, remove or rename, and options come before the first KEY",
     ),
     // Standard input can't be changed in place.
     ("-i - set k v", REQUIRES_A_FILE),
@@ -320,11 +345,17 @@ const OPTIONS: &[Refusal] = &[
     ("--values list -v", "the option '-v' is given twice"),
     ("set -i - k v", REQUIRES_A_FILE),
     // What is written in ASCII is what a `set` puts in.
-    ("-a remove a", "the option '-a' requires a 'set'"),
-    ("remove -ax a", "the option '-a' requires a 'set'"),
+    (
+        "-a remove a",
+        "the option '-a' requires a 'set' or a 'rename'",
+    ),
+    (
+        "remove -ax a",
+        "the option '-a' requires a 'set' or a 'rename'",
+    ),
     (
         "remove --ascii a remove b",
-        "the option '--ascii' requires a 'set'",
+        "the option '--ascii' requires a 'set' or a 'rename'",
     ),
 ];
 
@@ -499,6 +530,9 @@ const LATE_OPTIONS: &[Filled] = &[
     ("list a --file=x", "--file=x", "list"),
     ("convert ascii -ix", "-ix", "convert"),
     ("merge a --known", "--known", "merge"),
+    ("check a --base b", "--base", "check"),
+    ("check --base a b -q -- -a", "-q", "check"),
+    ("check a --help", "--help", "check"),
     ("diff a -e latin1 b", "-e", "diff"),
     ("diff a b -elatin1", "-elatin1", "diff"),
 ];
@@ -597,6 +631,8 @@ const USELESS_OPTIONS: &[Filled] = &[
     ("-v list --json", "--json", "-v"),
     ("--json -z list", "--json", "-z"),
     ("--json get a", "--json", "get"),
+    ("--json -v check", "-v", "check"),
+    ("-z --json check", "-z", "check"),
     ("-i x help get", "-i FILE", "help"),
     ("-x --create -i a set k v", "-x", "--create"),
     ("-x merge --known a", "-x", "--known"),
@@ -638,8 +674,9 @@ const COMMANDS: &str = "get [OPTION ..] KEY ..\n       \
     propedit comment [OPTION ..] KEY\n       \
     propedit check [OPTION ..] [FILE ..]\n       \
     propedit diff [OPTION ..] OLD NEW\n       \
-    propedit set [OPTION ..] KEY VALUE [set KEY VALUE | remove KEY] ..\n       \
-    propedit remove [OPTION ..] KEY [set KEY VALUE | remove KEY] ..\n       \
+    propedit set [OPTION ..] KEY VALUE [set .. | remove .. | rename ..] ..\n       \
+    propedit remove [OPTION ..] KEY [set .. | remove .. | rename ..] ..\n       \
+    propedit rename [OPTION ..] OLD NEW [set .. | remove .. | rename ..] ..\n       \
     propedit merge [OPTION ..] FILE\n       \
     propedit convert [OPTION ..] ENCODING\n       \
     propedit help [COMMAND]";
@@ -650,7 +687,7 @@ const USAGES: &[(&str, &str, &str)] = &[
     (
         "-f x delete a",
         "unknown command 'delete'; did you mean 'remove'?",
-        "remove [OPTION ..] KEY [set KEY VALUE | remove KEY] ..",
+        "remove [OPTION ..] KEY [set .. | remove .. | rename ..] ..",
     ),
     (
         "-a get a",
@@ -670,13 +707,14 @@ const USAGES: &[(&str, &str, &str)] = &[
     (
         "set a",
         "'set a' requires a VALUE",
-        "set [OPTION ..] KEY VALUE [set KEY VALUE | remove KEY] ..",
+        "set [OPTION ..] KEY VALUE [set .. | remove .. | rename ..] ..",
     ),
     (
         "set a 1 b",
-        "unknown edit 'b': each edit begins with set or remove, and options come before the first KEY",
-        "set [OPTION ..] KEY VALUE [set KEY VALUE | remove KEY] ..\n       \
-        propedit remove [OPTION ..] KEY [set KEY VALUE | remove KEY] ..",
+        "unknown edit 'b': each edit begins with set, remove or rename, and options come before the first KEY",
+        "set [OPTION ..] KEY VALUE [set .. | remove .. | rename ..] ..\n       \
+        propedit remove [OPTION ..] KEY [set .. | remove .. | rename ..] ..\n       \
+        propedit rename [OPTION ..] OLD NEW [set .. | remove .. | rename ..] ..",
     ),
     // An option after the command tells which command is meant.
     (

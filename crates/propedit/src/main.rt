@@ -2,23 +2,22 @@
 #![tactic(auto)]
 
 use counted_io::{Counted, CountedWrite};
-use java_properties::{Edit, Encoding, read_source, write_source};
 use propedit_arguments::mistake::Mistake;
 use propedit_arguments::parse::explain_mistake;
 use propedit_arguments::{
     asked_for, explain, explain_name, explain_not_utf_8, marked_words, name_of_marked,
 };
 use properties_tools::arguments::words;
-use properties_tools::propedit::against::{Base, base_of};
+use properties_tools::propedit::against::Base;
 use properties_tools::propedit::answers::name;
+use properties_tools::propedit::base_run::run_base;
 use properties_tools::propedit::diff::run_diff;
-use properties_tools::propedit::error::{Failure, STANDARD_OUTPUT};
+use properties_tools::propedit::error::Failure;
 use properties_tools::propedit::hint::{possible_files, print_reading, refused_file};
 use properties_tools::propedit::in_place::edit_file;
-use properties_tools::propedit::merge::edits_of;
+use properties_tools::propedit::merge::{Merged, read_merge};
 use properties_tools::propedit::request::{
-    Change, Check, CheckedFiles, Command, Comparison, Destination, FileChange, Form, Job, Merge,
-    Request, Source,
+    CheckedBase, CheckedFiles, Command, Comparison, Job, Merge, Request, Source,
 };
 use properties_tools::propedit::same_file::{INPUT, refuse_output};
 use properties_tools::propedit::{exit_status, print_out_of_memory, run};
@@ -66,60 +65,15 @@ fn merge<W: CountedWrite, E: CountedWrite>(
     output: &mut W,
     errors: &mut E,
 ) -> u8 {
-    let Merge {
-        pairs,
-        form,
-        encoding,
-        mut edits,
-        destination,
-    } = asked;
-    match edits_in(rt, alloc, &pairs, encoding, form) {
-        Ok(list) => edits.list = list,
-        Err(failure) => return exit_status(alloc, errors, name(&pairs), Err(failure)),
+    let mut pairs = match opened_or_explain(rt, alloc, &asked.pairs, errors) {
+        Ok(pairs) => pairs,
+        Err(status) => return status,
+    };
+    match read_merge(alloc, asked, &mut pairs, errors) {
+        Ok(Merged::Printed(job)) => do_job(rt, alloc, &job, output, errors),
+        Ok(Merged::InPlace(file)) => edit_file(rt, alloc, &file, errors),
+        Err(status) => status,
     }
-    let change = Change::Edits(edits);
-    match destination {
-        Destination::Printed(source) => {
-            let job = Job {
-                encoding,
-                source,
-                command: Command::Change(change),
-            };
-            do_job(rt, alloc, &job, output, errors)
-        }
-        Destination::InPlace(path, missing, verbose) => {
-            let file = FileChange {
-                path,
-                encoding,
-                change,
-                missing,
-                verbose,
-            };
-            edit_file(rt, alloc, &file, errors)
-        }
-    }
-}
-
-// Returns the edits that set the pairs of a file.
-fn edits_in(
-    rt: &HostRuntime,
-    alloc: Global,
-    pairs: &Source,
-    encoding: Encoding,
-    form: Form,
-) -> Result<Vec<Edit>, Failure> {
-    let bytes = bytes_of(rt, alloc, pairs, encoding)?;
-    edits_of(alloc, &bytes, encoding, form)
-}
-
-// Reads a source to its end.
-fn bytes_of(
-    rt: &HostRuntime,
-    alloc: Global,
-    source: &Source,
-    encoding: Encoding,
-) -> Result<Vec<u8>, Failure> {
-    Ok(read_source(alloc, &mut opened(rt, source)?, encoding)?)
 }
 
 // Checks files, of which some have names that are not UTF-8. No other command takes such a word.
@@ -222,8 +176,13 @@ fn check_files<W: CountedWrite, E: CountedWrite>(
     } = files;
     let mut highest = 0;
     let mut command = Command::Check(check);
-    if let Some(source) = &base {
-        match check_base(rt, alloc, source, encoding, check, output, errors) {
+    if let Some(source) = base {
+        let base = CheckedBase {
+            source,
+            encoding,
+            check,
+        };
+        match check_base(rt, alloc, &base, output, errors) {
             Ok((status, base)) => {
                 highest = status;
                 command = Command::CheckAgainst(check, base);
@@ -243,34 +202,19 @@ fn check_files<W: CountedWrite, E: CountedWrite>(
     highest
 }
 
-// Checks a base, and returns the status and the base, or only a status if it isn't read or what is wrong isn't printed.
+// Opens a base, and checks it, unless its name is not UTF-8.
 fn check_base<W: CountedWrite, E: CountedWrite>(
     rt: &HostRuntime,
     alloc: Global,
-    source: &Source,
-    encoding: Encoding,
-    check: Check,
+    base: &CheckedBase,
     output: &mut W,
     errors: &mut E,
 ) -> Result<(u8, Base), u8> {
-    if let Some(marked) = marked_name(source) {
+    if let Some(marked) = marked_name(&base.source) {
         return Err(explain_name(alloc, marked, errors));
     }
-    let read = match bytes_of(rt, alloc, source, encoding) {
-        Ok(bytes) => base_of(alloc, name(source), &bytes, encoding, check),
-        Err(failure) => Err(failure),
-    };
-    let (answer, base) = match read {
-        Ok(read) => read,
-        Err(failure) => return Err(exit_status(alloc, errors, name(source), Err(failure))),
-    };
-    match write_source(output, &answer.text) {
-        Ok(()) => Ok((answer.status, base)),
-        Err(error) => {
-            let failure = Failure::Output(error);
-            Err(exit_status(alloc, errors, STANDARD_OUTPUT, Err(failure)))
-        }
-    }
+    let mut input = opened_or_explain(rt, alloc, &base.source, errors)?;
+    run_base(alloc, base, &mut input, output, errors)
 }
 
 // The name `-` is that of standard input.

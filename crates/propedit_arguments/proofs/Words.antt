@@ -1,18 +1,16 @@
 -- The words of edits, one edit after another.
-use Rattle.std.proofs.Common.{◌≡◌, ◌≢◌, ◌≤◌, ◌<◌, ◌-◌, ◌==◌, false, ℕ, List, [], ◌∷◌, ◌++◌, length, get_or, take, drop, map}
-use Rattle.std.proofs.Common.{refl, ap, sym, subst, ◌∙◌, append_assoc, append-nil, arith, true≢false}
+use Rattle.std.proofs.Common.{◌≡◌, ◌≢◌, ◌≤◌, ◌<◌, ◌-◌, ◌==◌, true, false, ℕ, List, [], ◌∷◌, ◌++◌, length, get_or, take, drop, map}
+use Rattle.std.proofs.Common.{refl, ap, sym, subst, ◌∙◌, append_assoc, append-nil, arith, true≢false, eqb-true}
 use Rattle.std.specs.Prelude.{codes, string_bytes}
 use Rattle.std.specs.declared.string.String.{String}
 use Rattle.std.specs.List.{list_any}
 use Rattle.std.proofs.lemmas.Grind.{common_steps}
-use Rattle.std.proofs.lemmas.List.{map-append}
-use Rattle.properties_format.specs.Edits as format
-use Rattle.java_properties.specs.Editing.{edit_in, edits_in}
-use Rattle.properties_editing.specs.declared.edit.Edit as editor
-use Rattle.propedit_arguments.specs.Private.Edits.{Edit, set, remove, Form, plain, literal, WrittenEdit, MayBeWritten, IsAssignment}
-use Rattle.propedit_arguments.specs.Private.Edits.{in_characters, edit_words, words_of, IsMistakeAt, no_edit, no_key, no_value, assignments}
+use Rattle.std.proofs.lemmas.List.{length-append, length-map, map-append, nil_from_length}
+use Rattle.propedit_arguments.specs.Private.Edits.{Edit, Meant, set, remove, rename, Form, plain, literal, WrittenEdit, MayBeWritten, IsAssignment}
+use Rattle.propedit_arguments.specs.Private.Edits.{asked_edit, asked_edits, in_characters, edit_words, words_of, IsMistakeAt, no_edit, no_key, no_value, no_new_key, assignments}
 use Rattle.propedit_arguments.specs.Private.Edits.{AreWrong, is_sign}
 use Rattle.propedit_arguments.proofs.Assignments.{has-sign}
+use Rattle.propedit_arguments.specs.declared.edits.AskedEdit.{AskedEdit}
 use Rattle.propedit_arguments.specs.declared.mistake.Mistake.{Mistake}
 
 -- the words of one edit more
@@ -21,24 +19,36 @@ words-more [] w = append-nil (edit_words w.form w.edit)
 words-more (v ∷ vs) w =
     ap (λ u. edit_words v.form v.edit ++ u) (words-more vs w) ∙ sym (append_assoc (edit_words v.form v.edit) (words_of vs) (edit_words w.form w.edit))
 
+-- the first word, if there is one
+first-word : List (List ℕ) → List ℕ
+first-word [] = []
+first-word (w ∷ ws) = w
+
+-- Two commands begin alike, and are two.
+two-commands : codes "remove" ≡ codes "rename" → ⊥
+two-commands e = true≢false (ap (list_any (λ c. c == 0x76)) e)
+
 -- what comes after the words of an edit, which only one edit has
 same-rest : (f g : Form) (e d : Edit) (a b : List (List ℕ)) → MayBeWritten f e → MayBeWritten g d → edit_words f e ++ a ≡ edit_words g d ++ b → a ≡ b
+unfolding first-word
 same-rest plain plain (set k v) (set l w) a b p q e = cc
-same-rest plain plain (set k v) (remove l) a b p q e = absurd (cc)
-same-rest plain plain (remove k) (set l w) a b p q e = absurd (cc)
-same-rest plain plain (remove k) (remove l) a b p q e = cc
 same-rest plain literal (set k v) (set l w) a b p q e = absurd (p.0 (cc))
-same-rest plain literal (set k v) (remove l) a b p q e = absurd (cc)
-same-rest plain literal (remove k) (set l w) a b p q e = absurd (cc)
-same-rest plain literal (remove k) (remove l) a b p q e = absurd (p (cc))
 same-rest literal plain (set k v) (set l w) a b p q e = absurd (q.0 (cc))
-same-rest literal plain (set k v) (remove l) a b p q e = absurd (cc)
-same-rest literal plain (remove k) (set l w) a b p q e = absurd (cc)
-same-rest literal plain (remove k) (remove l) a b p q e = absurd (q (cc))
 same-rest literal literal (set k v) (set l w) a b p q e = cc
-same-rest literal literal (set k v) (remove l) a b p q e = absurd (cc)
-same-rest literal literal (remove k) (set l w) a b p q e = absurd (cc)
+same-rest f g (set k v) (remove l) a b p q e = absurd (cc)
+same-rest f g (set k v) (rename l w) a b p q e = absurd (cc)
+same-rest f g (remove k) (set l w) a b p q e = absurd (cc)
+same-rest plain plain (remove k) (remove l) a b p q e = cc
+same-rest plain literal (remove k) (remove l) a b p q e = absurd (p (cc))
+same-rest literal plain (remove k) (remove l) a b p q e = absurd (q (cc))
 same-rest literal literal (remove k) (remove l) a b p q e = cc
+same-rest f g (remove k) (rename l w) a b p q e = absurd (two-commands (ap first-word e))
+same-rest f g (rename k v) (set l w) a b p q e = absurd (cc)
+same-rest f g (rename k v) (remove l) a b p q e = absurd (two-commands (sym (ap first-word e)))
+same-rest plain plain (rename k v) (rename l w) a b p q e = cc
+same-rest plain literal (rename k v) (rename l w) a b p q e = absurd (p (cc))
+same-rest literal plain (rename k v) (rename l w) a b p q e = absurd (q (cc))
+same-rest literal literal (rename k v) (rename l w) a b p q e = cc
 
 -- some words begin the words of an edit
 no-none : (f : Form) (e : Edit) (a : List (List ℕ)) → edit_words f e ++ a ≢ []
@@ -80,27 +90,40 @@ pub some-words : {Z : Type 0} (texts : List (String Z)) → (length texts == 0) 
 some-words [] h e = cc
 some-words (a ∷ texts) h e = cc
 
+-- and none
+pub no-words : {Z : Type 0} (texts : List (String Z)) → (length texts == 0) ≡ true → map string_bytes texts ≡ []
+no-words texts h = ap (map string_bytes) (nil_from_length texts (eqb-true (length texts) 0 h))
+
+-- What comes after the words of an edit is shorter.
+pub shorter : {Y Z : Type 0} (rest : List (String Y)) (others : List (String Z)) (form : Form) (edit : Edit)
+    → map string_bytes rest ≡ edit_words form edit ++ map string_bytes others → length others < length rest
+shorter rest others form edit is =
+    let left = length-map rest string_bytes in
+    let right = length-map others string_bytes in
+    let both = ap length is ∙ length-append (edit_words form edit) (map string_bytes others) in
+    omega arith
+
 -- Edits were found and are made, and these words are left.
-pub record HasMade (words : List (List ℕ)) (edits : List format.Edit) (rest : List (List ℕ)) : Type 0 where
+pub record HasMade (words : List (List ℕ)) (edits : List Meant) (rest : List (List ℕ)) : Type 0 where
   pub done : List WrittenEdit
   pub is : words ≡ words_of done ++ rest
   pub made : edits ≡ map (λ w. in_characters w.edit) done
 
 -- none of them yet
-pub made-none : (words : List (List ℕ)) (edits : List editor.Edit) → edits ≡ [] → HasMade words (edits_in edits) words
-made-none words edits none = record { done = []; is = refl; made = ap edits_in none }
+pub made-none : (words : List (List ℕ)) (edits : List AskedEdit) → edits ≡ [] → HasMade words (asked_edits edits) words
+made-none words edits none = record { done = []; is = refl; made = ap asked_edits none }
 
 -- one more
-pub made-more : {more : List editor.Edit} (words : List (List ℕ)) (edits : List editor.Edit) (rest others : List (List ℕ))
-    (form : Form) (edit : Edit) (made : editor.Edit) → HasMade words (edits_in edits) rest → MayBeWritten form edit
-    → rest ≡ edit_words form edit ++ others → edit_in made ≡ in_characters edit → more ≡ edits ++ (made ∷ []) → HasMade words (edits_in more) others
+pub made-more : {more : List AskedEdit} (words : List (List ℕ)) (edits : List AskedEdit) (rest others : List (List ℕ))
+    (form : Form) (edit : Edit) (made : AskedEdit) → HasMade words (asked_edits edits) rest → MayBeWritten form edit
+    → rest ≡ edit_words form edit ++ others → asked_edit made ≡ in_characters edit → more ≡ edits ++ (made ∷ []) → HasMade words (asked_edits more) others
 made-more words edits rest others form edit made h may next same is = record {
   done = h.done ++ (w ∷ []);
   is =
       h.is ∙ ap (λ v. words_of h.done ++ v) next ∙ sym (append_assoc (words_of h.done) (edit_words form edit) others)
       ∙ ap (λ v. v ++ others) (sym (words-more h.done w));
   made =
-      ap edits_in is ∙ map-append edit_in edits (made ∷ []) ∙ ap (λ v. edits_in edits ++ (v ∷ [])) same
+      ap asked_edits is ∙ map-append asked_edit edits (made ∷ []) ∙ ap (λ v. asked_edits edits ++ (v ∷ [])) same
       ∙ ap (λ v. v ++ (in_characters edit ∷ [])) h.made ∙ sym (map-append (λ v. in_characters v.edit) h.done (w ∷ []));
 }
   where
@@ -116,8 +139,10 @@ no-dashes a = true≢false (sym (has-sign a.name a.value) ∙ ap (list_any is_si
 -- Where something is wrong, no edit begins the words.
 none-at : (words : List (List ℕ)) (mistake : Mistake) (f : Form) (e : Edit) (others : List (List ℕ)) → MayBeWritten f e → IsMistakeAt words mistake
     → words ≡ edit_words f e ++ others → ⊥
-none-at words mistake f (set k v) others may (no_edit word rest is no-set no-removal m) w = no-set (cc)
-none-at words mistake f (remove k) others may (no_edit word rest is no-set no-removal m) w = no-removal (cc)
+unfolding first-word
+none-at words mistake f (set k v) others may (no_edit word rest is no-set no-removal no-renaming m) w = no-set (cc)
+none-at words mistake f (remove k) others may (no_edit word rest is no-set no-removal no-renaming m) w = no-removal (cc)
+none-at words mistake f (rename k v) others may (no_edit word rest is no-set no-removal no-renaming m) w = no-renaming (cc)
 none-at words mistake plain (set k v) others may (no_key command edit plain c is m) w = cc
 none-at words mistake plain (remove k) others may (no_key command edit plain c is m) w = cc
 none-at words mistake literal (set k v) others may (no_key command edit plain c is m) w = cc
@@ -126,28 +151,37 @@ none-at words mistake plain (set k v) others may (no_key command edit literal c 
 none-at words mistake plain (remove k) others may (no_key command edit literal c is m) w = may (cc)
 none-at words mistake literal (set k v) others may (no_key command edit literal c is m) w = cc
 none-at words mistake literal (remove k) others may (no_key command edit literal c is m) w = cc
+none-at words mistake plain (rename k v) others may (no_key command edit plain c is m) w = cc
+none-at words mistake literal (rename k v) others may (no_key command edit plain c is m) w = cc
+none-at words mistake plain (rename k v) others may (no_key command edit literal c is m) w = cc
+none-at words mistake literal (rename k v) others may (no_key command edit literal c is m) w = cc
 none-at words mistake plain (set k v) others may (no_value key plain is first m) w = cc
-none-at words mistake plain (remove k) others may (no_value key plain is first m) w = cc
 none-at words mistake literal (set k v) others may (no_value key plain is first m) w = cc
-none-at words mistake literal (remove k) others may (no_value key plain is first m) w = cc
 none-at words mistake plain (set k v) others may (no_value key literal is first m) w = may.0 (cc)
-none-at words mistake plain (remove k) others may (no_value key literal is first m) w = cc
 none-at words mistake literal (set k v) others may (no_value key literal is first m) w = cc
-none-at words mistake literal (remove k) others may (no_value key literal is first m) w = cc
+none-at words mistake f (remove k) others may (no_value key g is first m) w = cc
+none-at words mistake f (rename k v) others may (no_value key g is first m) w = cc
+none-at words mistake f (set k v) others may (no_new_key key g is first m) w = cc
+none-at words mistake f (remove k) others may (no_new_key key g is first m) w = two-commands (ap first-word (sym w ∙ is))
+none-at words mistake plain (rename k v) others may (no_new_key key plain is first m) w = cc
+none-at words mistake literal (rename k v) others may (no_new_key key plain is first m) w = cc
+none-at words mistake plain (rename k v) others may (no_new_key key literal is first m) w = may (cc)
+none-at words mistake literal (rename k v) others may (no_new_key key literal is first m) w = cc
 none-at words mistake plain (set k v) others may (assignments key value rest is a b m) w =
     let one : key.now ≡ k = cc in
     let other : value.now ≡ v = cc in
     may.1 (subst IsAssignment one a) (subst IsAssignment other b)
-none-at words mistake plain (remove k) others may (assignments key value rest is a b m) w = cc
 none-at words mistake literal (set k v) others may (assignments key value rest is a b m) w =
     let dashes : key.now ≡ codes "--" = cc in no-dashes (subst IsAssignment dashes a)
-none-at words mistake literal (remove k) others may (assignments key value rest is a b m) w = cc
+none-at words mistake f (remove k) others may (assignments key value rest is a b m) w = cc
+none-at words mistake f (rename k v) others may (assignments key value rest is a b m) w = cc
 
 -- Something is wrong with some words.
 some-wrong : (words : List (List ℕ)) (mistake : Mistake) → IsMistakeAt words mistake → words ≢ []
-some-wrong words mistake (no_edit word rest is no-set no-removal m) e = cc
+some-wrong words mistake (no_edit word rest is no-set no-removal no-renaming m) e = cc
 some-wrong words mistake (no_key command edit form c is m) e = cc
 some-wrong words mistake (no_value key form is first m) e = cc
+some-wrong words mistake (no_new_key key form is first m) e = cc
 some-wrong words mistake (assignments key value rest is a b m) e = cc
 
 -- Where something is wrong behind some edits, the words are those of no edits.
@@ -161,7 +195,7 @@ no-edits words mistake h all is = left (rest-of h.before all h.rest (sym is ∙ 
     ] o.1
 
 -- An error that says what is wrong behind some edits is what the words give.
-pub refused : (words : List (List ℕ)) (edits : List format.Edit) (rest : List (List ℕ)) (mistake : Mistake)
+pub refused : (words : List (List ℕ)) (edits : List Meant) (rest : List (List ℕ)) (mistake : Mistake)
     → HasMade words edits rest → rest ≢ [] → (rest ≢ [] → IsMistakeAt rest mistake)
     → AreWrong words mistake × ((all : List WrittenEdit) → words ≡ words_of all → ⊥)
 refused words edits rest mistake h some wrong = (w, no-edits words mistake w)

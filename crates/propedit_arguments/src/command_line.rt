@@ -3,7 +3,7 @@
 use java_properties::Repertoire;
 use std::fmt;
 
-const VERSION: &str = "1.18.0";
+const VERSION: &str = "1.19.0";
 
 /// A command.
 #[derive(Clone, Copy, Debug, PartialEq, Eq)]
@@ -15,6 +15,7 @@ pub enum CommandName {
     Diff,
     Set,
     Remove,
+    Rename,
     Merge,
     Convert,
     Help,
@@ -129,6 +130,7 @@ pub const COMMANDS: &[CommandRow] = &[
             OptionName::Base,
             OptionName::Pairs,
             OptionName::Quiet,
+            OptionName::Json,
         ],
         other_names: &["lint", "validate", "verify"],
         examples: "propedit check -a -- *.properties\n  \
@@ -167,7 +169,18 @@ pub const COMMANDS: &[CommandRow] = &[
         examples: "propedit remove -i app.properties port\n  \
             propedit remove port set server.port 8080 < app.properties",
         statuses: "0 done; 1 no pair has a KEY, and -x is given; 2 an error.\n\
-            The option -a requires a 'set'",
+            The option -a requires a 'set' or a 'rename'",
+    },
+    CommandRow {
+        command: CommandName::Rename,
+        name: "rename",
+        words: "OLD NEW",
+        help: "Renames a key where it stands; edits may follow",
+        options: EDIT_OPTIONS,
+        other_names: &["mv", "move", "rekey"],
+        examples: "propedit rename -i app.properties login.user user.name\n  \
+            propedit rename a b rename b c < app.properties",
+        statuses: "0 done; 1 no pair has OLD, or one has NEW; 2 an error",
     },
     CommandRow {
         command: CommandName::Merge,
@@ -241,7 +254,7 @@ const OPTIONS: &[OptionRow] = &[
         short: Some('i'),
         long: "in-place",
         value: "FILE",
-        help: "Changes FILE in place (set, remove, merge and convert)",
+        help: "Changes FILE in place (edits, merge and convert)",
     },
     OptionRow {
         option: OptionName::Create,
@@ -283,7 +296,7 @@ const OPTIONS: &[OptionRow] = &[
         short: None,
         long: "json",
         value: "",
-        help: "Has list and diff print JSON",
+        help: "Has list, check and diff print JSON",
     },
     OptionRow {
         option: OptionName::Ascii,
@@ -487,8 +500,11 @@ impl CommandRow {
     /// Returns what its first argument is, if it may begin with a dash.
     pub(crate) fn first_argument(&self) -> Option<&'static str> {
         match self.command {
-            CommandName::Get | CommandName::Comment | CommandName::Set | CommandName::Remove =>
-                Some("key"),
+            CommandName::Get
+            | CommandName::Comment
+            | CommandName::Set
+            | CommandName::Remove
+            | CommandName::Rename => Some("key"),
             CommandName::List => Some("prefix"),
             CommandName::Check | CommandName::Diff | CommandName::Merge => Some("file"),
             CommandName::Convert | CommandName::Help => None,
@@ -505,7 +521,12 @@ impl CommandRow {
 
     /// Returns whether it edits.
     pub(crate) fn is_edit(&self) -> bool {
-        self.command == CommandName::Set || self.command == CommandName::Remove
+        self.command == CommandName::Remove || self.takes_two_texts()
+    }
+
+    /// Returns whether it is an edit of two texts.
+    pub(crate) fn takes_two_texts(&self) -> bool {
+        self.command == CommandName::Set || self.command == CommandName::Rename
     }
 }
 
@@ -573,21 +594,22 @@ impl fmt::Display for Usage {
     fn fmt<W: fmt::Write>(&self, f: &mut fmt::Formatter<W>) -> fmt::Result {
         match self {
             Usage::Of(row) => show_usage(f, "Usage:", row),
-            Usage::Edits => write!(
-                f,
-                "Usage: propedit set [OPTION ..] KEY VALUE{MORE_EDITS}\n       \
-                propedit remove [OPTION ..] KEY{MORE_EDITS}\n"
-            ),
-            Usage::All => {
-                let mut title = "Usage:";
-                for row in COMMANDS {
-                    show_usage(f, title, row)?;
-                    title = "      ";
-                }
-                Ok(())
-            }
+            Usage::Edits => show_usages(f, true),
+            Usage::All => show_usages(f, false),
         }
     }
+}
+
+// Prints how each command is written, or each edit.
+fn show_usages<W: fmt::Write>(f: &mut fmt::Formatter<W>, edits_only: bool) -> fmt::Result {
+    let mut title = "Usage:";
+    for row in COMMANDS {
+        if !edits_only || row.is_edit() {
+            show_usage(f, title, row)?;
+            title = "      ";
+        }
+    }
+    Ok(())
 }
 
 // Prints after this title how a command is written.
@@ -609,7 +631,7 @@ fn show_usage<W: fmt::Write>(
     )
 }
 
-const MORE_EDITS: &str = " [set KEY VALUE | remove KEY] ..";
+const MORE_EDITS: &str = " [set .. | remove .. | rename ..] ..";
 
 /// What `--help` prints.
 #[derive(Clone, Copy)]

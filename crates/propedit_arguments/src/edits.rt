@@ -2,14 +2,22 @@
 
 ghost use Rattle.std.specs.Prelude.{◌∷◌, ◌≡◌, codes, map, string_bytes, IfOk, MatchBool};
 ghost use Rattle.std.specs.List.{list_any};
-ghost use Rattle.java_properties.specs.Editing.{edit_in};
 ghost use Rattle.properties_format.specs.Text.{is_blank};
-ghost use Rattle.propedit_arguments.specs.Private.Edits.{borrowed_edit, in_characters, IsAssignment};
+ghost use Rattle.propedit_arguments.specs.Private.Edits.{asked_edit, borrowed_edit, in_characters, IsAssignment};
 ghost use Rattle.propedit_arguments.specs.Private.Edits.{AreAfterDashes, GivesEdits, RefusesAssignments, TakesEdit};
 
 use crate::mistake::Mistake;
 use java_properties::Edit;
 use std::alloc::{AllocError, Global};
+
+/// An edit that words ask for.
+#[derive(Drop)]
+pub enum AskedEdit {
+    /// A key is set or removed.
+    Edit(Edit),
+    /// A key gets another name.
+    Rename(String, String),
+}
 
 /// Returns the edits that a command and the words after its options are, in order. If they are no edits, the mistake
 /// names the wrong word.
@@ -17,7 +25,7 @@ pub fn edits_in<'a>(
     alloc: Global,
     command: &'a str,
     words: &'a [String],
-) -> Result<Vec<Edit>, Mistake<'a>>
+) -> Result<Vec<AskedEdit>, Mistake<'a>>
     ensures { GivesEdits (command.now ∷ map string_bytes words.now) result }
 {
     let mut edits = Vec::new(alloc);
@@ -36,15 +44,19 @@ pub fn edits_in<'a>(
 enum BorrowedEdit<'a> {
     Set(&'a String, &'a String),
     Remove(&'a String),
+    Rename(&'a String, &'a String),
 }
 
 impl BorrowedEdit<'_> {
-    fn into_edit(self) -> Result<Edit, AllocError>
-        ensures { IfOk result (λ edit. edit_in edit ≡ in_characters (borrowed_edit self.entry)) }
+    fn into_edit(self) -> Result<AskedEdit, AllocError>
+        ensures { IfOk result (λ edit. asked_edit edit ≡ in_characters (borrowed_edit self.entry)) }
     {
         match self {
-            BorrowedEdit::Set(key, value) => Ok(Edit::SetValue(key.clone()?, value.clone()?)),
-            BorrowedEdit::Remove(key) => Ok(Edit::Remove(key.clone()?)),
+            BorrowedEdit::Set(key, value) => {
+                Ok(AskedEdit::Edit(Edit::SetValue(key.clone()?, value.clone()?)))
+            }
+            BorrowedEdit::Remove(key) => Ok(AskedEdit::Edit(Edit::Remove(key.clone()?))),
+            BorrowedEdit::Rename(old, new) => Ok(AskedEdit::Rename(old.clone()?, new.clone()?)),
         }
     }
 }
@@ -69,6 +81,7 @@ fn edit_of<'a>(
     match command {
         "set" => next_set(words),
         "remove" => next_removal(words),
+        "rename" => next_renaming(words),
         other => Err(Mistake::NoEdit(other)),
     }
 }
@@ -92,6 +105,17 @@ fn next_removal<'a>(words: &'a [String]) -> Result<(BorrowedEdit<'a>, &'a [Strin
     match after_dashes(words) {
         [key, others @ ..] => Ok((BorrowedEdit::Remove(key), others)),
         [] => Err(Mistake::NoKey("remove")),
+    }
+}
+
+// Returns the renaming of a key, whose words are the first of these, and the words after it.
+fn next_renaming<'a>(words: &'a [String]) -> Result<(BorrowedEdit<'a>, &'a [String]), Mistake<'a>>
+    ensures { TakesEdit (codes "rename" ∷ map string_bytes words.now) result }
+{
+    match after_dashes(words) {
+        [old, new, others @ ..] => Ok((BorrowedEdit::Rename(old, new), others)),
+        [old] => Err(Mistake::NoNewKey(old.as_str())),
+        [] => Err(Mistake::NoKey("rename")),
     }
 }
 

@@ -71,8 +71,8 @@ pub enum Mistake<'a> {
     Twice(TypedOption, Option<&'static CommandRow>),
     /// This command has no use for this option.
     NotWith(TypedOption, &'static CommandRow),
-    /// No edit sets anything, and this option has a use for nothing else.
-    NothingToSet(TypedOption, &'static CommandRow),
+    /// No edit puts in a text, and this option has a use for nothing else.
+    NothingToPut(TypedOption, &'static CommandRow),
     /// These two options exclude each other.
     Both(TypedOption, TypedOption, &'static CommandRow),
     /// A file is given by this option, and others after this command.
@@ -107,9 +107,11 @@ pub enum Mistake<'a> {
     NoKey(&'static str),
     /// The setting of this key has no value.
     NoValue(&'a str),
+    /// The renaming of this key has no new key.
+    NoNewKey(&'a str),
     /// This command has options and no key, which may be meant by an option.
     OptionForKey(&'static CommandRow),
-    /// The setting of this key has options and no value: the key may be meant by an option.
+    /// This edit has options and one text, where two are required: the key may be meant by an option.
     OptionForKeyOf(&'a str, &'static CommandRow),
     /// This key of `get` is the name of a file, and a default would hide it.
     FileAsKey(&'a str),
@@ -132,7 +134,7 @@ impl Mistake<'_> {
             | Mistake::OptionForKey(row)
             | Mistake::OptionForKeyOf(_, row)
             | Mistake::NotWith(_, row)
-            | Mistake::NothingToSet(_, row)
+            | Mistake::NothingToPut(_, row)
             | Mistake::Both(_, _, row)
             | Mistake::TwoFiles(_, row)
             | Mistake::NothingInPlace(_, row)
@@ -149,6 +151,7 @@ impl Mistake<'_> {
             | Mistake::Surplus(_, row) => Usage::Of(row),
             Mistake::NoKey(name) => usage_of(name),
             Mistake::NoValue(_) | Mistake::TwoAssignments(_, _) => usage_of("set"),
+            Mistake::NoNewKey(_) => usage_of("rename"),
             Mistake::FileAsKey(_) => usage_of("get"),
             Mistake::NoEdit(_) => Usage::Edits,
             _ => Usage::All,
@@ -236,7 +239,9 @@ impl fmt::Display for Mistake<'_> {
             Mistake::OptionValue(option, _) => write!(f, "the option '{option}' takes no value"),
             Mistake::Twice(option, _) => write!(f, "the option '{option}' is given twice"),
             Mistake::NotWith(option, row) => show_not_with(f, option, row),
-            Mistake::NothingToSet(option, _) => write!(f, "the option '{option}' requires a 'set'"),
+            Mistake::NothingToPut(option, _) => {
+                write!(f, "the option '{option}' requires a 'set' or a 'rename'")
+            }
             Mistake::Both(one, other, _) => {
                 write!(f, "the option '{one}' cannot be used with '{other}'")
             }
@@ -261,6 +266,7 @@ impl fmt::Display for Mistake<'_> {
             Mistake::NoEdit(word) => show_no_edit(f, word),
             Mistake::NoKey(name) => write!(f, "'{name}' requires a KEY"),
             Mistake::NoValue(key) => show_no_value(f, key),
+            Mistake::NoNewKey(key) => show_no_new_key(f, key),
             Mistake::OptionForKey(row) => show_option_for_key(f, row),
             Mistake::OptionForKeyOf(key, row) => show_option_for_key_of(f, key, row),
             Mistake::FileAsKey(name) => show_file_as_key(f, name),
@@ -452,7 +458,7 @@ fn show_no_edit<W: fmt::Write>(f: &mut fmt::Formatter<W>, word: &str) -> fmt::Re
         Some(row) if row.is_edit() => show_meant(f, "", row.name),
         _ => write!(
             f,
-            ": each edit begins with set or remove, and {OPTIONS_FIRST}"
+            ": each edit begins with set, remove or rename, and {OPTIONS_FIRST}"
         ),
     }
 }
@@ -466,14 +472,22 @@ fn show_option_for_key<W: fmt::Write>(
     show_dashes(f, row)
 }
 
-// Prints that the setting of a key has no value, and how to write a key that was taken for an option.
+// Prints that an edit of a key has no second text, and how to write a key that was taken for an option.
 fn show_option_for_key_of<W: fmt::Write>(
     f: &mut fmt::Formatter<W>,
     key: &str,
     row: &'static CommandRow,
 ) -> fmt::Result {
-    write!(f, "'set {}' requires a VALUE", Escaped(key))?;
+    match row.command {
+        CommandName::Rename => show_no_new_key(f, key)?,
+        _ => write!(f, "'set {}' requires a VALUE", Escaped(key))?,
+    }
     show_dashes(f, row)
+}
+
+// Prints that the renaming of a key has no new key.
+fn show_no_new_key<W: fmt::Write>(f: &mut fmt::Formatter<W>, key: &str) -> fmt::Result {
+    write!(f, "'rename {}' requires a new KEY", Escaped(key))
 }
 
 // Prints that a key is the name of a file, and how to read that file.

@@ -33,11 +33,11 @@ pub fn explain_not_utf_8<R: Env, E: CountedWrite>(rt: &R, alloc: Global, errors:
     explain_mistake(alloc, mistake, errors)
 }
 
-// What marks a word that is not UTF-8. No argument holds it.
+// What comes behind a word that is not UTF-8. No argument holds it.
 const MARK: char = '\0';
 
-/// Returns the words after the program's name. One that is not UTF-8 is marked, and its bytes stand as messages print
-/// them.
+/// Returns the words after the program's name. One that is not UTF-8 is marked at its end, so that the value of an
+/// option is marked too, and its bytes stand as messages print them.
 ///
 /// ```text
 /// let words = marked_words(&rt, alloc)?;
@@ -60,13 +60,13 @@ pub fn marked_words<R: Env>(rt: &R, alloc: Global) -> Result<Vec<String>, AllocE
 fn marked(alloc: Global, bytes: &[u8]) -> Result<String, AllocError> {
     match str::from_utf8(bytes) {
         Ok(word) => String::from_str(alloc, word),
-        Err(_) => format!(in alloc; "{MARK}{}", EscapedBytes(bytes)),
+        Err(_) => format!(in alloc; "{}{MARK}", EscapedBytes(bytes)),
     }
 }
 
 /// Returns what stands for a word that is not UTF-8, or `None` for any other word.
 pub fn name_of_marked(word: &str) -> Option<&str> {
-    word.strip_prefix(MARK)
+    word.strip_suffix(MARK)
 }
 
 /// Prints on `errors` that the name of a file is not UTF-8, and returns the exit status of failures, 2. What can't be

@@ -235,10 +235,10 @@ impl<'a> Options<'a> {
         }
     }
 
-    /// Fails if ASCII is asked for, for edits that set nothing.
-    pub fn refuse_for_set(&self, command: &'static CommandRow) -> Result<(), Mistake<'a>> {
+    /// Fails if ASCII is asked for, for edits that put in no text.
+    pub fn refuse_for_text(&self, command: &'static CommandRow) -> Result<(), Mistake<'a>> {
         match self.find(OptionName::Ascii) {
-            Some(given) => Err(Mistake::NothingToSet(given.option, command)),
+            Some(given) => Err(Mistake::NothingToPut(given.option, command)),
             None => Ok(()),
         }
     }
@@ -312,7 +312,7 @@ impl<'a> Options<'a> {
         }
     }
 
-    /// Returns how what differs is printed. With `--json` it is JSON.
+    /// Returns how what differs, or what is wrong, is printed. With `--json` it is JSON.
     pub fn report(&self) -> Report {
         if self.has(OptionName::Json) {
             Report::Json

@@ -7,14 +7,14 @@ use crate::command_line::{
     CommandName, CommandRow, Help, HelpOf, OptionName, Version, command_meant, command_named,
     option_in, target_named,
 };
-use crate::edits::edits_in;
+use crate::edits::{AskedEdit, edits_in};
 use crate::mistake::{Hint, Mistake, NoRequest};
 use crate::options::{Options, STANDARD_INPUT, options_in, source_named};
 use counted_io::CountedWrite;
 use java_properties::Edit;
 use properties_tools::propedit::request::{
     Allowed, Change, Check, CheckedFiles, Command, Comparison, Conversion, Destination, Edits,
-    FileChange, Job, Merge, Request, Source,
+    FileChange, Job, Merge, Renaming, Request, Source, Step, Steps,
 };
 use properties_tools::propedit::{print_out_of_memory, print_text, print_usage_error};
 use std::alloc::{AllocError, Global};
@@ -52,7 +52,7 @@ pub fn asked_for<'a>(alloc: Global, words: &'a [String]) -> Result<Request, NoRe
         CommandName::Comment => Ok(comment(alloc, row, &options, rest)?),
         CommandName::Check => Ok(check(alloc, row, &options, rest)?),
         CommandName::Diff => Ok(diff(alloc, row, &options, rest)?),
-        CommandName::Set | CommandName::Remove => {
+        CommandName::Set | CommandName::Remove | CommandName::Rename => {
             Ok(edit(alloc, row, &options, edits_in(alloc, row.name, rest)?)?)
         }
         CommandName::Merge => Ok(merge(alloc, row, &options, rest)?),
@@ -61,15 +61,14 @@ pub fn asked_for<'a>(alloc: Global, words: &'a [String]) -> Result<Request, NoRe
     }
 }
 
-// Fails if a command has options and no key, or `set` no value after them: one of the options may be meant as the key.
+// Fails if a command has options and no key, or `set` or `rename` one text after them: one of the options may be meant as the key.
 fn refuse_option_for_key<'a>(
     row: &'static CommandRow,
     words: &'a [String],
 ) -> Result<(), Mistake<'a>> {
     match (row.first_argument(), words) {
         (Some("key"), []) => Err(Mistake::OptionForKey(row)),
-        (_, [key])
-            if row.command == CommandName::Set && !key.contains('=') && key.as_str() != "--" => {
+        (_, [key]) if row.takes_two_texts() && !key.contains('=') && key.as_str() != "--" => {
             Err(Mistake::OptionForKeyOf(key.as_str(), row))
         }
         _ => Ok(()),
@@ -267,21 +266,64 @@ fn check<'a>(
     words: &'a [String],
 ) -> Result<Request, Mistake<'a>> {
     let (before, after) = around_dashes(words);
-    let paths = copies(alloc, before, after)?;
+    refuse_late(row, before)?;
+    let mut paths = copies(alloc, before, after)?;
     let check = check_with(options);
-    if let Some(base) = options.value(OptionName::Base) {
-        return check_against(alloc, row, options, check, base, paths);
-    }
-    if paths.is_empty() {
+    let base = options.value(OptionName::Base);
+    if !paths.is_empty() {
+        options.refuse_file(row)?;
+    } else if base.is_none() {
         return options.job(alloc, row, Command::Check(check));
+    } else if let Some(path) = options.value(OptionName::File) {
+        paths.push(String::from_str(alloc, path)?)?;
+    } else {
+        return Err(Mistake::NothingToCheck(row));
     }
-    options.refuse_file(row)?;
+    refuse_inputs(row, base, &paths)?;
     Ok(Request::CheckFiles(CheckedFiles {
         encoding: options.encoding(row)?,
         check,
-        base: None,
+        base: base_beside(alloc, base, &mut paths)?,
         paths,
     }))
+}
+
+// Fails if what looks like an option of a command stands among files, of which there may be any number.
+fn refuse_late<'a>(row: &'static CommandRow, words: &'a [String]) -> Result<(), Mistake<'a>> {
+    match words.iter().find(|word| is_option_of(word.as_str(), row)) {
+        Some(word) => Err(Mistake::OptionAfter(word.as_str(), row)),
+        None => Ok(()),
+    }
+}
+
+// Fails if standard input is named twice among files and their base.
+fn refuse_inputs<'a>(
+    row: &'static CommandRow,
+    base: Option<&str>,
+    paths: &[String],
+) -> Result<(), Mistake<'a>> {
+    let mut is_named = matches!(base, Some(STANDARD_INPUT));
+    for path in paths {
+        let is_input = path.as_str() == STANDARD_INPUT;
+        if is_input && is_named {
+            return Err(Mistake::OneInput(row));
+        }
+        is_named = is_named || is_input;
+    }
+    Ok(())
+}
+
+// Returns the source that the name of a base names, and leaves that name out of the files: a base is checked anyway.
+fn base_beside(
+    alloc: Global,
+    base: Option<&str>,
+    paths: &mut Vec<String>,
+) -> Result<Option<Source>, AllocError> {
+    let Some(base) = base else {
+        return Ok(None);
+    };
+    paths.retain(|path| path.as_str() != base);
+    Ok(Some(source_named(alloc, base)?))
 }
 
 // Returns how the options have a source checked.
@@ -296,34 +338,8 @@ fn check_with(options: &Options<'_>) -> Check {
         },
         pairs_only: options.has(OptionName::Pairs),
         quiet: options.has(OptionName::Quiet),
+        report: options.report(),
     }
-}
-
-// Returns the request for a check of files beside a base. One at least is named after the command, or by an option.
-fn check_against<'a>(
-    alloc: Global,
-    row: &'static CommandRow,
-    options: &Options<'a>,
-    check: Check,
-    base: &str,
-    mut paths: Vec<String>,
-) -> Result<Request, Mistake<'a>> {
-    if !paths.is_empty() {
-        options.refuse_file(row)?;
-    } else if let Some(path) = options.value(OptionName::File) {
-        paths.push(String::from_str(alloc, path)?)?;
-    } else {
-        return Err(Mistake::NothingToCheck(row));
-    }
-    if base == STANDARD_INPUT && paths.iter().any(|path| path.as_str() == STANDARD_INPUT) {
-        return Err(Mistake::OneInput(row));
-    }
-    Ok(Request::CheckFiles(CheckedFiles {
-        encoding: options.encoding(row)?,
-        check,
-        base: Some(source_named(alloc, base)?),
-        paths,
-    }))
 }
 
 fn diff<'a>(
@@ -361,17 +377,46 @@ fn edit<'a>(
     alloc: Global,
     row: &'static CommandRow,
     options: &Options<'a>,
-    list: Vec<Edit>,
+    list: Vec<AskedEdit>,
 ) -> Result<Request, Mistake<'a>> {
-    if !list.iter().any(sets_value) {
-        options.refuse_for_set(row)?;
+    if !list.iter().any(puts_text) {
+        options.refuse_for_text(row)?;
     }
-    change(
-        alloc,
-        row,
-        options,
-        Change::Edits(edits_with(options, list)),
-    )
+    change(alloc, row, options, change_by(alloc, options, list)?)
+}
+
+// Returns the change that edits are. Each renaming is a step, and so are all edits between two of them.
+fn change_by(
+    alloc: Global,
+    options: &Options<'_>,
+    list: Vec<AskedEdit>,
+) -> Result<Change, AllocError> {
+    let mut steps = Vec::new(alloc);
+    let mut edits = Vec::new(alloc);
+    for asked in list {
+        match asked {
+            AskedEdit::Edit(edit) => edits.push(edit)?,
+            AskedEdit::Rename(old, new) => {
+                if !edits.is_empty() {
+                    steps.push(Step::Edits(edits_with(options, edits)))?;
+                    edits = Vec::new(alloc);
+                }
+                steps.push(Step::Renaming(renaming_with(options, old, new)))?;
+            }
+        }
+    }
+    let edits = edits_with(options, edits);
+    if steps.is_empty() {
+        return Ok(Change::Edits(edits));
+    }
+    if !edits.list.is_empty() {
+        steps.push(Step::Edits(edits))?;
+    }
+    let first = steps.remove(0);
+    Ok(Change::Steps(Steps {
+        first,
+        others: steps,
+    }))
 }
 
 // Returns edits that are made as the options say.
@@ -384,10 +429,20 @@ fn edits_with(options: &Options<'_>, list: Vec<Edit>) -> Edits {
     }
 }
 
-fn sets_value(edit: &Edit) -> bool {
-    match edit {
-        Edit::Put(_, _) | Edit::SetValue(_, _) => true,
-        Edit::Remove(_) => false,
+// Returns a renaming that is made as the options say.
+fn renaming_with(options: &Options<'_>, old: String, new: String) -> Renaming {
+    Renaming {
+        old,
+        new,
+        ascii_only: options.has(OptionName::Ascii),
+        latin_1: options.is_latin_1(),
+    }
+}
+
+fn puts_text(asked: &AskedEdit) -> bool {
+    match asked {
+        AskedEdit::Edit(Edit::Remove(_)) => false,
+        AskedEdit::Edit(Edit::Put(_, _) | Edit::SetValue(_, _)) | AskedEdit::Rename(_, _) => true,
     }
 }
 

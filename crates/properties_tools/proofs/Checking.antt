@@ -1,6 +1,6 @@
 -- What is said of the findings of a check.
-use Rattle.std.proofs.Common.{◌≡◌, ◌≢◌, ℕ, ◌<◌, Bool, true, false, List, [], ◌∷◌, ◌++◌, get_or, length, map, refl, ap, sym, ◌∙◌, inl, inr, subst, arith}
-use Rattle.std.specs.Prelude.{◌&&◌, ◌==◌, not, Option, Some, None, cond, filter}
+use Rattle.std.proofs.Common.{◌≡◌, ℕ, ◌<◌, Bool, List, [], ◌∷◌, ◌++◌, get_or, length, map, refl, ap, sym, ◌∙◌, inl, inr, subst, arith}
+use Rattle.std.specs.Prelude.{◌&&◌, ◌==◌, not, Option, Some, None, filter}
 use Rattle.std.specs.List.{flat_map}
 use Rattle.std.specs.Ordering.{nat_cmp, is_lt}
 use Rattle.std.specs.List.Sorted.{ties}
@@ -8,15 +8,16 @@ use Rattle.std.proofs.lemmas.Bool.{cases_Bool}
 use Rattle.std.proofs.lemmas.List.{get_or-map, length-map, map-append}
 use Rattle.properties_format.specs.Encoding.{Encoding}
 use Rattle.properties_format.specs.Windows1252.{windows_1252_table}
-use Rattle.java_properties.specs.Findings.{KeyEntry, KeyPlace}
+use Rattle.java_properties.specs.Findings.{KeyPlace}
 use Rattle.properties_items.specs.declared.findings.MalformedEscape.{MalformedEscape}
-use Rattle.properties_tools.specs.Private.Checking.{escape_finding, finding_of, ill_formed_finding, kind_words, misread_finding, otherwise_finding, place_at, row_findings, said_of, ArrangesFindings}
-use Rattle.properties_tools.specs.Propedit.Check.{byte_words, escape_words, escapes_of, first_of, has_replacement, ill_formed_of, ill_formed_text, other_bytes, repeat_words, repeats_of, said, words_after, AreOtherBytes, AreOtherwise, AreWithBytes, ArrangesByLine, Said}
+use Rattle.properties_tools.specs.Private.Checking.{escape_finding, finding_of, ill_formed_finding, misread_finding, otherwise_finding, place_at, row_findings, said_of, what_of, ArrangesFindings}
+use Rattle.properties_tools.specs.Propedit.Check.{escapes_of, first_of, has_replacement, ill_formed_of, is_ill_formed, is_malformed, is_misread, is_read_otherwise, other_bytes, repeats_key, repeats_of, said, words_after, AreOtherBytes, AreOtherwise, AreWithBytes, ArrangesByLine, Said}
 use Rattle.properties_tools.specs.declared.propedit.check.FindingKind.{FindingKind}
 use Rattle.properties_tools.specs.declared.propedit.check.FindingKind.TheVariants.{NonAscii, ReadOtherwise}
 use Rattle.properties_tools.specs.declared.propedit.check.Finding.{Finding}
 use Rattle.properties_tools.specs.declared.propedit.check.Words.{Words}
-use Rattle.properties_tools.specs.Propedit.Misread.{mark_of, misread_mark, misread_words, AreMisread}
+use Rattle.properties_format.specs.Lines.{lines_in, Line}
+use Rattle.properties_tools.specs.Propedit.Misread.{last_number, lines_of_pairs, misread_at, misread_end, misread_mark, misread_words, AreMisread, AreMisreadEnds}
 use Rattle.properties_tools.specs.declared.propedit.misread.Misread.{Misread}
 use Rattle.properties_tools.specs.declared.propedit.misread.Misread.TheVariants.{MarkInside}
 use Rattle.properties_tools.specs.declared.propedit.check.FindingKind.TheVariants.{Misread as MisreadKind}
@@ -24,29 +25,29 @@ use Rattle.properties_tools.specs.declared.propedit.request.Allowed.{Allowed}
 use Rattle.properties_tools.specs.declared.propedit.request.Allowed.TheVariants.{All, Latin1, Ascii}
 
 abbrev otherwise_said : ℕ → ℕ → Said
-otherwise_said byte = said (byte_words byte)
+otherwise_said byte = said (is_read_otherwise byte)
 
 abbrev misread_said : Misread → ℕ → Said
-misread_said misread = said (misread_words misread)
+misread_said m = said (is_misread m)
 
 abbrev escape_said : MalformedEscape → Said
-escape_said escape = said (escape_words escape) escape.line_number
+escape_said escape = said (is_malformed escape.kind escape.in_comment) escape.line_number
 
 module _ (P : List KeyPlace) where
   -- ---- each kind
 
-  pub said-first : (kind : FindingKind) (o : Option ℕ) → map (said_of P) (first_of (finding_of kind) o) ≡ first_of (said (kind_words P kind)) o
+  pub said-first : (kind : FindingKind) (o : Option ℕ) → map (said_of P) (first_of (finding_of kind) o) ≡ first_of (said (what_of P kind)) o
   said-first kind None = refl
   said-first kind (Some number) = refl
 
-  pub said-all : (kind : FindingKind) (ns : List ℕ) → map (said_of P) (map (finding_of kind) ns) ≡ map (said (kind_words P kind)) ns
+  pub said-all : (kind : FindingKind) (ns : List ℕ) → map (said_of P) (map (finding_of kind) ns) ≡ map (said (what_of P kind)) ns
   said-all kind [] = refl
-  said-all kind (n ∷ ns) = ap (λ v. said (kind_words P kind) n ∷ v) (said-all kind ns)
+  said-all kind (n ∷ ns) = ap (λ v. said (what_of P kind) n ∷ v) (said-all kind ns)
 
   pub said-ill_formed : (words : Words) (ns : List ℕ)
-      → map (said_of P) (ill_formed_of ill_formed_finding words ns) ≡ ill_formed_of (λ w. said (ill_formed_text w)) words ns
+      → map (said_of P) (ill_formed_of ill_formed_finding words ns) ≡ ill_formed_of (λ w. said (is_ill_formed w)) words ns
   said-ill_formed words [] = refl
-  said-ill_formed words (n ∷ ns) = ap (λ v. said (ill_formed_text words) n ∷ v) (said-ill_formed (words_after words) ns)
+  said-ill_formed words (n ∷ ns) = ap (λ v. said (is_ill_formed words) n ∷ v) (said-ill_formed (words_after words) ns)
 
   escape-said : (pairs_only : Bool) (escape : MalformedEscape)
       → map (said_of P) (escapes_of escape_finding pairs_only escape) ≡ escapes_of escape_said pairs_only escape
@@ -82,21 +83,47 @@ module _ (P : List KeyPlace) where
   said-bytes Latin1 e source fs h = with-bytes e source (other_bytes 0x80 windows_1252_table) fs h
   said-bytes Ascii e source fs h = ap (map (said_of P)) h
 
-  mark-said : (mark : Option Misread) → map (said_of P) (mark_of misread_finding mark) ≡ mark_of misread_said mark
-  mark-said None = refl
-  mark-said (Some misread) = refl
+  misread-said-at : (number : ℕ) (misread : Option Misread)
+      → map (said_of P) (misread_at misread_finding number misread) ≡ misread_at misread_said number misread
+  misread-said-at number None = refl
+  misread-said-at number (Some misread) = refl
+
+  said-lines : (last : ℕ) (ls : List Line)
+      → map (said_of P) (flat_map (λ l. misread_at misread_finding l.number (misread_end l.text (l.number == last))) ls)
+      ≡ flat_map (λ l. misread_at misread_said l.number (misread_end l.text (l.number == last))) ls
+  said-lines last [] = refl
+  said-lines last (l ∷ ls) =
+      let misread = misread_end l.text (l.number == last) in
+      let rest = flat_map (λ (m : Line). misread_at misread_finding m.number (misread_end m.text (m.number == last))) ls in
+      map-append (said_of P) (misread_at misread_finding l.number misread) rest
+      ∙ ap (λ v. v ++ map (said_of P) rest) (misread-said-at l.number misread)
+      ∙ ap (λ v. misread_at misread_said l.number misread ++ v) (said-lines last ls)
+
+  said-ends : (e : Encoding) (source : List ℕ) (fs : List Finding) → AreMisreadEnds misread_finding e source fs
+      → AreMisreadEnds misread_said e source (map (said_of P) fs)
+  said-ends e source fs h = record {
+    groups = h.groups;
+    are_groups = h.are_groups;
+    is = ap (map (said_of P)) h.is ∙ said-lines (last_number (lines_in h.groups)) (lines_of_pairs h.groups);
+  }
 
   said-misread : (e : Encoding) (source : List ℕ) (fs : List Finding) → AreMisread misread_finding e source fs
       → AreMisread misread_said e source (map (said_of P) fs)
-  said-misread e source fs h = record {
-    inside = h.inside;
-    are_inside = h.are_inside;
-    is =
-        ap (map (said_of P)) h.is
-        ∙ map-append (said_of P) (mark_of misread_finding (misread_mark source)) (map (misread_finding MarkInside) h.inside)
-        ∙ ap (λ v. v ++ map (said_of P) (map (misread_finding MarkInside) h.inside)) (mark-said (misread_mark source))
-        ∙ ap (λ v. mark_of misread_said (misread_mark source) ++ v) (said-all (MisreadKind MarkInside) h.inside);
-  }
+  said-misread e source fs h =
+      let mark = misread_at misread_finding 1 (misread_mark source) in
+      let inside = map (misread_finding MarkInside) h.inside in
+      record {
+        inside = h.inside;
+        are_inside = h.are_inside;
+        ends = map (said_of P) h.ends;
+        are_ends = said-ends e source h.ends h.are_ends;
+        is =
+            ap (map (said_of P)) h.is
+            ∙ map-append (said_of P) mark (inside ++ h.ends)
+            ∙ ap (λ v. v ++ map (said_of P) (inside ++ h.ends)) (misread-said-at 1 (misread_mark source))
+            ∙ ap (λ v. misread_at misread_said 1 (misread_mark source) ++ v)
+            (map-append (said_of P) inside h.ends ∙ ap (λ v. v ++ map (said_of P) h.ends) (said-all (MisreadKind MarkInside) h.inside));
+      }
 
   pub said-otherwise : (allowed : Allowed) (e : Encoding) (source : List ℕ) (fs : List Finding)
       → AreOtherwise misread_finding otherwise_finding allowed e source fs
@@ -116,7 +143,7 @@ module _ (P : List KeyPlace) where
     | inl same ↦ rw same refl
     | inr other ↦ elim (cases_Bool (not w && has_replacement key)) [
       | inl left ↦ rw (other, left) refl
-      | inr stays ↦ rw (other, stays) (ap (λ p. let q : KeyPlace = p in said (repeat_words q.key q.number) number ∷ []) at)
+      | inr stays ↦ rw (other, stays) (ap (λ p. let q : KeyPlace = p in said (repeats_key q.key q.number) number ∷ []) at)
     ]
   ]
 

@@ -104,7 +104,10 @@ empty-flawless : (flaw : Flaw) (e : Encoding) → is_flawed flaw e [] ≡ false
 empty-flawless IllFormed e = ap not (empty-well e)
 empty-flawless Zero e = refl
 empty-flawless (Byte byte) e = refl
-empty-flawless MarkInside e = refl
+empty-flawless MarkInside windows_1252 = refl
+empty-flawless MarkInside utf_8 = refl
+empty-flawless MarkInside utf_16le = refl
+empty-flawless MarkInside utf_16be = refl
 empty-flawless NonAscii e = let told = told-nothing e in rw told refl
 
 -- No place has a byte.
@@ -336,25 +339,31 @@ few-held e body =
 -- ---- line by line
 
 -- at the start
+pub scans : (body : List ℕ) (s : Scanner) (f : code.Encoding) → s.encoding ≡ f → Fits s body → s.at ≡ 0
+    → scanner_state s body ≡ record (start (encoding_of f)) { is_decided = true; held = body }
+    → IsScanning body s
+scans body s f same fits at stands =
+    let decided : is_decided s.front ≡ true = ap (λ v. let w : ReaderState = v in w.is_decided) stands in
+    let alone : after_cr s.front ≡ false = ap (λ v. let w : ReaderState = v in w.after_cr) stands in
+    let passed : s.passed ≡ 0 = ap (λ v. let w : ReaderState = v in w.passed) stands in
+    let going : s.is_done ≡ false = ap (λ v. let w : ReaderState = v in w.is_done) stands in
+    record {
+      in_body = record {
+        fits = fits;
+        decided = λ w. let x : is_decided Mark ≡ true = subst (λ v. is_decided v ≡ true) w decided in absurd (cc);
+        alone = λ w. let x : after_cr Feed ≡ false = subst (λ v. after_cr v ≡ false) w alone in absurd (cc);
+      };
+      few = rw (passed, going, at, same) (omega (arith, few-held (encoding_of f) body));
+    }
+
 pub scanning-start : {e : Encoding} {source : List ℕ} (flaw : Flaw) (body : List ℕ) (s : Scanner) (f : code.Encoding)
     → HasLinesOf flaw e source (encoding_of f) body
     → s.encoding ≡ f → Fits s body → s.at ≡ 0 → scanner_state s body ≡ record (start (encoding_of f)) { is_decided = true; held = body }
     → IsScanning body s × HasFlawed flaw e source (numbers_left flaw body s)
 scanning-start flaw body s f lines same fits at stands =
-    let decided : is_decided s.front ≡ true = ap (λ v. let w : ReaderState = v in w.is_decided) stands in
-    let alone : after_cr s.front ≡ false = ap (λ v. let w : ReaderState = v in w.after_cr) stands in
     let passed : s.passed ≡ 0 = ap (λ v. let w : ReaderState = v in w.passed) stands in
-    let going : s.is_done ≡ false = ap (λ v. let w : ReaderState = v in w.is_done) stands in (
-      record {
-        in_body = record {
-          fits = fits;
-          decided = λ w. let x : is_decided Mark ≡ true = subst (λ v. is_decided v ≡ true) w decided in absurd (cc);
-          alone = λ w. let x : after_cr Feed ≡ false = subst (λ v. after_cr v ≡ false) w alone in absurd (cc);
-        };
-        few = rw (passed, going, at, same) (omega (arith, few-held (encoding_of f) body));
-      },
-      rw (passed, going, at, same) (lines _ (has-flawed flaw (encoding_of f) body)),
-    )
+    let going : s.is_done ≡ false = ap (λ v. let w : ReaderState = v in w.is_done) stands in
+    (scans body s f same fits at stands, rw (passed, going, at, same) (lines _ (has-flawed flaw (encoding_of f) body)))
 
 -- the scan goes on after it
 pub found-scanning : (body : List ℕ) (s new : Scanner) → IsScanning body s → GivesLine s body true new → IsScanning body new

@@ -1,28 +1,28 @@
 -- The keys of one table that are lacking in another are those of its pairs that no pair of the other has.
-use Rattle.std.proofs.Common.{◌≡◌, ◌≢◌, ℕ, zero, suc, ◌+◌, ◌<◌, Bool, true, false, List, [], ◌∷◌, ◌++◌, length, take, map, refl, ap, sym, ◌∙◌, inl, inr, subst, arith, append_assoc}
-use Rattle.std.specs.Prelude.{◌&&◌, ◌||◌, not, ◌==◌, All, AllPairs, Contains, Option, Some, None, bytes_eq, filter, get_or, is_some, string_bytes}
-use Rattle.std.specs.List.{flat_map}
+use Rattle.std.proofs.Common.{◌≡◌, ℕ, zero, suc, Bool, true, false, List, [], ◌∷◌, ◌++◌, refl, ap, sym, ◌∙◌, inl, inr, subst, arith, append_assoc}
+use Rattle.std.specs.Prelude.{◌&&◌, not, AllPairs, Contains, Option, Some, None, bytes_eq, filter, is_some, string_bytes}
+use Rattle.std.specs.Global.{Global}
+use Rattle.std.specs.declared.string.String.{String}
 use Rattle.std.proofs.lemmas.Bool.{cases_Bool}
-use Rattle.std.proofs.lemmas.List.{get_or_default}
 use Rattle.std.proofs.lemmas.List.Elements.{All-contains, All-contains_itself, All-filter, filter_passes}
 use Rattle.std.proofs.lemmas.List.Kept.{AllPairs-filter}
 use Rattle.std.proofs.lemmas.Slice.Eq.{bytes_eq-Decides}
 use Rattle.properties_format.specs.Computed.Maps.{HasNot}
 use Rattle.properties_format.specs.Items.{Entry}
-use Rattle.properties_format.specs.Maps.{AreKeys, HasNoPair, IsLastValue, IsValue, PairComesBefore}
+use Rattle.properties_format.specs.Maps.{AreKeys, HasNoPair, IsLastValue, PairComesBefore}
 use Rattle.properties_format.proofs.Maps.{value_in-only}
 use Rattle.java_properties.specs.Findings.{KeyPlace}
 use Rattle.properties_format.specs.Encoding.{Encoding}
 use Rattle.properties_tools.specs.Private.Checking.{IsChecked}
+use Rattle.properties_tools.specs.Private.Json.{AddsReport}
 use Rattle.properties_tools.specs.Private.Lacking.{is_among, is_lacking, lacking}
 use Rattle.properties_tools.specs.Private.Table.{places_of, FindsKey}
-use Rattle.properties_tools.specs.Propedit.Against.{is_compared, keys_at, missing_line, surplus_line, AreKeyPlaces, AreLacking, IsBaseOf, IsReportAgainst, KnownBase, TellsWellFormed}
+use Rattle.properties_tools.specs.Propedit.Against.{is_compared, keys_at, missing_line, missing_value, surplus_line, surplus_value, AreKeyPlaces, AreLacking, IsBaseOf, IsReportAgainst, KnownBase, TellsWellFormed}
 use Rattle.properties_tools.specs.Propedit.Table.{IsFirstLine}
 use Rattle.properties_tools.specs.declared.propedit.check.Reported.{Reported}
 use Rattle.properties_tools.specs.declared.propedit.request.Check.{Check}
 use Rattle.properties_tools.proofs.Differences.{no-value}
 use Rattle.properties_tools.proofs.Differing.{other-false}
-use Rattle.properties_tools.proofs.Printed.{passed, printed}
 
 -- ---- a key among others
 
@@ -148,28 +148,6 @@ module _ (w : Bool) (pairs other : List Entry) (places : List KeyPlace) (keys : 
         lines = All-filter (λ p. is_lacking w keys p.key) (λ p. IsFirstLine pairs p.key p.number) places own.lines;
       }
 
--- ---- what is printed of them
-
-module _ (listed : KeyPlace → Bool) (bytes_of : KeyPlace → List ℕ) (places : List KeyPlace) (row : ℕ) (d : KeyPlace) (within : row < length places)
-    (first text : List ℕ) (before : text ≡ first ++ flat_map bytes_of (filter listed (take row places))) where
-  abbrev Place : KeyPlace
-  Place = get_or places row d
-
-  is : get_or places row Place ≡ Place
-  is = get_or_default places row Place d within
-
-  abbrev Before : List ℕ
-  Before = flat_map bytes_of (filter listed (take row places))
-
-  pub place-printed : listed Place ≡ true → text ++ bytes_of Place ≡ first ++ flat_map bytes_of (filter listed (take (row + 1) places))
-  place-printed h =
-      ap (λ v. v ++ bytes_of Place) before
-      ∙ append_assoc first Before (bytes_of Place)
-      ∙ ap (λ v. first ++ v) (printed listed bytes_of places row Place within is Before refl h)
-
-  pub place-passed : listed Place ≡ false → text ≡ first ++ flat_map bytes_of (filter listed (take (row + 1) places))
-  place-passed h = before ∙ ap (λ v. first ++ v) (passed listed bytes_of places row Place within is Before refl h)
-
 -- ---- reports
 
 module _ (name : List ℕ) (e : Encoding) (check : Check) (source : List ℕ) (r : Reported) (h : IsChecked name e check source r) where
@@ -191,10 +169,10 @@ module _ (name : List ℕ) (e : Encoding) (check : Check) (source : List ℕ) (r
   }
 
   -- what is said beside a base
-  pub said-against : (base : KnownBase) (w : Bool) (after all : List ℕ) → w ≡ (base.is_well_formed && r.is_well_formed)
-      → after ≡ string_bytes r.text ++ flat_map (missing_line name base.name) (lacking w (keys_at (places_of r.keys)) base.keys)
-      → all ≡ after ++ flat_map (surplus_line name base.name) (lacking w (keys_at base.keys) (places_of r.keys))
-      → IsReportAgainst base name e check source all
+  pub said-against : (base : KnownBase) (w : Bool) (after all : String Global) → w ≡ (base.is_well_formed && r.is_well_formed)
+      → AddsReport check.report (missing_line name base.name) (missing_value name base.name) (lacking w (keys_at (places_of r.keys)) base.keys) r.text after
+      → AddsReport check.report (surplus_line name base.name) (surplus_value name base.name) (lacking w (keys_at base.keys) (places_of r.keys)) after all
+      → IsReportAgainst base name e check source (string_bytes all)
   said-against base w after all both h1 h2 = record {
     report = string_bytes r.text;
     is_report = h.report;
@@ -210,8 +188,9 @@ module _ (name : List ℕ) (e : Encoding) (check : Check) (source : List ℕ) (r
     are_surplus = λ base_pairs theirs.
         subst (λ v. AreLacking v h.places.pairs base_pairs (lacking w (keys_at base.keys) (places_of r.keys))) both
         (lacking-are w h.places.pairs base_pairs (places_of r.keys) (keys_at base.keys) own theirs.keys);
-    is = h2
-        ∙ ap (λ v. v ++ flat_map (surplus_line name base.name) (lacking w (keys_at base.keys) (places_of r.keys))) h1
-        ∙ append_assoc (string_bytes r.text) (flat_map (missing_line name base.name) (lacking w (keys_at (places_of r.keys)) base.keys))
-        (flat_map (surplus_line name base.name) (lacking w (keys_at base.keys) (places_of r.keys)));
+    missing_text = h1.text;
+    tells_missing = h1.is_text;
+    surplus_text = h2.text;
+    tells_surplus = h2.is_text;
+    is = h2.is ∙ ap (λ v. v ++ h2.text) h1.is ∙ append_assoc (string_bytes r.text) h1.text h2.text;
   }

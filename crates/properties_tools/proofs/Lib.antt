@@ -24,6 +24,7 @@ pub mod Marks
 pub mod Merging
 pub mod NonAscii
 pub mod Objects
+pub mod OpenLines
 pub mod Paired
 pub mod Pairs
 pub mod Prefixes
@@ -32,6 +33,7 @@ pub mod Rows
 pub mod Settled
 pub mod Sought
 pub mod Statuses
+pub mod Steps
 pub mod Tables
 pub mod Taking
 pub mod Unsound

@@ -1,8 +1,11 @@
 -- U+FEFF in UTF-8.
 use Rattle.std.proofs.Common.{◌≡◌, ◌≢◌, ℕ, zero, suc, ◌+◌, ◌<◌, ◌==◌, true, false, List, [], ◌∷◌, ◌++◌, length, get_or, drop, refl, sym, ap, subst, ◌∙◌, arith}
 use Rattle.std.proofs.lemmas.Bool.{or_from, or_parts, false_from_ne_true}
-use Rattle.properties_format.specs.Encoding.{Encoding, utf_8, byte_order_mark}
-use Rattle.properties_format.specs.Cut.{line_ending_bytes, bytes_together}
+use Rattle.std.specs.Prelude.{◌||◌}
+use Rattle.std.specs.List.{list_any}
+use Rattle.properties_format.specs.Utf16.{low_first, high_first}
+use Rattle.properties_format.specs.Encoding.{windows_1252, utf_8}
+use Rattle.properties_format.specs.Cut.{line_ending_bytes, bytes_together, units_of_two}
 use Rattle.properties_format.specs.Lines.{Ended}
 use Rattle.properties_format.specs.Computed.Cut.{cut_of}
 use Rattle.properties_format.specs.Computed.Body.{held_of}
@@ -12,8 +15,8 @@ use Rattle.properties_text.specs.declared.encoding.Encoding as code
 use Rattle.properties_text.specs.declared.encoding.Encoding.TheVariants.{WINDOWS_1252, UTF_8, UTF_16LE, UTF_16BE}
 use Rattle.std.specs.Prelude.{◌&&◌, nat_eq, Bool, Some, None}
 use Rattle.memchr.specs.Find.{IsFirstByte, is_byte}
-use Rattle.properties_tools.specs.Propedit.Lines.{holds_mark, is_sought, starts_with_bom}
-use Rattle.properties_tools.specs.Private.Flawed.{numbers_from, HasFlawedIn}
+use Rattle.properties_tools.specs.Propedit.Lines.{holds_mark, holds_mark_in, starts_with_bom}
+use Rattle.properties_tools.specs.Private.Flawed.{holds_mark_unit, numbers_from, unit_in, HasFlawedIn}
 use Rattle.properties_tools.specs.declared.propedit.ill_formed.Flaw.TheVariants.{MarkInside}
 use Rattle.properties_tools.proofs.Flawed.{has-flawed}
 
@@ -81,14 +84,29 @@ none-mark body h =
     subst (HasFlawedIn MarkInside utf_8 body) (mark-held 0 lines.ended lines.last (ap holds_mark (sym (cut_of-meets utf_8 body).bytes) ∙ h))
     (has-flawed MarkInside utf_8 body)
 
--- It is sought in UTF-8 alone.
-pub unsought-mark : (e : Encoding) (source body : List ℕ) (f : code.Encoding) → byte_order_mark e source ≡ record { encoding = encoding_of f; body = body }
-    → f ≢ UTF_8
-    → is_sought MarkInside e source ≡ false
-unsought-mark e source body WINDOWS_1252 is h = rw is refl
-unsought-mark e source body UTF_8 is h = absurd (h refl)
-unsought-mark e source body UTF_16LE is h = rw is refl
-unsought-mark e source body UTF_16BE is h = rw is refl
+-- No character of windows-1252 is one.
+none-held : (n : ℕ) (ls : List Ended) (last : List ℕ) → numbers_from MarkInside windows_1252 n (held_of windows_1252 ls last) ≡ []
+none-held n [] last = refl
+none-held n (l ∷ ls) last = none-held (n + 1) ls last
+
+pub none-windows_1252 : (body : List ℕ) → HasFlawedIn MarkInside windows_1252 body []
+none-windows_1252 body =
+    let lines = cut_of windows_1252 body in
+    subst (HasFlawedIn MarkInside windows_1252 body) (none-held 0 lines.ended lines.last) (has-flawed MarkInside windows_1252 body)
+
+-- ---- UTF-16
+
+marks-two : (unit : ℕ → ℕ → ℕ) (bytes : List ℕ) → holds_mark_unit unit bytes ≡ list_any (λ u. u == 0xfeff) (units_of_two unit bytes)
+marks-two unit [] = refl
+marks-two unit (a ∷ []) = refl
+marks-two unit (a ∷ b ∷ bytes) = ap (λ v. unit a b == 0xfeff || v) (marks-two unit bytes)
+
+pub utf_16-marks : (f : code.Encoding) (bytes : List ℕ) → f ≢ WINDOWS_1252 → f ≢ UTF_8
+    → holds_mark_unit (unit_in (encoding_of f)) bytes ≡ holds_mark_in (encoding_of f) bytes
+utf_16-marks WINDOWS_1252 bytes h k = absurd (h refl)
+utf_16-marks UTF_8 bytes h k = absurd (k refl)
+utf_16-marks UTF_16LE bytes h k = marks-two low_first bytes
+utf_16-marks UTF_16BE bytes h k = marks-two high_first bytes
 
 -- ---- a search for the first byte
 

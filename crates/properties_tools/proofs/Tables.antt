@@ -116,7 +116,7 @@ module _ (old new : Table) (table : IsTable old) (number : ℕ) (key bytes : Lis
       the name n v = record { key = name; first = k.number; last = n; value = chars v }
 
   places-same : FindsKey key (place_keys (places_of old.keys)) (Some row) × (places_of new.keys ≡ places_of old.keys)
-      → length new.keys.rows.items ≡ length old.keys.rows.items
+      → length new.keys.keys.rows.items ≡ length old.keys.keys.rows.items
   places-same h = sym (length-places new.keys) ∙ ap length h.1 ∙ length-places old.keys
 
   -- The key has a row,

@@ -7,6 +7,7 @@ pub mod InPlace
 pub mod Json
 pub mod Lacking
 pub mod Merging
+pub mod OpenLines
 pub mod Table
 pub mod Checking
 pub mod Collected

@@ -1,6 +1,7 @@
 -- What `propedit` does, over any streams: what a command gives for a source, a text to print and the exit status or why
 -- it fails, and the effects of that.
 pub mod Against
+pub mod BaseRun
 pub mod Change
 pub mod Check
 pub mod Comment
@@ -16,6 +17,7 @@ pub mod Lines
 pub mod Listing
 pub mod Merge
 pub mod Misread
+pub mod Renaming
 pub mod Sources
 pub mod Table
 pub mod Texts

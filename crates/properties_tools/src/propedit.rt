@@ -3,8 +3,10 @@
 pub mod against;
 pub mod answer;
 pub mod answers;
+pub mod base_run;
 pub mod change;
 pub mod check;
+mod check_json;
 pub mod comment;
 pub mod counts;
 pub mod diff;
@@ -21,7 +23,10 @@ pub mod list;
 pub mod list_json;
 pub mod merge;
 mod misread;
+mod objects;
+mod open_lines;
 pub mod pairs;
+mod rename;
 pub mod request;
 pub mod same_file;
 pub mod sound;
@@ -137,7 +142,8 @@ pub fn replacement(
 }
 
 /// Returns the exit status of a result: its own, or that of a failure, which is printed on `errors` as a line under the
-/// name of the source. It is 1 if no pair has a key that is edited, and else 2. What can't be printed is dropped.
+/// name of the source. It is 1 if no pair has a key that is edited, or one has a new key, and else 2. What can't be
+/// printed is dropped.
 ///
 /// If standard output is a pipe that nobody reads any more, as with `| head -1`, nothing is printed, and the status is
 /// 2.
@@ -170,7 +176,7 @@ pub fn exit_status<E: CountedWrite>(
 ///
 /// ```text
 /// let mut output = Counted::new(Vec::new(alloc));
-/// propedit::print_text(alloc, "propedit 1.18.0\n", &mut output, &mut errors); // 0, and the output holds the text
+/// propedit::print_text(alloc, "propedit 1.19.0\n", &mut output, &mut errors); // 0, and the output holds the text
 /// ```
 pub fn print_text<W: CountedWrite, E: CountedWrite>(
     alloc: Global,

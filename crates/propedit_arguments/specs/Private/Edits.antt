@@ -7,29 +7,33 @@ use Rattle.std.specs.Str.{chars}
 use Rattle.std.specs.declared.string.String.{String}
 use Rattle.properties_format.specs.Edits as format
 use Rattle.properties_format.specs.Text.{is_blank}
-use Rattle.java_properties.specs.Editing.{edits_in}
-use Rattle.properties_editing.specs.declared.edit.Edit as editor
+use Rattle.java_properties.specs.Editing.{edit_in}
+use Rattle.propedit_arguments.specs.declared.edits.AskedEdit.{AskedEdit}
+use Rattle.propedit_arguments.specs.declared.edits.AskedEdit.TheVariants as Asked
 use Rattle.propedit_arguments.specs.declared.edits.BorrowedEdit.{BorrowedEdit}
 use Rattle.propedit_arguments.specs.declared.edits.BorrowedEdit.TheVariants as Borrowed
 use Rattle.propedit_arguments.specs.declared.mistake.Mistake.{Mistake}
-use Rattle.propedit_arguments.specs.declared.mistake.Mistake.TheVariants.{Memory, NoEdit, NoKey, NoValue, TwoAssignments}
+use Rattle.propedit_arguments.specs.declared.mistake.Mistake.TheVariants.{Memory, NoEdit, NoKey, NoNewKey, NoValue, TwoAssignments}
 
 -- Words and texts are their UTF-8.
 
 -- ---- the words of an edit
 
--- an edit that words ask for: a key to set and its value, or a key to remove
+-- an edit that words ask for: a key to set and its value, a key to remove, or a key to rename and its new name
 pub data Edit : Type 0 where
   set : List ℕ → List ℕ → Edit
   remove : List ℕ → Edit
+  rename : List ℕ → List ℕ → Edit
 
 abbrev pub command_of : Edit → List ℕ
 command_of (set key value) = codes "set"
 command_of (remove key) = codes "remove"
+command_of (rename old new) = codes "rename"
 
 abbrev pub texts_of : Edit → List (List ℕ)
 texts_of (set key value) = key ∷ (value ∷ [])
 texts_of (remove key) = key ∷ []
+texts_of (rename old new) = old ∷ (new ∷ [])
 
 -- how its texts are written: plainly, or after a `--`, which has them taken as they are
 pub data Form : Type 0 where
@@ -67,6 +71,7 @@ pub record IsAssignment (text : List ℕ) : Type 0 where
 abbrev pub MayBeWritten : Form → Edit → Type 0
 MayBeWritten literal edit = Unit {0}
 MayBeWritten plain (remove key) = key ≢ codes "--"
+MayBeWritten plain (rename old new) = old ≢ codes "--"
 MayBeWritten plain (set key value) = (key ≢ codes "--") × (IsAssignment key → IsAssignment value → ⊥)
 
 -- an edit as it is written
@@ -80,28 +85,43 @@ abbrev pub words_of : List WrittenEdit → List (List ℕ)
 words_of [] = []
 words_of (w ∷ ws) = edit_words w.form w.edit ++ words_of ws
 
--- What is made of it, with characters for its texts. Setting a key keeps the layout of its line.
-abbrev pub in_characters : Edit → format.Edit
-in_characters (set key value) = format.set_value (chars key) (chars value)
-in_characters (remove key) = format.remove (chars key)
+-- what is made: an edit of the format, or a key's new name, in characters
+pub data Meant : Type 0 where
+  edited : format.Edit → Meant
+  renamed : List ℕ → List ℕ → Meant
+
+-- What is made of it. Setting a key keeps the layout of its line.
+abbrev pub in_characters : Edit → Meant
+in_characters (set key value) = edited (format.set_value (chars key) (chars value))
+in_characters (remove key) = edited (format.remove (chars key))
+in_characters (rename old new) = renamed (chars old) (chars new)
+
+abbrev pub asked_edit : AskedEdit → Meant
+asked_edit (Asked.Edit edit) = edited (edit_in edit)
+asked_edit (Asked.Rename old new) = renamed (chars (string_bytes old)) (chars (string_bytes new))
+
+abbrev pub asked_edits : List AskedEdit → List Meant
+asked_edits edits = map asked_edit edits
 
 -- The words are those of edits, and these are made.
-pub record AreWordsOfEdits (words : List (List ℕ)) (edits : List format.Edit) : Type 0 where
+pub record AreWordsOfEdits (words : List (List ℕ)) (edits : List Meant) : Type 0 where
   pub asked : List WrittenEdit
   pub is : words ≡ words_of asked
   pub made : edits ≡ map (λ w. in_characters w.edit) asked
 
 -- ---- words that ask for no edit
 
--- This is what is wrong at the front of words that begin with no edit: the first is no command that edits; a key or a
--- value is missing; or a key and a value both look like NAME=TEXT.
+-- This is what is wrong at the front of words that begin with no edit: the first is no command that edits; a key, a
+-- value or a new key is missing; or a key and a value both look like NAME=TEXT.
 pub data IsMistakeAt (words : List (List ℕ)) (mistake : Mistake) : Type 0 where
   no_edit : (word : Bor (List ℕ)) (others : List (List ℕ)) → words ≡ word.now ∷ others → word.now ≢ codes "set" → word.now ≢ codes "remove"
-      → mistake ≡ NoEdit word → IsMistakeAt words mistake
+      → word.now ≢ codes "rename" → mistake ≡ NoEdit word → IsMistakeAt words mistake
   no_key : (command : Bor (List ℕ)) (edit : Edit) (form : Form) → command.now ≡ command_of edit → words ≡ command_of edit ∷ text_words form []
       → mistake ≡ NoKey command → IsMistakeAt words mistake
   no_value : (key : Bor (List ℕ)) (form : Form) → words ≡ codes "set" ∷ text_words form (key.now ∷ []) → MayBegin form (key.now ∷ [])
       → mistake ≡ NoValue key → IsMistakeAt words mistake
+  no_new_key : (key : Bor (List ℕ)) (form : Form) → words ≡ codes "rename" ∷ text_words form (key.now ∷ []) → MayBegin form (key.now ∷ [])
+      → mistake ≡ NoNewKey key → IsMistakeAt words mistake
   assignments : (key value : Bor (List ℕ)) (others : List (List ℕ)) → words ≡ codes "set" ∷ (key.now ∷ (value.now ∷ others))
       → IsAssignment key.now → IsAssignment value.now → mistake ≡ TwoAssignments key value → IsMistakeAt words mistake
 
@@ -115,8 +135,8 @@ pub record AreWrong (words : List (List ℕ)) (mistake : Mistake) : Type 0 where
 -- What the words give: the edits that they ask for; or they ask for none, and the mistake says why, or memory ran out.
 -- The words are the first command and what stands after its options. A later command has none: a word there that begins
 -- with a dash is a key.
-abbrev pub GivesEdits : List (List ℕ) → Result (Vec editor.Edit) Mistake → Type 0
-GivesEdits words (Ok edits) = AreWordsOfEdits words (edits_in edits.items)
+abbrev pub GivesEdits : List (List ℕ) → Result (Vec AskedEdit) Mistake → Type 0
+GivesEdits words (Ok edits) = AreWordsOfEdits words (asked_edits edits.items)
 GivesEdits words (Err mistake) = mistake ≢ Memory → AreWrong words mistake × ((edits : List WrittenEdit) → words ≡ words_of edits → ⊥)
 
 -- ---- what the code finds on the way
@@ -125,6 +145,7 @@ GivesEdits words (Err mistake) = mistake ≢ Memory → AreWrong words mistake �
 abbrev pub borrowed_edit : BorrowedEdit → Edit
 borrowed_edit (Borrowed.Set key value) = set (string_bytes key.now) (string_bytes value.now)
 borrowed_edit (Borrowed.Remove key) = remove (string_bytes key.now)
+borrowed_edit (Borrowed.Rename old new) = rename (string_bytes old.now) (string_bytes new.now)
 
 -- the edit that begins the words and the words after it; or what is wrong with their front, if there are words
 abbrev pub TakesEdit : {Z : Type 0} → List (List ℕ) → Result (BorrowedEdit × Bor (List (String Z))) Mistake → Type 0

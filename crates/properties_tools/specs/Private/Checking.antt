@@ -1,5 +1,5 @@
 -- The findings of a check, as the code holds them.
-use Rattle.std.specs.Prelude.{◌≡◌, ℕ, ◌==◌, ◌&&◌, not, Bool, if◌then◌else◌, get_or, length, List, [], ◌∷◌, ◌++◌, Result, Ok, Err, string_bytes}
+use Rattle.std.specs.Prelude.{◌≡◌, ℕ, ◌==◌, ◌&&◌, not, Bool, if◌then◌else◌, get_or, length, List, [], ◌∷◌, Result, Ok, Err, string_bytes}
 use Rattle.std.specs.Global.{Vec}
 use Rattle.std.specs.List.Sorted.{IsNonDecreasingBy, IsStableByKey}
 use Rattle.std.specs.Ordering.{nat_cmp}
@@ -10,10 +10,9 @@ use Rattle.properties_items.specs.declared.error.ErrorKind.TheVariants as kind
 use Rattle.properties_items.specs.declared.error.PropertiesError.{PropertiesError}
 use Rattle.properties_items.specs.declared.findings.MalformedEscape.{MalformedEscape}
 use Rattle.properties_tools.specs.Private.Table.{places_of, HasPlaces, IsKeyTable}
-use Rattle.properties_tools.specs.Propedit.Check.{byte_words, escape_words, has_replacement, ill_formed_text, non_ascii_words, repeat_words, utf_8_words, IsReport, Said}
-use Rattle.properties_tools.specs.Propedit.Failures.{zero_words}
+use Rattle.properties_tools.specs.Propedit.Check.{has_replacement, holds_zero, is_ill_formed, is_malformed, is_misread, is_non_ascii, is_read_otherwise, looks_like_utf_8, repeats_key, IsReport, Said, What}
 use Rattle.properties_tools.specs.Propedit.Lines.{AreFlawedLines}
-use Rattle.properties_tools.specs.Propedit.Misread.{misread_words, AreMisread}
+use Rattle.properties_tools.specs.Propedit.Misread.{AreMisread}
 use Rattle.properties_tools.specs.declared.propedit.check.Reported.{Reported}
 use Rattle.properties_tools.specs.declared.propedit.check.FindingKind.{FindingKind}
 use Rattle.properties_tools.specs.declared.propedit.check.FindingKind.TheVariants.{HoldsZero, IllFormedLine, LooksUtf8, NonAscii, ReadOtherwise, Misread, Escape, Repeats}
@@ -56,19 +55,19 @@ no_place = record { number = 0; key = [] }
 abbrev pub place_at : List KeyPlace → ℕ → KeyPlace
 place_at places row = get_or places row no_place
 
--- in words, where these are the keys
-abbrev pub kind_words : List KeyPlace → FindingKind → List ℕ
-kind_words places HoldsZero = zero_words
-kind_words places (IllFormedLine words) = ill_formed_text words
-kind_words places LooksUtf8 = utf_8_words
-kind_words places NonAscii = non_ascii_words
-kind_words places (ReadOtherwise byte) = byte_words byte
-kind_words places (Misread misread) = misread_words misread
-kind_words places (Escape escape) = escape_words escape
-kind_words places (Repeats row) = repeat_words (place_at places row).key (place_at places row).number
+-- where these are the keys
+abbrev pub what_of : List KeyPlace → FindingKind → What
+what_of places HoldsZero = holds_zero
+what_of places (IllFormedLine words) = is_ill_formed words
+what_of places LooksUtf8 = looks_like_utf_8
+what_of places NonAscii = is_non_ascii
+what_of places (ReadOtherwise byte) = is_read_otherwise byte
+what_of places (Misread m) = is_misread m
+what_of places (Escape escape) = is_malformed escape.kind escape.in_comment
+what_of places (Repeats row) = repeats_key (place_at places row).key (place_at places row).number
 
 abbrev pub said_of : List KeyPlace → Finding → Said
-said_of places f = record { line = f.line_number; words = kind_words places f.kind }
+said_of places f = record { line = f.line_number; what = what_of places f.kind }
 
 -- Findings are arranged as what they say is to be.
 pub record ArrangesFindings (findings arranged : List Finding) : Type 0 where

@@ -1,5 +1,5 @@
 -- The lines of a body that have a flaw, as they are found one after another.
-use Rattle.std.specs.Prelude.{◌≡◌, ℕ, ◌+◌, ◌≤◌, ◌&&◌, not, nat_lt, Bool, true, false, if◌then◌else◌, List, [], ◌∷◌, length, Option, Some, None, Result, Ok, Err}
+use Rattle.std.specs.Prelude.{◌≡◌, ℕ, ◌+◌, ◌≤◌, ◌&&◌, ◌||◌, ◌==◌, not, nat_lt, Bool, true, false, if◌then◌else◌, List, [], ◌∷◌, length, Option, Some, None, Result, Ok, Err}
 use Rattle.std.specs.Global.{Vec}
 use Rattle.std.specs.Str.{is_utf8}
 use Rattle.java_properties.specs.Errors.{IsBareError}
@@ -16,7 +16,7 @@ use Rattle.properties_lines.specs.declared.scanner.Scanner.{Scanner}
 use Rattle.properties_tools.specs.Private.Checking.{misread_finding, otherwise_finding}
 use Rattle.properties_tools.specs.Propedit.Check.{AreOtherBytes, AreOtherwise, AreRefused, AreWithBytes}
 use Rattle.properties_tools.specs.declared.propedit.check.Finding.{Finding}
-use Rattle.properties_tools.specs.Propedit.Lines.{holds_byte, holds_mark, holds_non_ascii, holds_zero, AreFlawedIn, HasFlawed}
+use Rattle.properties_tools.specs.Propedit.Lines.{holds_byte, holds_mark_in, holds_non_ascii, holds_zero, AreFlawedIn, HasFlawed}
 use Rattle.properties_tools.specs.declared.propedit.ill_formed.Flaw.{Flaw}
 use Rattle.properties_tools.specs.declared.propedit.ill_formed.Flaw.TheVariants.{IllFormed, Zero, NonAscii, Byte, MarkInside}
 use Rattle.properties_tools.specs.declared.propedit.request.Allowed.{Allowed}
@@ -54,12 +54,18 @@ is_ascii utf_16le bytes = are_ascii low_first bytes
 is_ascii utf_16be bytes = are_ascii high_first bytes
 is_ascii e bytes = not (holds_non_ascii bytes)
 
+-- whether one of the units is U+FEFF
+abbrev pub holds_mark_unit : (ℕ → ℕ → ℕ) → List ℕ → Bool
+holds_mark_unit unit [] = false
+holds_mark_unit unit (a ∷ []) = false
+holds_mark_unit unit (a ∷ b ∷ bytes) = unit a b == 0xfeff || holds_mark_unit unit bytes
+
 -- whether they have this flaw
 abbrev pub is_flawed : Flaw → Encoding → List ℕ → Bool
 is_flawed IllFormed e bytes = not (is_well_formed e bytes)
 is_flawed Zero e bytes = holds_zero bytes
 is_flawed (Byte byte) e bytes = holds_byte byte bytes
-is_flawed MarkInside e bytes = holds_mark bytes
+is_flawed MarkInside e bytes = holds_mark_in e bytes
 is_flawed NonAscii e bytes = not (is_ascii e bytes) && is_well_formed e bytes
 
 -- ---- the lines of a body

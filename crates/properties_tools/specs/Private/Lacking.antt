@@ -1,8 +1,12 @@
 -- How the keys that only one of two tables has are computed.
 use Rattle.std.specs.Prelude.{ℕ, ◌&&◌, not, bytes_eq, if◌then◌else◌, Bool, true, false, List, [], ◌∷◌, filter, string_bytes}
 use Rattle.java_properties.specs.Findings.{KeyPlace}
-use Rattle.properties_tools.specs.Private.Table.{places_of, IsKeyTable}
-use Rattle.properties_tools.specs.Propedit.Against.{is_compared, KnownBase}
+use Rattle.properties_tools.specs.Private.Table.{place_keys, places_of, IsKeyTable}
+use Rattle.properties_tools.specs.Propedit.Against.{is_compared, missing_line, missing_value, surplus_line, surplus_value, KnownBase}
+use Rattle.properties_tools.specs.Private.Json.{AddsReport}
+use Rattle.properties_tools.specs.declared.propedit.against.Sides.{Sides}
+use Rattle.std.specs.Global.{Global}
+use Rattle.std.specs.declared.string.String.{String}
 use Rattle.properties_tools.specs.declared.propedit.against.Base.TheInside.{Inside}
 
 -- ---- a base
@@ -27,3 +31,24 @@ is_lacking are_well_formed keys key = not (is_among key keys) && is_compared are
 -- the places of the keys that are lacking among some
 abbrev pub lacking : Bool → List (List ℕ) → List KeyPlace → List KeyPlace
 lacking are_well_formed keys places = filter (λ p. is_lacking are_well_formed keys p.key) places
+
+-- ---- what is printed of them
+
+pub record HaveTables (s : Sides) : Type 0 where
+  pub keys : IsKeyTable s.keys.now
+  pub base_keys : IsKeyTable s.base_keys.now
+
+abbrev pub missing_places : Sides → List KeyPlace
+missing_places s = lacking s.are_well_formed (place_keys (places_of s.keys.now)) (places_of s.base_keys.now)
+
+abbrev pub surplus_places : Sides → List KeyPlace
+surplus_places s = lacking s.are_well_formed (place_keys (places_of s.base_keys.now)) (places_of s.keys.now)
+
+-- What is said of these keys of a base that are missing was added, and of these of a source that are surplus.
+abbrev pub AddsMissing : Sides → List KeyPlace → String Global → String Global → Type 0
+AddsMissing s places old new =
+    AddsReport s.heading.report (missing_line s.heading.name.now s.base_name.now) (missing_value s.heading.name.now s.base_name.now) places old new
+
+abbrev pub AddsSurplus : Sides → List KeyPlace → String Global → String Global → Type 0
+AddsSurplus s places old new =
+    AddsReport s.heading.report (surplus_line s.heading.name.now s.base_name.now) (surplus_value s.heading.name.now s.base_name.now) places old new

@@ -21,6 +21,7 @@ use Rattle.properties_tools.specs.Propedit.Table.{row_keys, HasRows, IsFirstLine
 use Rattle.properties_tools.specs.declared.propedit.error.Failure.{Failure}
 use Rattle.properties_tools.specs.declared.propedit.key_table.KeyRow.{KeyRow}
 use Rattle.properties_tools.specs.declared.propedit.key_table.KeyTable.{KeyTable}
+use Rattle.properties_tools.specs.declared.propedit.key_table.Keys.{Keys}
 use Rattle.properties_tools.specs.declared.propedit.table.LastPair.{LastPair}
 use Rattle.properties_tools.specs.declared.propedit.table.Table.{Table}
 use Rattle.properties_tools.specs.declared.propedit.texts.Place.{Place}
@@ -52,9 +53,17 @@ place_keys places = map (λ p. p.key) places
 abbrev pub place_in : List ℕ → KeyRow → KeyPlace
 place_in text r = record { number = r.first_line; key = chars (bytes_at text r.place) }
 
--- the keys of a table, and these lines
+-- keys, and these lines
+abbrev pub places_in : Keys → List KeyPlace
+places_in k = map (place_in k.text.items) k.rows.items
+
+-- Each row has a text.
+abbrev pub HoldKeys : Keys → Type 0
+HoldKeys k = All (λ r. HoldsText k.text.items r.place) k.rows.items
+
+-- those of a table
 abbrev pub places_of : KeyTable → List KeyPlace
-places_of t = map (place_in t.text.items) t.rows.items
+places_of t = places_in t.keys
 
 -- the hash of bytes
 abbrev pub hash_after : ℕ → ℕ → ℕ
@@ -78,7 +87,7 @@ no_row = record { place = record { start = 0; length = 0 }; first_line = 0 }
 
 -- the bytes of the key of a row
 abbrev pub row_bytes : KeyTable → ℕ → List ℕ
-row_bytes t n = bytes_at t.text.items (get_or t.rows.items n no_row).place
+row_bytes t n = bytes_at t.keys.text.items (get_or t.keys.rows.items n no_row).place
 
 -- The slot of the key of a row has the row, or another; then the key is among the others.
 abbrev pub IsFound : KeyTable → ℕ → Type 0
@@ -89,20 +98,27 @@ IsFound t n =
 pub record IsKeyTable (t : KeyTable) : Type 0 where
   pub some : 0 < length t.slots.items
   pub ordered : IsOrdered string_cmp t.others
-  pub texts : All (λ r. HoldsText t.text.items r.place) t.rows.items
-  pub slots : (i n : ℕ) → get_or t.slots.items i 0 ≡ n + 1 → n < length t.rows.items
-  pub among : (key : List ℕ) (n : ℕ) → number_at t.others.entries key ≡ Some n → (n < length t.rows.items) × (chars (row_bytes t n) ≡ key)
-  pub every : (n : ℕ) → n < length t.rows.items → IsFound t n
+  pub texts : HoldKeys t.keys
+  pub slots : (i n : ℕ) → get_or t.slots.items i 0 ≡ n + 1 → n < length t.keys.rows.items
+  pub among : (key : List ℕ) (n : ℕ) → number_at t.others.entries key ≡ Some n → (n < length t.keys.rows.items) × (chars (row_bytes t n) ≡ key)
+  pub every : (n : ℕ) → n < length t.keys.rows.items → IsFound t n
 
--- The row of a key is kept: in its slot if nothing is there, and otherwise among the others.
+-- The slot of a key has a row: this one or one before it if there was none, and otherwise the one that it had.
+abbrev pub SlotHas : List ℕ → ℕ → ℕ → KeyTable → KeyTable → Type 0
+SlotHas key row held old new =
+    ((in_slot old key ≡ 0) × (held ≤ row) × (new.slots.items ≡ set old.slots.items (slot_for (length old.slots.items) key) (held + 1)))
+    ⊎ ((in_slot old key ≡ held + 1) × (new.slots.items ≡ old.slots.items))
+
+-- The row of a key is kept: in its slot, or among the others if the slot has another one.
 abbrev pub KeptRow : List ℕ → ℕ → KeyTable → KeyTable → Type 0
 KeptRow key row old new =
-    ((in_slot old key ≡ 0) × (new.slots.items ≡ set old.slots.items (slot_for (length old.slots.items) key) (row + 1)) × (new.others ≡ old.others))
-    ⊎ (((m : ℕ) × (in_slot old key ≡ m + 1)) × (new.slots.items ≡ old.slots.items) × IsOrdered string_cmp new.others
-    × ((k : List ℕ) → number_at new.others.entries k ≡ update bytes_eq (number_at old.others.entries) (chars key) (Some row) k))
+    (held : ℕ) × SlotHas key row held old new
+    × (((held ≡ row) × (new.others ≡ old.others))
+    ⊎ (IsOrdered string_cmp new.others
+    × ((k : List ℕ) → number_at new.others.entries k ≡ update bytes_eq (number_at old.others.entries) (chars key) (Some row) k)))
 
 abbrev pub KeepsRow : List ℕ → ℕ → KeyTable → KeyTable → Type 0
-KeepsRow key row old new = (new.text ≡ old.text) × (new.rows ≡ old.rows) × KeptRow key row old new
+KeepsRow key row old new = (new.keys ≡ old.keys) × KeptRow key row old new
 
 -- A pair has this key: it is the key of this row, or comes last.
 abbrev pub PutsKey : ℕ → List ℕ → List KeyPlace → ℕ → List KeyPlace → Type 0
@@ -128,8 +144,8 @@ pub record HasPlaces (e : Encoding) (source : List ℕ) (places : List KeyPlace)
   pub each : All (λ p. IsFirstLine pairs p.key p.number) places
 
 -- What reading them returns.
-abbrev pub ReadsKeys : Encoding → List ℕ → Result KeyTable Failure → Type 0
-ReadsKeys e source (Ok t) = IsSound e source × IsKeyTable t × HasPlaces e source (places_of t)
+abbrev pub ReadsKeys : Encoding → List ℕ → Result Keys Failure → Type 0
+ReadsKeys e source (Ok keys) = IsSound e source × HoldKeys keys × HasPlaces e source (places_in keys)
 ReadsKeys e source (Err failure) = IsUnsound e source failure
 
 -- ---- a table with values
@@ -149,7 +165,7 @@ row_pair r = (r.key, r.value)
 -- Each key has a last pair, whose line fits a `usize`, and the values are texts.
 pub record IsTable (t : Table) : Type 0 where
   pub keys : IsKeyTable t.keys
-  pub lasts : length t.lasts.items ≡ length t.keys.rows.items
+  pub lasts : length t.lasts.items ≡ length t.keys.keys.rows.items
   pub texts : All (λ l. HoldsText t.values.items l.value) t.lasts.items
   pub lines : All (λ l. l.line < 2 ^ 64) t.lasts.items
 

@@ -1,15 +1,17 @@
 -- What `check` says of the keys of a source beside those of another one, its base: which keys only one of the two has a
 -- pair of. Comments, layout, spelling, order, values and pairs that repeat a key don't count, nor do malformed pairs.
-use Rattle.std.specs.Prelude.{◌≡◌, ◌↔◌, ℕ, ◌==◌, ◌&&◌, ◌||◌, not, length, Bool, true, List, ◌++◌, codes, map, All, AllPairs, Contains}
+use Rattle.std.specs.Prelude.{◌≡◌, ◌↔◌, ℕ, ◌==◌, ◌&&◌, ◌||◌, not, length, Bool, true, List, [], ◌∷◌, ◌++◌, codes, map, All, AllPairs, Contains}
 use Rattle.std.specs.Fmt.{decimal}
-use Rattle.std.specs.List.{flat_map}
+use Rattle.json.specs.Json.{member, no_members, number, object, string, Json}
 use Rattle.properties_format.specs.Edits.{ArePairs}
 use Rattle.properties_format.specs.Encoding.{Encoding}
 use Rattle.properties_format.specs.Items.{Entry}
+use Rattle.properties_format.specs.Text.{line_feed}
 use Rattle.properties_format.specs.Maps.{AreKeys, HasNoPair, IsLastValue, PairComesBefore}
 use Rattle.java_properties.specs.Findings.{KeyPlace}
 use Rattle.properties_tools.specs.Messages.{all_shown, escaped}
 use Rattle.properties_tools.specs.Propedit.Check.{has_replacement, IsReport}
+use Rattle.properties_tools.specs.Propedit.Json.{text_value, IsReportText}
 use Rattle.properties_tools.specs.Propedit.Lines.{AreFlawedLines}
 use Rattle.properties_tools.specs.Propedit.Table.{IsFirstLine}
 use Rattle.properties_tools.specs.declared.propedit.ill_formed.Flaw.TheVariants.{IllFormed}
@@ -61,23 +63,44 @@ pub record IsBaseOf (name : List ℕ) (e : Encoding) (source : List ℕ) (base :
 
 -- ---- how they are printed
 
--- `NAME: key 'KEY' is missing (BASE:LINE)`
+-- of a key that is missing, and of one that is surplus, under the name of the base
+abbrev pub missing_words : List ℕ → KeyPlace → List ℕ
+missing_words base p = codes "key '" ++ (all_shown p.key ++ (codes "' is missing (" ++ (escaped base ++ (codes ":" ++ (decimal p.number ++ codes ")")))))
+
+abbrev pub surplus_words : List ℕ → List ℕ → List ℕ
+surplus_words base key = codes "key '" ++ (all_shown key ++ (codes "' is not in " ++ escaped base))
+
+-- `NAME: TEXT`
 abbrev pub missing_line : List ℕ → List ℕ → KeyPlace → List ℕ
-missing_line name base p =
-    escaped name ++ (codes ": key '" ++ (all_shown p.key ++ (codes "' is missing (" ++ (escaped base ++ (codes ":" ++ (decimal p.number ++ codes ")\n"))))))
+missing_line name base p = escaped name ++ (codes ": " ++ (missing_words base p ++ line_feed ∷ []))
 
--- `NAME:LINE: key 'KEY' is not in BASE`
+-- `NAME:LINE: TEXT`
 abbrev pub surplus_line : List ℕ → List ℕ → KeyPlace → List ℕ
-surplus_line name base p =
-    escaped name ++ (codes ":" ++ (decimal p.number ++ (codes ": key '" ++ (all_shown p.key ++ (codes "' is not in " ++ (escaped base ++ codes "\n"))))))
+surplus_line name base p = escaped name ++ (codes ":" ++ (decimal p.number ++ (codes ": " ++ (surplus_words base p.key ++ line_feed ∷ []))))
 
-abbrev pub comparison : List ℕ → List ℕ → List KeyPlace → List KeyPlace → List ℕ
-comparison name base missing surplus = flat_map (missing_line name base) missing ++ flat_map (surplus_line name base) surplus
+-- as objects: what is missing is in a line of the base
+abbrev pub missing_value : List ℕ → List ℕ → KeyPlace → Json
+missing_value name base p = object (
+    member (codes "file") (string name) (
+    member (codes "kind") (string (codes "missing-key")) (
+    member (codes "key") (text_value p.key) (
+    member (codes "base") (string base) (
+    member (codes "base_line") (number (decimal p.number)) (
+    member (codes "message") (string (missing_words base p)) no_members))))))
+
+abbrev pub surplus_value : List ℕ → List ℕ → KeyPlace → Json
+surplus_value name base p = object (
+    member (codes "file") (string name) (
+    member (codes "line") (number (decimal p.number)) (
+    member (codes "kind") (string (codes "surplus-key")) (
+    member (codes "key") (text_value p.key) (
+    member (codes "base") (string base) (
+    member (codes "message") (string (surplus_words base p.key)) no_members))))))
 
 -- ---- a report
 
--- The text is what a check reports of a source, then a line for each key of the base that the source lacks, in the order of
--- the base, and then one for each key of the source that the base lacks, in the order of the source.
+-- The text is what a check reports of a source, then a line or an object for each key of the base that the source lacks, in
+-- the order of the base, and then one for each key of the source that the base lacks, in the order of the source.
 pub record IsReportAgainst (base : KnownBase) (name : List ℕ) (e : Encoding) (check : Check) (source text : List ℕ) : Type 0 where
   pub report : List ℕ
   pub is_report : IsReport name e check source report
@@ -91,4 +114,8 @@ pub record IsReportAgainst (base : KnownBase) (name : List ℕ) (e : Encoding) (
   pub surplus : List KeyPlace
   pub are_surplus : (base_pairs : List Entry) → AreKeyPlaces base_pairs base.keys
       → AreLacking (base.is_well_formed && is_well_formed) pairs base_pairs surplus
-  pub is : text ≡ report ++ comparison name base.name missing surplus
+  pub missing_text : List ℕ
+  pub tells_missing : IsReportText check.report (missing_line name base.name) (missing_value name base.name) missing missing_text
+  pub surplus_text : List ℕ
+  pub tells_surplus : IsReportText check.report (surplus_line name base.name) (surplus_value name base.name) surplus surplus_text
+  pub is : text ≡ report ++ (missing_text ++ surplus_text)

@@ -12,6 +12,7 @@ use Rattle.java_properties.specs.Editing.{ArePairsMade, IsRefusal, edits_in}
 use Rattle.java_properties.specs.Maps.{characters}
 use Rattle.properties_items.specs.declared.error.PropertiesError.{PropertiesError}
 use Rattle.properties_tools.specs.Propedit.Failures.{LacksMemory}
+use Rattle.properties_tools.specs.Propedit.Renaming.{Renames}
 use Rattle.properties_tools.specs.Propedit.Sources.{HasSoundBytes, HasUnsoundBytes, IsSound, IsUnsound}
 use Rattle.properties_tools.specs.declared.propedit.request.AbsentKeys.{AbsentKeys}
 use Rattle.properties_tools.specs.declared.propedit.request.AbsentKeys.TheVariants as absent
@@ -19,6 +20,9 @@ use Rattle.properties_tools.specs.declared.propedit.request.Change.{Change}
 use Rattle.properties_tools.specs.declared.propedit.request.Change.TheVariants as change
 use Rattle.properties_tools.specs.declared.propedit.request.Conversion.{Conversion}
 use Rattle.properties_tools.specs.declared.propedit.request.Edits.{Edits}
+use Rattle.properties_tools.specs.declared.propedit.request.Step.{Step}
+use Rattle.properties_tools.specs.declared.propedit.request.Step.TheVariants as step
+use Rattle.properties_tools.specs.declared.propedit.request.Steps.{Steps}
 use Rattle.properties_tools.specs.declared.propedit.error.Failure.{Failure}
 use Rattle.properties_tools.specs.declared.propedit.error.Failure.TheVariants.{Absent, Input}
 
@@ -107,6 +111,36 @@ abbrev pub ChangesByEdits : Encoding → List ℕ → Edits → Result (Vec ℕ)
 ChangesByEdits e source edits (Ok bytes) = MakesEdits e source edits bytes.items
 ChangesByEdits e source edits (Err failure) = IsUnsound e source failure ⊎ (RefusesAbsent e source edits failure ⊎ RefusesEdits e source edits failure)
 
+-- ---- steps
+
+-- What a step returns.
+abbrev pub ChangesByStep : Encoding → List ℕ → Step → Result (Vec ℕ) Failure → Type 0
+ChangesByStep e source (step.Edits edits) result = ChangesByEdits e source edits result
+ChangesByStep e source (step.Renaming renaming) result = Renames e source renaming result
+
+abbrev pub in_order : Steps → List Step
+in_order steps = steps.first ∷ steps.others.items
+
+-- Steps of a source leave these bytes: each is made to those that the one before it left.
+abbrev pub Leave : Encoding → List ℕ → List Step → List ℕ → Type 0
+Leave e source [] bytes = bytes ≡ source
+Leave e source (s ∷ steps) bytes = (left : Vec ℕ) × ChangesByStep e source s (Ok left) × Leave e left.items steps bytes
+
+-- The steps are made up to one that fails.
+pub record FailsAt (e : Encoding) (source : List ℕ) (steps : List Step) (failure : Failure) : Type 0 where
+  pub before : List Step
+  pub failed : Step
+  pub after : List Step
+  pub division : steps ≡ before ++ failed ∷ after
+  pub left : List ℕ
+  pub leave : Leave e source before left
+  pub fails : ChangesByStep e left failed (Err failure)
+
+-- What making steps in turn returns.
+abbrev pub ChangesInTurn : Encoding → List ℕ → List Step → Result (Vec ℕ) Failure → Type 0
+ChangesInTurn e source steps (Ok bytes) = Leave e source steps bytes.items
+ChangesInTurn e source steps (Err failure) = FailsAt e source steps failure
+
 -- ---- a conversion
 
 -- The bytes of the source are sound, and these are those after the conversion.
@@ -119,9 +153,10 @@ abbrev pub Converts : Encoding → List ℕ → Conversion → Result (Vec ℕ) 
 Converts e source c (Ok bytes) = MakesConversion e source c bytes.items
 Converts e source c (Err failure) = HasUnsoundBytes e source failure ⊎ LacksMemory failure
 
--- ---- either of them
+-- ---- any of them
 
 -- What a change returns.
 abbrev pub Changes : Encoding → List ℕ → Change → Result (Vec ℕ) Failure → Type 0
 Changes e source (change.Edits edits) result = ChangesByEdits e source edits result
+Changes e source (change.Steps steps) result = ChangesInTurn e source (in_order steps) result
 Changes e source (change.Conversion c) result = Converts e source c result

@@ -17,10 +17,14 @@ use Rattle.java_properties.specs.Findings.{AreKeyLines, KeyEntry, escape_records
 use Rattle.properties_items.specs.declared.error.ErrorKind.TheVariants as kind
 use Rattle.properties_items.specs.declared.error.PropertiesError.{PropertiesError}
 use Rattle.properties_items.specs.declared.findings.MalformedEscape.{MalformedEscape}
+use Rattle.properties_items.specs.declared.error.ErrorKind.{ErrorKind}
+use Rattle.json.specs.Json as json
+use Rattle.json.specs.Json.{boolean, member, no_members, object, string, Json, Members}
 use Rattle.properties_tools.specs.Messages.{all_shown, escaped}
 use Rattle.properties_tools.specs.Propedit.Failures.{ill_formed_words, ill_formed_by_mark_words, not_utf_16_words, zero_words}
 use Rattle.properties_tools.specs.Propedit.Lines.{starts_with_bom, AreFlawedLines, IsFirstFlawed, IsFirstUtf8}
-use Rattle.properties_tools.specs.Propedit.Misread.{misread_words, AreMisread}
+use Rattle.properties_tools.specs.Propedit.Json.{text_value, IsReportText}
+use Rattle.properties_tools.specs.Propedit.Misread.{misread_name, misread_words, AreMisread}
 use Rattle.properties_tools.specs.Propedit.Sources.{is_in_utf_16}
 use Rattle.properties_tools.specs.declared.propedit.check.Words.{Words}
 use Rattle.properties_tools.specs.declared.propedit.check.Words.TheVariants.{WithEncoding, WithByteOrderMark, NotUtf8, NotUtf16}
@@ -32,13 +36,26 @@ use Rattle.properties_tools.specs.declared.propedit.request.Check.{Check}
 
 -- ---- what is said
 
--- of a line
+-- What is wrong: U+0000; an ill-formed line, with these words; UTF-8 that is read as windows-1252; a non-ASCII character; this
+-- byte, which ISO 8859-1 reads otherwise; what Java reads otherwise; a malformed escape, perhaps in a comment; this key, which
+-- a pair in this line has.
+pub data What : Type 0 where
+  holds_zero : What
+  is_ill_formed : Words → What
+  looks_like_utf_8 : What
+  is_non_ascii : What
+  is_read_otherwise : ℕ → What
+  is_misread : Misread → What
+  is_malformed : ErrorKind → Bool → What
+  repeats_key : List ℕ → ℕ → What
+
+-- what is said of a line
 pub record Said : Type 0 where
   pub line : ℕ
-  pub words : List ℕ
+  pub what : What
 
-abbrev pub said : List ℕ → ℕ → Said
-said words number = record { line = number; words = words }
+abbrev pub said : What → ℕ → Said
+said what number = record { line = number; what = what }
 
 -- of the first line of which something is said, where there is one
 abbrev pub first_of : {X : Type 0} → (ℕ → X) → Option ℕ → List X
@@ -98,12 +115,22 @@ abbrev pub comment_words : Bool → List ℕ
 comment_words true = codes " (in a comment, which Java and propedit pass over)"
 comment_words false = []
 
-abbrev pub escape_words : MalformedEscape → List ℕ
-escape_words escape = description escape.kind ++ comment_words escape.in_comment
+abbrev pub escape_words : ErrorKind → Bool → List ℕ
+escape_words kind in_comment = description kind ++ comment_words in_comment
 
 -- of a pair whose key has its first pair in an earlier line
 abbrev pub repeat_words : List ℕ → ℕ → List ℕ
 repeat_words key first = codes "repeats the key '" ++ (all_shown key ++ (codes "' of line " ++ decimal first))
+
+abbrev pub words_of : What → List ℕ
+words_of holds_zero = zero_words
+words_of (is_ill_formed words) = ill_formed_text words
+words_of looks_like_utf_8 = utf_8_words
+words_of is_non_ascii = non_ascii_words
+words_of (is_read_otherwise byte) = byte_words byte
+words_of (is_misread m) = misread_words m
+words_of (is_malformed kind in_comment) = escape_words kind in_comment
+words_of (repeats_key key first) = repeat_words key first
 
 -- ---- findings
 
@@ -112,18 +139,18 @@ abbrev pub repeats_of : Bool → KeyEntry → List Said
 repeats_of is_well_formed k =
     if k.first == k.number then [] else
     if not is_well_formed && has_replacement k.key then [] else
-    said (repeat_words k.key k.first) k.number ∷ []
+    said (repeats_key k.key k.first) k.number ∷ []
 
 -- what is said of this line with U+0000, these ill-formed lines, this line that looks like UTF-8, these lines that aren't
 -- ASCII, bytes that are read otherwise, escapes and keys, one kind after another
 abbrev pub all_said : Bool → Words → Option ℕ → List ℕ → Option ℕ → List ℕ → List Said → List MalformedEscape → List KeyEntry → List Said
 all_said pairs_only words zero numbers utf_8 refused otherwise escapes keys =
-    first_of (said zero_words) zero
-    ++ (ill_formed_of (λ w. said (ill_formed_text w)) words numbers
-    ++ (first_of (said utf_8_words) utf_8
-    ++ (map (said non_ascii_words) refused
+    first_of (said holds_zero) zero
+    ++ (ill_formed_of (λ w. said (is_ill_formed w)) words numbers
+    ++ (first_of (said looks_like_utf_8) utf_8
+    ++ (map (said is_non_ascii) refused
     ++ (otherwise
-    ++ (flat_map (escapes_of (λ escape. said (escape_words escape) escape.line_number) pairs_only) escapes
+    ++ (flat_map (escapes_of (λ escape. said (is_malformed escape.kind escape.in_comment) escape.line_number) pairs_only) escapes
     ++ flat_map (repeats_of (length numbers == 0)) keys)))))
 
 -- They are in the order of their lines, and those of one line in the order that they have in the others.
@@ -133,7 +160,34 @@ pub record ArrangesByLine (all arranged : List Said) : Type 0 where
 
 -- the line `NAME:LINE: TEXT`
 abbrev pub said_line : List ℕ → Said → List ℕ
-said_line name s = escaped name ++ (codes ":" ++ (decimal s.line ++ (codes ": " ++ (s.words ++ (line_feed ∷ [])))))
+said_line name s = escaped name ++ (codes ":" ++ (decimal s.line ++ (codes ": " ++ (words_of s.what ++ (line_feed ∷ [])))))
+
+-- ---- in JSON
+
+abbrev pub kind_name : What → List ℕ
+kind_name holds_zero = codes "zero"
+kind_name (is_ill_formed words) = codes "ill-formed"
+kind_name looks_like_utf_8 = codes "looks-like-utf-8"
+kind_name is_non_ascii = codes "non-ascii"
+kind_name (is_read_otherwise byte) = codes "read-otherwise"
+kind_name (is_misread m) = misread_name m
+kind_name (is_malformed kind in_comment) = codes "malformed-escape"
+kind_name (repeats_key key first) = codes "repeated-key"
+
+-- what an object says more, before these members
+abbrev pub detailed : What → Members → Members
+detailed (is_malformed kind in_comment) rest = member (codes "in_comment") (boolean in_comment) rest
+detailed (repeats_key key first) rest = member (codes "key") (text_value key) (member (codes "first") (json.number (decimal first)) rest)
+detailed other rest = rest
+
+-- The object has the name of the source, the line, and the words of the line that is printed otherwise.
+abbrev pub said_value : List ℕ → Said → Json
+said_value name s = object (
+    member (codes "file") (string name) (
+    member (codes "line") (json.number (decimal s.line)) (
+    member (codes "kind") (string (kind_name s.what)) (
+    detailed s.what (
+    member (codes "message") (string (words_of s.what)) no_members)))))
 
 -- ---- the report
 
@@ -170,7 +224,7 @@ pub record AreOtherwise {X : Type 0} (of : Misread → ℕ → X) (of_byte : ℕ
   pub are_bytes : AreOtherBytes of_byte allowed e source bytes
   pub is : findings ≡ misread ++ bytes
 
--- The text has the first line of a source with U+0000, its ill-formed lines, its first non-ASCII line if it is UTF-8 that
+-- The text has, in the form that is asked for, the first line of a source with U+0000, its ill-formed lines, its first non-ASCII line if it is UTF-8 that
 -- is read as windows-1252, its well-formed lines with a character that isn't allowed, what Java
 -- reads otherwise, its malformed escapes, those in comments unless only pairs are asked for, and its repeated keys, in the order
 -- of the lines.
@@ -184,7 +238,7 @@ pub record IsReport (name : List ℕ) (e : Encoding) (check : Check) (source tex
   pub refused : List ℕ
   pub are_refused : AreRefused check.allowed e source refused
   pub otherwise : List Said
-  pub are_otherwise : AreOtherwise (λ misread. said (misread_words misread)) (λ byte. said (byte_words byte)) check.allowed e source otherwise
+  pub are_otherwise : AreOtherwise (λ m. said (is_misread m)) (λ byte. said (is_read_otherwise byte)) check.allowed e source otherwise
   pub escapes : List format.MalformedEscape
   pub malformed : AreMalformedEscapes e source escapes
   pub keys : List KeyEntry
@@ -192,7 +246,7 @@ pub record IsReport (name : List ℕ) (e : Encoding) (check : Check) (source tex
   pub all : List Said
   pub arranged : ArrangesByLine
       (all_said check.pairs_only (first_words e source (is_some zero)) zero numbers utf_8 refused otherwise (escape_records escapes) keys) all
-  pub is : text ≡ flat_map (said_line name) all
+  pub is : IsReportText check.report (said_line name) (said_value name) all text
 
 -- What reporting returns. It fails only if memory runs out.
 abbrev pub Reports : {Z : Type 0} → Encoding → Check → List ℕ → List ℕ → Result (String Z) PropertiesError → Type 0

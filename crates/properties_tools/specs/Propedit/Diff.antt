@@ -6,9 +6,9 @@ use Rattle.properties_format.specs.Encoding.{Encoding}
 use Rattle.properties_items.specs.declared.error.PropertiesError.{PropertiesError}
 use Rattle.properties_text.specs.Encoding.{encoding_of}
 use Rattle.properties_tools.specs.Propedit.{name_of, Ends}
-use Rattle.properties_tools.specs.Propedit.Differences.{difference_status, difference_text, AreDifferencesOf, Difference}
+use Rattle.properties_tools.specs.Propedit.Differences.{difference_lines, difference_status, difference_text, AreDifferencesOf, Difference}
 use Rattle.properties_tools.specs.Propedit.Failures.{standard_output}
-use Rattle.properties_tools.specs.Propedit.Json.{difference_value, AreJsonLines}
+use Rattle.properties_tools.specs.Propedit.Json.{difference_value, AreJsonLines, IsReportText}
 use Rattle.properties_tools.specs.Propedit.Sources.{IsSound, IsUnsound}
 use Rattle.properties_tools.specs.declared.propedit.answer.Answer.{Answer}
 use Rattle.properties_tools.specs.declared.propedit.diff.DiffFailure.{DiffFailure}
@@ -16,8 +16,6 @@ use Rattle.properties_tools.specs.declared.propedit.diff.DiffFailure.TheVariants
 use Rattle.properties_tools.specs.declared.propedit.error.Failure.{Failure}
 use Rattle.properties_tools.specs.declared.propedit.error.Failure.TheVariants as failure
 use Rattle.properties_tools.specs.declared.propedit.request.Comparison.{Comparison}
-use Rattle.properties_tools.specs.declared.propedit.request.Report.{Report}
-use Rattle.properties_tools.specs.declared.propedit.request.Report.TheVariants.{Lines, Json}
 
 -- ---- of two sources
 
@@ -55,15 +53,11 @@ AreObjects ds text = AreJsonLines (map difference_value ds) text
 abbrev pub DiffsJson : Encoding → List ℕ → List ℕ → Result Answer DiffFailure → Type 0
 DiffsJson e old new result = DiffsIn AreObjects e old new result
 
--- The text has them as they are to be printed.
-abbrev pub IsTextIn : Report → List ℕ → List ℕ → List Difference → List ℕ → Type 0
-IsTextIn Lines old_name new_name ds text = IsDifferenceText old_name new_name ds text
-IsTextIn Json old_name new_name ds text = AreObjects ds text
-
--- what comparing the two of a request returns
+-- what comparing the two of a request returns, printed as it asks for
 abbrev pub Compares : Comparison → List ℕ → List ℕ → Result Answer DiffFailure → Type 0
 Compares sources old new result =
-    DiffsIn (IsTextIn sources.report (name_of sources.old) (name_of sources.new)) (encoding_of sources.encoding) old new result
+    DiffsIn (IsReportText sources.report (difference_lines (name_of sources.old) (name_of sources.new)) difference_value) (encoding_of sources.encoding)
+    old new result
 
 -- ---- over streams
 

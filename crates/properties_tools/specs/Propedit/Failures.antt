@@ -17,7 +17,7 @@ use Rattle.properties_tools.specs.Messages.{escaped, printed_line, HasPrintedLin
 use Rattle.properties_tools.specs.declared.propedit.error.Failure.{Failure}
 use Rattle.properties_tools.specs.declared.propedit.error.TextFlaw.{TextFlaw}
 use Rattle.properties_tools.specs.declared.propedit.error.TextFlaw.TheVariants as flaw
-use Rattle.properties_tools.specs.declared.propedit.error.Failure.TheVariants.{Absent, Texts, HoldsZero, NotUtf8, NotUtf8ByMark, NotUtf16, Malformed, Input, Output}
+use Rattle.properties_tools.specs.declared.propedit.error.Failure.TheVariants.{Absent, KeyTaken, Texts, HoldsZero, NotUtf8, NotUtf8ByMark, NotUtf16, Malformed, Input, Output}
 
 -- what is printed where memory runs out before a message, or for it
 abbrev pub memory_words : List ℕ
@@ -37,9 +37,10 @@ IsIoFailure source failure =
 
 -- ---- its status
 
--- 1 for a key that no pair has, and else 2
+-- 1 for a key that no pair has, or for a new key that one has, and else 2
 abbrev pub failure_status : Failure → ℕ
 failure_status (Absent key) = 1
+failure_status (KeyTaken number key) = 1
 failure_status other = 2
 
 -- ---- a pipe that nobody reads
@@ -85,16 +86,20 @@ not_utf_16_words = codes "not UTF-16"
 abbrev pub absent_words : List ℕ → List ℕ
 absent_words key = codes "no pair has the key '" ++ (escaped key ++ codes "'")
 
+-- of a new key that a pair has
+abbrev pub taken_words : List ℕ → List ℕ
+taken_words key = codes "the key '" ++ (escaped key ++ codes "' is there already")
+
 -- of bytes that aren't texts with zero bytes after them
 abbrev pub flaw_words : TextFlaw → List ℕ
 flaw_words flaw.NotUtf8 = codes "not UTF-8; the texts that merge -z reads are in UTF-8"
 flaw_words flaw.NotEnded = codes "the last text has no zero byte after it; with -z, merge reads what list -v -z prints"
 flaw_words flaw.NoValue = codes "the last key has no value; with -z, keys and values come by turns"
 
--- The words are the reason of an error, or say of UTF-16 what can be done, where a source in it was to be edited.
+-- The words are the reason of an error, or say of UTF-16 what can be done, where a command doesn't support it.
 abbrev pub IsInputReason : PropertiesError → List ℕ → Type 0
 IsInputReason error words =
-    ((kind_of error ≡ kind.Unsupported) × (words ≡ codes "UTF-16 can be read but not edited; propedit convert utf-8 converts it"))
+    ((kind_of error ≡ kind.Unsupported) × (words ≡ codes "this command does not support UTF-16; propedit convert utf-8 converts it"))
     ⊎ ((kind_of error ≢ kind.Unsupported) × IsErrorReason error words)
 
 -- The words are the reason of a failure.
@@ -105,6 +110,7 @@ IsReasonOf (NotUtf8ByMark number) words = words ≡ ill_formed_by_mark_words
 IsReasonOf (NotUtf16 number) words = words ≡ not_utf_16_words
 IsReasonOf (Malformed escape) words = words ≡ description escape.kind
 IsReasonOf (Absent key) words = words ≡ absent_words (string_bytes key)
+IsReasonOf (KeyTaken number key) words = words ≡ taken_words (string_bytes key)
 IsReasonOf (Texts flaw) words = words ≡ flaw_words flaw
 IsReasonOf (Input error) words = IsInputReason error words
 IsReasonOf (Output error) words = IsInputReason error words
@@ -119,6 +125,7 @@ number_of (NotUtf8ByMark number) = Some number
 number_of (NotUtf16 number) = Some number
 number_of (Malformed escape) = Some escape.line_number
 number_of (Absent key) = None
+number_of (KeyTaken number key) = Some number
 number_of (Texts flaw) = None
 number_of (Input error) = message_line error
 number_of (Output error) = message_line error

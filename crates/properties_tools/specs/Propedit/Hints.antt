@@ -11,7 +11,7 @@ use Rattle.properties_text.specs.Encoding.{encoding_of}
 use Rattle.properties_tools.specs.Messages.{escaped, printed_line, HasPrintedLine}
 use Rattle.properties_tools.specs.Propedit.Change.{HasKeys, IsFirstAbsent}
 use Rattle.properties_tools.specs.declared.propedit.request.Command.{Command}
-use Rattle.properties_tools.specs.declared.propedit.request.Command.TheVariants.{Get, ListJson, ListValues}
+use Rattle.properties_tools.specs.declared.propedit.request.Command.TheVariants.{Comment, Get, ListJson, ListValues}
 use Rattle.properties_tools.specs.declared.propedit.request.Command.TheVariants as command
 use Rattle.properties_tools.specs.declared.propedit.request.Job.{Job}
 use Rattle.properties_tools.specs.declared.propedit.request.Source.{Source}
@@ -31,10 +31,12 @@ abbrev pub without_first : {X : Type 0} → List X → List X
 without_first [] = []
 without_first (key ∷ keys) = keys
 
--- The KEYs that may be files by mistake: those of `get` where no file is named, but with a default not the first one.
+-- The KEYs that may be files by mistake where no file is named: those of `get`, but with a default not the first one, and
+-- that of `comment`.
 abbrev pub possible_files : Source → Command → List (String Global)
 possible_files StandardInput (Get keys None end) = keys.items
 possible_files StandardInput (Get keys (Some default) end) = without_first keys.items
+possible_files StandardInput (Comment key) = key ∷ []
 possible_files source command = []
 
 abbrev pub first_name : List (String Global) → Option (List ℕ)
@@ -78,6 +80,7 @@ IsFileHint e source files (Some line) = NamesFile e source files line
 -- What is said where a command found nothing in a source. These files are there.
 abbrev pub IsHintOf : Source → Encoding → Command → List (List ℕ) → List ℕ → Option (List ℕ) → Type 0
 IsHintOf from e (Get keys default end) files source hint = IsFileHint e source files hint
+IsHintOf from e (Comment key) files source hint = IsFileHint e source files hint
 IsHintOf from e (command.List prefix end) files source hint = hint ≡ prefix_hint from (string_bytes prefix)
 IsHintOf from e (ListValues prefix end) files source hint = hint ≡ prefix_hint from (string_bytes prefix)
 IsHintOf from e (ListJson prefix) files source hint = hint ≡ prefix_hint from (string_bytes prefix)

@@ -1,8 +1,7 @@
 -- Why a file that is edited in place is not replaced, or what fails after that, and what is printed of it.
 use Rattle.std.specs.Prelude.{◌≡◌, ◌⊎◌, ℕ, List, [], ◌++◌, Option, None, Some, Ok, Err, IfSome, codes, string_bytes}
 use Rattle.std.specs.Fmt.{◌++?◌}
-use Rattle.std.specs.Global.{Global, Vec}
-use Rattle.std.specs.declared.string.String.{String}
+use Rattle.std.specs.Global.{Vec}
 use Rattle.counted_io.specs.Streams.{Sink}
 use Rattle.properties_format.specs.Encoding.{Encoding}
 use Rattle.properties_tools.specs.Messages.{escaped, printed_line, HasPrintedLine}
@@ -13,7 +12,6 @@ use Rattle.properties_tools.specs.Propedit.Failures.{failure_status, message, Pr
 use Rattle.properties_tools.specs.declared.propedit.counts.Counts.{Counts}
 use Rattle.properties_tools.specs.declared.propedit.request.Change.{Change}
 use Rattle.properties_tools.specs.declared.propedit.error.Failure.{Failure}
-use Rattle.properties_tools.specs.declared.propedit.error.Failure.TheVariants.{Absent}
 use Rattle.properties_tools.specs.declared.propedit.in_place.Presence.{Presence}
 use Rattle.properties_tools.specs.declared.propedit.in_place.Presence.TheVariants as presence
 use Rattle.properties_tools.specs.declared.propedit.in_place.Problem.{Problem}
@@ -70,14 +68,16 @@ pub record PrintsChange {W : Type 0} (sink : Sink W) (old : W) (path : List ℕ)
   pub is : IsChangeLine path e source bytes line
   pub prints : HasPrintedLine sink old line new
 
--- The change is refused for some bytes: they have no pair with a key that has to be there. That is printed as a line.
-pub record PrintsAbsent {W : Type 0} (sink : Sink W) (old : W) (path : List ℕ) (e : Encoding) (change : Change) (new : W) : Type 0 where
+-- The change is refused for some bytes, with status 1: they have no pair with a key that has to be there, or one with a new
+-- key. That is printed as a line.
+pub record PrintsRefusal {W : Type 0} (sink : Sink W) (old : W) (path : List ℕ) (e : Encoding) (change : Change) (new : W) : Type 0 where
   pub source : List ℕ
-  pub key : String Global
-  pub refused : Changes e source change (Err (Absent key))
-  pub prints : PrintsFailure sink old path (Absent key) new
+  pub failure : Failure
+  pub status : failure_status failure ≡ 1
+  pub refused : Changes e source change (Err failure)
+  pub prints : PrintsFailure sink old path failure new
 
--- This failure, which is no key that is absent, is printed as a line.
+-- This failure, which is of another status, is printed as a line.
 pub record PrintsOtherFailure {W : Type 0} (sink : Sink W) (old : W) (path : List ℕ) (new : W) : Type 0 where
   pub failure : Failure
   pub status : failure_status failure ≡ 2

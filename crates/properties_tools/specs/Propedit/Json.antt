@@ -1,8 +1,9 @@
 -- Answers as JSON, each value on a line of its own: what is printed, and that it reads back.
 -- Source: RFC 8259, as the crate json has it: `print` is the text of a value's tokens with nothing between them, and
 -- `document` is the value that a text is. Members keep their order, and their names and texts are in UTF-8.
-use Rattle.std.specs.Prelude.{◌≡◌, ℕ, List, [], ◌∷◌, ◌++◌, Option, Some, Result, Ok, Err, codes, encode_utf8_all}
+use Rattle.std.specs.Prelude.{◌≡◌, ℕ, List, [], ◌∷◌, ◌++◌, Some, Result, Ok, Err, codes, encode_utf8_all, map}
 use Rattle.std.specs.Fmt.{decimal}
+use Rattle.std.specs.List.{flat_map}
 use Rattle.json.specs.Json.{document, number, object, string, member, no_members, Json, Members}
 use Rattle.json.specs.Print.{print}
 use Rattle.json.specs.Tree.{json_tokens}
@@ -15,6 +16,8 @@ use Rattle.properties_tools.specs.Propedit.Sources.{IsSound, IsUnsound}
 use Rattle.properties_tools.specs.Propedit.Table.{Row}
 use Rattle.properties_tools.specs.declared.propedit.answer.Answer.{Answer}
 use Rattle.properties_tools.specs.declared.propedit.error.Failure.{Failure}
+use Rattle.properties_tools.specs.declared.propedit.request.Report.{Report}
+use Rattle.properties_tools.specs.declared.propedit.request.Report.TheVariants as report
 
 -- The line is the text of this value and a line feed, and the text reads as the value.
 pub record IsJsonLine (value : Json) (line : List ℕ) : Type 0 where
@@ -28,6 +31,11 @@ abbrev pub AreJsonLines : List Json → List ℕ → Type 0
 AreJsonLines [] text = text ≡ []
 AreJsonLines (value ∷ values) text =
     (line : List ℕ) × (rest : List ℕ) × (text ≡ line ++ rest) × IsJsonLine value line × AreJsonLines values rest
+
+-- Each of these is printed as a line, or as an object on a line.
+abbrev pub IsReportText : {X : Type 0} → Report → (X → List ℕ) → (X → Json) → List X → List ℕ → Type 0
+IsReportText report.Lines line value xs text = text ≡ flat_map line xs
+IsReportText report.Json line value xs text = AreJsonLines (map value xs) text
 
 abbrev pub text_value : List ℕ → Json
 text_value text = string (encode_utf8_all text)

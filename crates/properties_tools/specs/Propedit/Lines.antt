@@ -7,7 +7,7 @@ use Rattle.properties_format.specs.Utf16.{is_high, is_low, low_first, high_first
 use Rattle.std.specs.Global.{Vec}
 use Rattle.std.specs.List.{list_any, starts_with}
 use Rattle.properties_format.specs.Encoding.{Encoding, windows_1252, utf_8, utf_16le, utf_16be, byte_order_mark}
-use Rattle.properties_format.specs.Cut.{IsCut, IsDecodedLine}
+use Rattle.properties_format.specs.Cut.{units, IsCut, IsDecodedLine}
 use Rattle.properties_format.specs.Lines.{end, Line, Lines, numbered_lines}
 use Rattle.properties_format.specs.Utf8.{IsWellFormedText}
 use Rattle.java_properties.specs.Errors.{IsBareError}
@@ -52,6 +52,12 @@ abbrev pub holds_mark : List ℕ → Bool
 holds_mark [] = false
 holds_mark (b ∷ bytes) = starts_with_bom (b ∷ bytes) || holds_mark bytes
 
+-- whether bytes in this encoding hold U+FEFF, which windows-1252 doesn't have
+abbrev pub holds_mark_in : Encoding → List ℕ → Bool
+holds_mark_in windows_1252 bytes = false
+holds_mark_in utf_8 bytes = holds_mark bytes
+holds_mark_in e bytes = list_any (λ u. u == 0xfeff) (units e bytes)
+
 -- The bytes are well-formed in this encoding. In windows-1252 every byte is a character.
 abbrev pub IsWellFormedIn : Encoding → List ℕ → Type 0
 IsWellFormedIn windows_1252 bytes = Unit {0}
@@ -72,7 +78,7 @@ abbrev pub HasFlaw : Flaw → Encoding → List ℕ → Type 0
 HasFlaw IllFormed e bytes = ¬ IsWellFormedIn e bytes
 HasFlaw Zero e bytes = holds_zero bytes ≡ true
 HasFlaw (Byte byte) e bytes = holds_byte byte bytes ≡ true
-HasFlaw MarkInside e bytes = holds_mark bytes ≡ true
+HasFlaw MarkInside e bytes = holds_mark_in e bytes ≡ true
 HasFlaw NonAscii e bytes = IsWellFormedIn e bytes × TellsNonAscii e bytes true
 
 -- The bytes don't have it.
@@ -80,7 +86,7 @@ abbrev pub LacksFlaw : Flaw → Encoding → List ℕ → Type 0
 LacksFlaw IllFormed e bytes = IsWellFormedIn e bytes
 LacksFlaw Zero e bytes = holds_zero bytes ≡ false
 LacksFlaw (Byte byte) e bytes = holds_byte byte bytes ≡ false
-LacksFlaw MarkInside e bytes = holds_mark bytes ≡ false
+LacksFlaw MarkInside e bytes = holds_mark_in e bytes ≡ false
 LacksFlaw NonAscii e bytes = (¬ IsWellFormedIn e bytes) ⊎ TellsNonAscii e bytes false
 
 -- ---- of a body
@@ -116,12 +122,12 @@ is_utf_16 utf_16be = true
 is_utf_16 other = false
 
 -- Whether a flaw is sought. A byte order mark says that the source isn't UTF-16, so a byte 0 is no flaw after one. Other
--- bytes by themselves are sought in windows-1252, and U+FEFF in UTF-8.
+-- bytes by themselves are sought in windows-1252.
 abbrev pub is_sought : Flaw → Encoding → List ℕ → Bool
 is_sought IllFormed e source = true
 is_sought NonAscii e source = true
 is_sought (Byte byte) e source = is_windows_1252 (byte_order_mark e source).encoding
-is_sought MarkInside e source = is_utf_8 (byte_order_mark e source).encoding
+is_sought MarkInside e source = true
 is_sought Zero e source = is_utf_8 (byte_order_mark e source).encoding && not (starts_with_bom source)
 
 -- These are the numbers of the lines of a source that have this flaw, if it is sought.

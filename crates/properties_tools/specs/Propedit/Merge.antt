@@ -1,12 +1,18 @@
 -- What `merge` sets: the pairs of a file, which is a properties file, or has texts that each end with a zero byte.
-use Rattle.std.specs.Prelude.{◌≡◌, ◌≢◌, ℕ, Bool, false, ◌==◌, All, List, [], ◌∷◌, ◌++◌, Result, Ok, Err, map}
+use Rattle.std.specs.Prelude.{◌≡◌, ◌≢◌, ◌⊎◌, ℕ, Bool, false, ◌==◌, All, List, [], ◌∷◌, ◌++◌, Result, Ok, Err, map}
 use Rattle.std.specs.Global.{Vec}
 use Rattle.std.specs.List.{flat_map, list_any}
 use Rattle.std.specs.Str.{chars, IsUtf8}
+use Rattle.counted_io.specs.Streams.{Reader, Sink}
 use Rattle.properties_format.specs.Edits.{set_value, Edit}
 use Rattle.properties_format.specs.Encoding.{Encoding}
 use Rattle.java_properties.specs.Editing.{edits_in}
+use Rattle.java_properties.specs.WholeSources.{GivesWhole, ReadsSource}
 use Rattle.properties_editing.specs.declared.edit.Edit as editor
+use Rattle.properties_items.specs.declared.error.PropertiesError.{PropertiesError}
+use Rattle.properties_text.specs.Encoding.{encoding_of}
+use Rattle.properties_text.specs.declared.encoding.Encoding.{Encoding as Asked}
+use Rattle.properties_tools.specs.Propedit.{name_of, Ends}
 use Rattle.properties_tools.specs.Propedit.Failures.{LacksMemory}
 use Rattle.properties_tools.specs.Propedit.Sources.{IsSound, IsUnsound}
 use Rattle.properties_tools.specs.Propedit.Table.{HasRows, Row}
@@ -14,8 +20,17 @@ use Rattle.properties_tools.specs.declared.propedit.error.Failure.{Failure}
 use Rattle.properties_tools.specs.declared.propedit.error.Failure.TheVariants.{Input, Texts}
 use Rattle.properties_tools.specs.declared.propedit.error.TextFlaw.{TextFlaw}
 use Rattle.properties_tools.specs.declared.propedit.error.TextFlaw.TheVariants as flaw
+use Rattle.properties_tools.specs.declared.propedit.merge.Merged.{Merged}
+use Rattle.properties_tools.specs.declared.propedit.merge.Merged.TheVariants as outcome
+use Rattle.properties_tools.specs.declared.propedit.request.Change.{Change}
+use Rattle.properties_tools.specs.declared.propedit.request.Change.TheVariants as change
+use Rattle.properties_tools.specs.declared.propedit.request.Command.TheVariants as command
+use Rattle.properties_tools.specs.declared.propedit.request.Destination.{Destination}
+use Rattle.properties_tools.specs.declared.propedit.request.Destination.TheVariants as destination
+use Rattle.properties_tools.specs.declared.propedit.request.Edits.{Edits}
 use Rattle.properties_tools.specs.declared.propedit.request.Form.{Form}
 use Rattle.properties_tools.specs.declared.propedit.request.Form.TheVariants as form
+use Rattle.properties_tools.specs.declared.propedit.request.Merge.{Merge}
 
 -- ---- a properties file
 
@@ -102,3 +117,47 @@ SetsTexts file (Err failure) = AreNoTexts file failure
 abbrev pub SetsAll : Form → Encoding → List ℕ → Result (Vec editor.Edit) Failure → Type 0
 SetsAll form.Properties e file result = SetsRows e file result
 SetsAll form.Texts e file result = SetsTexts file result
+
+-- ---- the change of a merge
+
+-- these edits, made as it is asked for
+abbrev pub change_by : Edits → Vec editor.Edit → Change
+change_by asked list = change.Edits (record { list = list; ascii_only = asked.ascii_only; latin_1 = asked.latin_1; absent = asked.absent })
+
+-- a change that goes there
+abbrev pub sent_to : Destination → Asked → Change → Merged
+sent_to (destination.Printed source) e change = outcome.Printed (record { encoding = e; source = source; command = command.Change change })
+sent_to (destination.InPlace path missing verbose) e change =
+    outcome.InPlace (record { path = path; encoding = e; change = change; missing = missing; verbose = verbose })
+
+-- what a merge comes to, where these edits set its pairs
+abbrev pub merged : Merge → Vec editor.Edit → Merged
+merged asked list = sent_to asked.destination asked.encoding (change_by asked.edits list)
+
+-- ---- over streams
+
+module _ {R : Type 0} (reader : Reader R) (asked : Merge) where
+  -- What the file of pairs gave to its end sets these edits, or has this flaw.
+  pub record SetsWhole (pairs : R) (result : Result (Vec editor.Edit) Failure) (pairs' : R) : Type 0 where
+    pub file : List ℕ
+    pub read : GivesWhole reader pairs file pairs'
+    pub sets : SetsAll asked.form (encoding_of asked.encoding) file result
+
+  -- It couldn't be read to its end.
+  pub record FailsInPairs (pairs : R) (why : Failure) (pairs' : R) : Type 0 where
+    pub error : PropertiesError
+    pub fails : ReadsSource reader (encoding_of asked.encoding) pairs (Err error) pairs'
+    pub is : why ≡ Input error
+
+  -- What reading the pairs returns: the edits that set them, or why there are none.
+  abbrev pub ReadsPairs : R → Result (Vec editor.Edit) Failure → R → Type 0
+  ReadsPairs pairs (Ok edits) pairs' = SetsWhole pairs (Ok edits) pairs'
+  ReadsPairs pairs (Err why) pairs' = FailsInPairs pairs why pairs' ⊎ SetsWhole pairs (Err why) pairs'
+
+-- What reading a merge returns: the change by the edits that set its pairs, where nothing is said; or the status at a
+-- failure, whose message names the source of the pairs.
+abbrev pub ReadsMerge : {R E : Type 0} → Reader R → Sink E → Merge → R → E → Result Merged ℕ → R → E → Type 0
+ReadsMerge reader error_sink asked pairs errors (Ok change) pairs' errors' =
+    (edits : Vec editor.Edit) × ReadsPairs reader asked pairs (Ok edits) pairs' × (change ≡ merged asked edits) × (errors' ≡ errors)
+ReadsMerge reader error_sink asked pairs errors (Err status) pairs' errors' =
+    (why : Failure) × ReadsPairs reader asked pairs (Err why) pairs' × Ends error_sink (name_of asked.pairs) errors (Err why) status errors'

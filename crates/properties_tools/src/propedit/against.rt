@@ -1,25 +1,24 @@
 // The keys of a source, beside those of a base.
 
-ghost use Rattle.std.specs.Prelude.{◌≡◌, ◌<◌, ◌&&◌, ◌++◌, get_or, length, string_bytes, OnOk};
-ghost use Rattle.std.specs.List.{flat_map};
+ghost use Rattle.std.specs.Prelude.{◌≡◌, ◌<◌, ◌&&◌, ◌∷◌, [], get_or, length, OnOk};
 ghost use Rattle.std.specs.Str.{chars};
 ghost use Rattle.java_properties.specs.Findings.{KeyPlace};
 ghost use Rattle.properties_text.specs.Encoding.{encoding_of};
 ghost use Rattle.properties_tools.specs.Propedit.{ChecksAgainst, ChecksBase};
-ghost use Rattle.properties_tools.specs.Propedit.Against.{missing_line, surplus_line};
-ghost use Rattle.properties_tools.specs.Private.Lacking.{is_lacking, lacking};
+ghost use Rattle.properties_tools.specs.Private.Lacking.{is_lacking, missing_places, surplus_places, AddsMissing, AddsSurplus, HaveTables};
 ghost use Rattle.properties_tools.specs.Private.Table.{place_keys, places_of, IsKeyTable};
 
 use crate::messages::Escaped;
 use crate::propedit::answer::{Answer, reported};
-use crate::propedit::check::{Reported, checked};
+use crate::propedit::check::{Heading, Reported, checked};
 use crate::propedit::error::Failure;
 use crate::propedit::key_table::KeyTable;
 use crate::propedit::line_findings::may_stand_for_bytes;
-use crate::propedit::request::Check;
+use crate::propedit::objects::{Member, push_object};
+use crate::propedit::request::{Check, Report};
 use java_properties::Encoding;
 use std::alloc::{AllocError, Global};
-use std::fmt::Write;
+use std::fmt::{self, Write};
 use std::marker::Model;
 
 /// A base: the keys of a file that others are to have, and no others.
@@ -83,13 +82,13 @@ pub fn base_of(
 /// // m_de.properties: key 'a' is missing (m.properties:1)
 /// // m_de.properties:2: key 'c' is not in m.properties
 /// ```
-pub fn check_against(
+pub fn check_against<'a>(
     alloc: Global,
-    name: &str,
+    name: &'a str,
     source: &[u8],
     encoding: Encoding,
     asked: Check,
-    base: &Base,
+    base: &'a Base,
 ) -> Result<Answer, Failure>
     ensures { ChecksAgainst base.now name.now (encoding_of encoding) asked source.now result }
 {
@@ -98,24 +97,18 @@ pub fn check_against(
         keys,
         is_well_formed,
     } = checked(alloc, name, source, encoding, asked)?;
-    let are_well_formed = are_well_formed(base, is_well_formed);
-    let base_name = base.name.as_str();
-    push_missing(
-        &mut text,
-        name,
-        &keys,
-        base_name,
-        &base.keys,
-        are_well_formed,
-    )?;
-    push_surplus(
-        &mut text,
-        name,
-        &keys,
-        base_name,
-        &base.keys,
-        are_well_formed,
-    )?;
+    let sides = Sides {
+        heading: Heading {
+            name,
+            report: asked.report,
+        },
+        keys: &keys,
+        base_name: base.name.as_str(),
+        base_keys: &base.keys,
+        are_well_formed: are_well_formed(base, is_well_formed),
+    };
+    push_missing(alloc, &mut text, &sides)?;
+    push_surplus(alloc, &mut text, &sides)?;
     Ok(reported(alloc, text, asked.quiet))
 }
 
@@ -126,45 +119,38 @@ fn are_well_formed(base: &Base, is_well_formed: bool) -> bool
     base.is_well_formed && is_well_formed
 }
 
-// Appends a line for each key of a base that is lacking in a source.
-fn push_missing(
-    text: &mut String,
-    name: &str,
-    keys: &KeyTable,
-    base_name: &str,
-    base_keys: &KeyTable,
+// The keys of a source, those of a base, and how what only one of them has is printed.
+#[derive(Clone, Copy)]
+struct Sides<'a> {
+    heading: Heading<'a>,
+    keys: &'a KeyTable,
+    base_name: &'a str,
+    base_keys: &'a KeyTable,
+    // Whether no line of either is ill-formed.
     are_well_formed: bool,
-) -> Result<(), AllocError>
-    requires keys { IsKeyTable keys.now }
-    requires base_keys { IsKeyTable base_keys.now }
-    ensures { let missing = lacking are_well_formed (place_keys (places_of keys.now)) (places_of base_keys.now) in
-        OnOk result (string_bytes text.new ≡ string_bytes text.old ++ flat_map (missing_line name.now base_name.now) missing) }
+}
+
+// Appends what is said of each key of a base that is lacking in a source.
+fn push_missing(alloc: Global, text: &mut String, sides: &Sides<'_>) -> Result<(), AllocError>
+    requires { HaveTables sides.now }
+    ensures { OnOk result (AddsMissing sides.now (missing_places sides.now) text.old text.new) }
 {
-    for row in 0..base_keys.len() {
-        if is_lacking(base_keys.key(row), keys, are_well_formed) {
-            push_missing_row(text, name, base_name, base_keys, row)?;
+    for row in 0..sides.base_keys.len() {
+        if is_lacking(sides.base_keys.key(row), sides.keys, sides.are_well_formed) {
+            push_missing_row(alloc, text, sides, row)?;
         }
     }
     Ok(())
 }
 
-// Appends a line for each key of a source that is lacking in a base.
-fn push_surplus(
-    text: &mut String,
-    name: &str,
-    keys: &KeyTable,
-    base_name: &str,
-    base_keys: &KeyTable,
-    are_well_formed: bool,
-) -> Result<(), AllocError>
-    requires keys { IsKeyTable keys.now }
-    requires base_keys { IsKeyTable base_keys.now }
-    ensures { let surplus = lacking are_well_formed (place_keys (places_of base_keys.now)) (places_of keys.now) in
-        OnOk result (string_bytes text.new ≡ string_bytes text.old ++ flat_map (surplus_line name.now base_name.now) surplus) }
+// Appends what is said of each key of a source that is lacking in a base.
+fn push_surplus(alloc: Global, text: &mut String, sides: &Sides<'_>) -> Result<(), AllocError>
+    requires { HaveTables sides.now }
+    ensures { OnOk result (AddsSurplus sides.now (surplus_places sides.now) text.old text.new) }
 {
-    for row in 0..keys.len() {
-        if is_lacking(keys.key(row), base_keys, are_well_formed) {
-            push_surplus_row(text, name, keys, row, base_name)?;
+    for row in 0..sides.keys.len() {
+        if is_lacking(sides.keys.key(row), sides.base_keys, sides.are_well_formed) {
+            push_surplus_row(alloc, text, sides, row)?;
         }
     }
     Ok(())
@@ -179,44 +165,120 @@ fn is_lacking(key: &str, keys: &KeyTable, are_well_formed: bool) -> bool
     keys.find(key).is_none() && (are_well_formed || !may_stand_for_bytes(key))
 }
 
-// Appends the line of a key that is missing, which has this row of the base.
+// Appends what is said of a key that is missing, which has this row of the base.
 #[inline(never)]
 fn push_missing_row(
+    alloc: Global,
     text: &mut String,
-    name: &str,
-    base_name: &str,
-    base_keys: &KeyTable,
+    sides: &Sides<'_>,
     row: usize,
 ) -> Result<(), AllocError>
-    requires table { IsKeyTable base_keys.now }
-    requires within { row < length (places_of base_keys.now) }
-    ensures { OnOk result ((d : KeyPlace) → string_bytes text.new
-        ≡ string_bytes text.old ++ missing_line name.now base_name.now (get_or (places_of base_keys.now) row d)) }
+    requires tables { HaveTables sides.now }
+    requires within { row < length (places_of sides.now.base_keys.now) }
+    ensures { OnOk result ((d : KeyPlace) → AddsMissing sides.now (get_or (places_of sides.now.base_keys.now) row d ∷ []) text.old text.new) }
 {
-    let name = Escaped(name);
-    let key = Escaped(base_keys.key(row));
-    let base = Escaped(base_name);
-    let line = base_keys.first_line(row);
-    write!(text, "{name}: key '{key}' is missing ({base}:{line})\n")
+    let key = sides.base_keys.key(row);
+    let base_line = sides.base_keys.first_line(row);
+    let name = Escaped(sides.heading.name);
+    let words = MissingKey {
+        key,
+        base: sides.base_name,
+        base_line,
+    };
+    match sides.heading.report {
+        Report::Lines => write!(text, "{name}: {words}\n")?,
+        Report::Json => {
+            let words = format!(in alloc; "{words}")?;
+            let members = [
+                Member::Text("file", sides.heading.name),
+                Member::Text("kind", "missing-key"),
+                Member::Text("key", key),
+                Member::Text("base", sides.base_name),
+                Member::Number("base_line", base_line),
+                Member::Text("message", words.as_str()),
+            ];
+            push_object(alloc, text, &members)?;
+        }
+    }
+    Ok(())
 }
 
-// Appends the line of a key that the base lacks, which has this row of the source.
+// Appends what is said of a key that the base lacks, which has this row of the source.
 #[inline(never)]
 fn push_surplus_row(
+    alloc: Global,
     text: &mut String,
-    name: &str,
-    keys: &KeyTable,
+    sides: &Sides<'_>,
     row: usize,
-    base_name: &str,
 ) -> Result<(), AllocError>
-    requires table { IsKeyTable keys.now }
-    requires within { row < length (places_of keys.now) }
-    ensures { OnOk result ((d : KeyPlace) → string_bytes text.new
-        ≡ string_bytes text.old ++ surplus_line name.now base_name.now (get_or (places_of keys.now) row d)) }
+    requires tables { HaveTables sides.now }
+    requires within { row < length (places_of sides.now.keys.now) }
+    ensures { OnOk result ((d : KeyPlace) → AddsSurplus sides.now (get_or (places_of sides.now.keys.now) row d ∷ []) text.old text.new) }
 {
-    let name = Escaped(name);
-    let line = keys.first_line(row);
-    let key = Escaped(keys.key(row));
-    let base = Escaped(base_name);
-    write!(text, "{name}:{line}: key '{key}' is not in {base}\n")
+    let key = sides.keys.key(row);
+    let line = sides.keys.first_line(row);
+    let name = Escaped(sides.heading.name);
+    let words = SurplusKey {
+        key,
+        base: sides.base_name,
+    };
+    match sides.heading.report {
+        Report::Lines => write!(text, "{name}:{line}: {words}\n")?,
+        Report::Json => {
+            let words = format!(in alloc; "{words}")?;
+            let members = [
+                Member::Text("file", sides.heading.name),
+                Member::Number("line", line),
+                Member::Text("kind", "surplus-key"),
+                Member::Text("key", key),
+                Member::Text("base", sides.base_name),
+                Member::Text("message", words.as_str()),
+            ];
+            push_object(alloc, text, &members)?;
+        }
+    }
+    Ok(())
+}
+
+// What is said of a key that a source lacks.
+#[derive(Clone, Copy)]
+struct MissingKey<'a> {
+    key: &'a str,
+    base: &'a str,
+    base_line: usize,
+}
+
+impl fmt::Display for MissingKey<'_> {
+    ghost use Rattle.std.specs.Prelude.{Some};
+    ghost use Rattle.std.specs.Str.{chars};
+    ghost use Rattle.properties_tools.specs.Propedit.Against.{missing_words};
+
+    ghost output = { λ m. Some (missing_words m.base.now (record { key = chars m.key.now; number = m.base_line })) };
+
+    fn fmt<W: fmt::Write>(&self, f: &mut fmt::Formatter<W>) -> fmt::Result {
+        let key = Escaped(self.key);
+        let base = Escaped(self.base);
+        write!(f, "key '{key}' is missing ({base}:{})", self.base_line)
+    }
+}
+
+// What is said of a key that a base lacks.
+#[derive(Clone, Copy)]
+struct SurplusKey<'a> {
+    key: &'a str,
+    base: &'a str,
+}
+
+impl fmt::Display for SurplusKey<'_> {
+    ghost use Rattle.std.specs.Prelude.{Some};
+    ghost use Rattle.std.specs.Str.{chars};
+    ghost use Rattle.properties_tools.specs.Propedit.Against.{surplus_words};
+
+    ghost output = { λ s. Some (surplus_words s.base.now (chars s.key.now)) };
+
+    fn fmt<W: fmt::Write>(&self, f: &mut fmt::Formatter<W>) -> fmt::Result {
+        let key = Escaped(self.key);
+        let base = Escaped(self.base);
+        write!(f, "key '{key}' is not in {base}")
+    }
 }

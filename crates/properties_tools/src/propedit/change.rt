@@ -7,12 +7,13 @@ ghost use Rattle.java_properties.specs.Maps.{characters};
 ghost use Rattle.properties_text.specs.Encoding.{encoding_of};
 ghost use Rattle.properties_tools.specs.Private.Collected.{first_without, value_texts, with_values, FindsKnown, MakesList, RefusesIfAbsent};
 ghost use Rattle.properties_tools.specs.Private.Hinting.{FindsAbsent};
-ghost use Rattle.properties_tools.specs.Propedit.Change.{edited_key, edited_keys, Changes, ChangesByEdits, Converts};
+ghost use Rattle.properties_tools.specs.Propedit.Change.{edited_key, edited_keys, in_order, Changes, ChangesByEdits, ChangesByStep, ChangesInTurn, Converts};
 ghost use Rattle.properties_tools.specs.Propedit.Sources.{HasSoundBytes};
 ghost use Rattle.properties_tools.specs.Propedit.Texts.{borrowed_characters};
 
 use crate::propedit::error::Failure;
-use crate::propedit::request::{AbsentKeys, Change, Conversion, Edits};
+use crate::propedit::rename::rename;
+use crate::propedit::request::{AbsentKeys, Change, Conversion, Edits, Step, Steps};
 use crate::propedit::sound::{refuse_bytes, refuse_unsound};
 use crate::propedit::values::values_of;
 use java_properties::{Comments, Edit, Encoding, SourceOptions, convert, edit_with};
@@ -24,6 +25,9 @@ use std::alloc::{AllocError, Global};
 /// force without a byte order mark. Edits refuse a malformed escape in a pair too, then UTF-16, and then, if that is
 /// asked for, the first key to set or remove that no pair of the source has. If such keys are to be left out, only the
 /// edits of other keys are made. A conversion keeps what is malformed.
+///
+/// Of steps, each is made to what the one before it left, and the first that is refused refuses the change. A step reads
+/// the source once, or twice if it renames a key.
 ///
 /// ```text
 /// let edits = Change::Edits(Edits {
@@ -52,7 +56,39 @@ pub fn change(
 {
     match change {
         Change::Edits(edits) => edited(alloc, source, encoding, edits),
+        Change::Steps(steps) => changed_in_turn(alloc, source, encoding, steps),
         Change::Conversion(conversion) => converted(alloc, source, encoding, *conversion),
+    }
+}
+
+// Returns the bytes of a source after steps, each made to what the one before it left.
+fn changed_in_turn(
+    alloc: Global,
+    source: &[u8],
+    encoding: Encoding,
+    steps: &Steps,
+) -> Result<Vec<u8>, Failure>
+    ensures { ChangesInTurn (encoding_of encoding) source.now (in_order steps.now) result }
+{
+    let mut bytes = changed_by(alloc, source, encoding, &steps.first)?;
+    for step in &steps.others {
+        bytes = changed_by(alloc, &bytes, encoding, step)?;
+    }
+    Ok(bytes)
+}
+
+// Returns the bytes of a source after a step.
+fn changed_by(
+    alloc: Global,
+    source: &[u8],
+    encoding: Encoding,
+    step: &Step,
+) -> Result<Vec<u8>, Failure>
+    ensures { ChangesByStep (encoding_of encoding) source.now step.now result }
+{
+    match step {
+        Step::Edits(edits) => edited(alloc, source, encoding, edits),
+        Step::Renaming(renaming) => rename(alloc, source, encoding, renaming),
     }
 }
 

@@ -1,17 +1,19 @@
 // What is wrong in a source, as lines.
 
-ghost use Rattle.std.specs.Prelude.{◌≡◌, ◌++◌, map, OnOk};
+ghost use Rattle.std.specs.Prelude.{◌≡◌, ◌++◌, ◌∷◌, [], encode_utf8_all, map, OnOk};
 ghost use Rattle.std.specs.List.{flat_map};
 ghost use Rattle.std.specs.Str.{chars};
 ghost use Rattle.std.specs.String.{string_bytes};
 ghost use Rattle.properties_format.specs.Windows1252.{windows_1252_character};
 ghost use Rattle.properties_text.specs.Encoding.{encoding_of};
-ghost use Rattle.properties_tools.specs.Propedit.Check.{comment_words, escapes_of, first_of, first_words, ill_formed_of, ill_formed_text, said_line, words_after, Reports};
-ghost use Rattle.properties_tools.specs.Private.Checking.{escape_finding, finding_of, ill_formed_finding, kind_words, place_at, said_of, ArrangesFindings, ChecksKeys};
+ghost use Rattle.properties_tools.specs.Propedit.Check.{comment_words, escapes_of, first_of, first_words, ill_formed_of, ill_formed_text, said_line, said_value, words_after, words_of, Reports};
+ghost use Rattle.properties_tools.specs.Private.Checking.{escape_finding, finding_of, ill_formed_finding, place_at, said_of, what_of, ArrangesFindings, ChecksKeys};
 ghost use Rattle.properties_tools.specs.Private.Flawed.{FindsBytes, FindsOtherBytes, FindsOtherwise, FindsRefused};
+ghost use Rattle.properties_tools.specs.Private.Json.{AddsReport};
 ghost use Rattle.properties_tools.specs.Private.Table.{places_of, IsKeyTable};
 
 use crate::messages::Escaped;
+use crate::propedit::check_json::push_value;
 use crate::propedit::error::{HOLDS_ZERO, NOT_UTF_8, NOT_UTF_8_BY_MARK, NOT_UTF_16};
 use crate::propedit::ill_formed::{
     Flaw, first_flawed_line, first_utf_8_line, flawed_lines, has_byte_order_mark, ill_formed_lines,
@@ -19,7 +21,7 @@ use crate::propedit::ill_formed::{
 use crate::propedit::key_table::KeyTable;
 use crate::propedit::line_findings::line_findings;
 use crate::propedit::misread::{Misread, find_misread};
-use crate::propedit::request::{Allowed, Check};
+use crate::propedit::request::{Allowed, Check, Report};
 use crate::propedit::sound::in_utf_16;
 use java_properties::{Encoding, MalformedEscape, PropertiesError};
 use properties_text::encoding::LineEncoding;
@@ -67,14 +69,15 @@ pub(crate) enum Words {
     NotUtf16,
 }
 
-/// Returns what is wrong in a source, a line for each finding, in the order of the source's lines: the first line with
-/// U+0000, if UTF-8 is in force without a byte order mark; the lines that are ill-formed in the encoding in force; the
-/// first line with a non-ASCII character, if windows-1252 is in force though the source is well-formed UTF-8; the well-
-/// formed lines with a non-ASCII character, if only ASCII is allowed; a byte order mark of UTF-8 or UTF-32 at the
-/// front, and in UTF-8 each line with U+FEFF; each byte of a line that ISO 8859-1 reads as another character, if that
-/// isn't allowed and windows-1252 is in force; malformed escapes, but those in comments if only pairs are asked for;
-/// and pairs that repeat a key. The text is empty if nothing is wrong. Fails only if memory runs out. Whether the check
-/// is quiet is the caller's concern.
+/// Returns what is wrong in a source, a line or a JSON object for each finding, in the order of the source's lines: the
+/// first line with U+0000, if UTF-8 is in force without a byte order mark; the lines that are ill-formed in the
+/// encoding in force; the first line with a non-ASCII character, if windows-1252 is in force though the source is
+/// well-formed UTF-8; the well-formed lines with a non-ASCII character, if only ASCII is allowed; a byte order mark of
+/// UTF-8 or UTF-32 at the front, and in UTF-8 and UTF-16 each line with U+FEFF; the lines, but for comment lines, that
+/// end in a backslash and blanks, and the last line if it ends in a backslash; each byte of a line that ISO 8859-1
+/// reads as another character, if that isn't allowed and windows-1252 is in force; malformed escapes, but those in
+/// comments if only pairs are asked for; and pairs that repeat a key. The text is empty if nothing is wrong. Fails only
+/// if memory runs out. Whether the check is quiet is the caller's concern.
 ///
 /// If a line is ill-formed, a key with U+FFFD repeats no other, since that character may stand for any bytes.
 ///
@@ -84,6 +87,7 @@ pub(crate) enum Words {
 ///     allowed: Allowed::All,
 ///     pairs_only: false,
 ///     quiet: false,
+///     report: Report::Lines,
 /// };
 /// let text = report(alloc, "my.properties", source, Encoding::UTF_8, asked)?;
 /// // my.properties:1: Malformed \uxxxx encoding: not hex. (in a comment, which Java and propedit pass over)
@@ -138,7 +142,11 @@ pub(crate) fn checked(
     findings.extend_from_slice(&in_lines.repeats)?;
     sort(&mut findings)?;
     let mut text = String::new(alloc);
-    push_lines(&mut text, name, &in_lines.keys, &findings)?;
+    let heading = Heading {
+        name,
+        report: asked.report,
+    };
+    push_findings(alloc, &mut text, heading, &in_lines.keys, &findings)?;
     Ok(Reported {
         text,
         keys: in_lines.keys,
@@ -312,19 +320,46 @@ fn sort(findings: &mut Vec<Finding>) -> Result<(), AllocError>
     Ok(())
 }
 
-fn push_lines(
+// How findings are printed: under this name, and in this form.
+#[derive(Clone, Copy)]
+pub(crate) struct Heading<'a> {
+    pub name: &'a str,
+    pub report: Report,
+}
+
+fn push_findings<'a>(
+    alloc: Global,
     text: &mut String,
-    name: &str,
-    keys: &KeyTable,
+    heading: Heading<'a>,
+    keys: &'a KeyTable,
     findings: &[Finding],
 ) -> Result<(), AllocError>
     requires { IsKeyTable keys.now }
-    ensures { OnOk result (string_bytes text.new ≡ string_bytes text.old ++ flat_map (said_line name.now) (map (said_of (places_of keys.now)) findings.now)) }
+    ensures { let said = map (said_of (places_of keys.now)) findings.now in
+        OnOk result (AddsReport heading.entry.report (said_line heading.entry.name.now) (said_value heading.entry.name.now) said text.old text.new) }
 {
     for finding in findings {
-        push_line(text, name, keys, finding)?;
+        push_finding(alloc, text, heading, keys, finding)?;
     }
     Ok(())
+}
+
+#[inline(always)]
+fn push_finding<'a>(
+    alloc: Global,
+    text: &mut String,
+    heading: Heading<'a>,
+    keys: &'a KeyTable,
+    finding: &Finding,
+) -> Result<(), AllocError>
+    requires { IsKeyTable keys.now }
+    ensures { let said = said_of (places_of keys.now) finding.now in
+        OnOk result (AddsReport heading.entry.report (said_line heading.entry.name.now) (said_value heading.entry.name.now) (said ∷ []) text.old text.new) }
+{
+    match heading.report {
+        Report::Lines => push_line(text, heading.name, keys, finding),
+        Report::Json => push_value(alloc, text, heading.name, keys, finding),
+    }
 }
 
 fn push_line(
@@ -343,9 +378,13 @@ fn push_line(
 }
 
 // Appends what is wrong, in words.
-fn push_words(text: &mut String, keys: &KeyTable, kind: FindingKind) -> Result<(), AllocError>
+pub(crate) fn push_words(
+    text: &mut String,
+    keys: &KeyTable,
+    kind: FindingKind,
+) -> Result<(), AllocError>
     requires { IsKeyTable keys.now }
-    ensures { OnOk result (string_bytes text.new ≡ string_bytes text.old ++ kind_words (places_of keys.now) kind) }
+    ensures { OnOk result (string_bytes text.new ≡ string_bytes text.old ++ words_of (what_of (places_of keys.now) kind)) }
 {
     match kind {
         FindingKind::HoldsZero => text.push_str(HOLDS_ZERO),
@@ -388,9 +427,10 @@ impl fmt::Display for OtherByte {
 }
 
 // Returns the key in a row, and the line of its first pair.
-fn key_at(keys: &KeyTable, row: usize) -> (&str, usize)
+pub(crate) fn key_at(keys: &KeyTable, row: usize) -> (&str, usize)
     requires { IsKeyTable keys.now }
     ensures key { chars result.0.now ≡ (place_at (places_of keys.now) row).key }
+    ensures text { result.0.now ≡ encode_utf8_all (place_at (places_of keys.now) row).key }
     ensures line { result.1 ≡ (place_at (places_of keys.now) row).number }
 {
     if row < keys.len() {

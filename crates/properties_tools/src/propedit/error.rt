@@ -3,7 +3,7 @@
 ghost use Rattle.std.specs.Prelude.{◌≡◌, IfOk, string_bytes};
 ghost use Rattle.counted_io.specs.Streams.{IsSameSink};
 ghost use Rattle.java_properties.specs.DisplayTexts.{description};
-ghost use Rattle.properties_tools.specs.Propedit.Failures.{absent_words, failure_status, flaw_words, is_broken, is_closed_pipe, number_of, place_of, IsInputReason, IsIoFailure, IsMessageLine, IsReasonOf, LacksMemory, PrintsFailure};
+ghost use Rattle.properties_tools.specs.Propedit.Failures.{absent_words, failure_status, flaw_words, is_broken, is_closed_pipe, number_of, place_of, taken_words, IsInputReason, IsIoFailure, IsMessageLine, IsReasonOf, LacksMemory, PrintsFailure};
 
 use crate::messages::{Escaped, print_line};
 use counted_io::CountedWrite;
@@ -41,7 +41,7 @@ const NO_VALUE: &str = "the last key has no value; with -z, keys and values come
 
 const TEXT_NOT_UTF_8: &str = "not UTF-8; the texts that merge -z reads are in UTF-8";
 
-const UTF_16: &str = "UTF-16 can be read but not edited; propedit convert utf-8 converts it";
+const UTF_16: &str = "this command does not support UTF-16; propedit convert utf-8 converts it";
 
 /// Why a command fails.
 #[derive(Debug, Drop)]
@@ -56,8 +56,10 @@ pub enum Failure {
     NotUtf16(usize),
     /// A pair of the source has this malformed escape.
     Malformed(MalformedEscape),
-    /// No pair of the source has this key, which was to be set or removed only if one has it.
+    /// No pair of the source has this key, which was to be renamed, or to be set or removed only if one has it.
     Absent(String),
+    /// The pair that begins in the line of this number has this key, which another one was to get.
+    KeyTaken(usize, String),
     /// Its bytes aren't texts with zero bytes after them, keys and values by turns.
     Texts(TextFlaw),
     /// The source can't be read or edited, or memory ran out.
@@ -135,19 +137,20 @@ impl Failure {
             Failure::HoldsZero(number)
             | Failure::NotUtf8(number)
             | Failure::NotUtf8ByMark(number)
-            | Failure::NotUtf16(number) => Some(*number),
+            | Failure::NotUtf16(number)
+            | Failure::KeyTaken(number, _) => Some(*number),
             Failure::Malformed(escape) => Some(escape.line_number),
             Failure::Absent(_) | Failure::Texts(_) => None,
             Failure::Input(error) | Failure::Output(error) => error.at("").line_number(),
         }
     }
 
-    /// Returns the exit status: 1 if no pair has a key, and otherwise that of failures.
+    /// Returns the exit status: 1 if no pair has a key, or one has a new key, and otherwise that of failures.
     pub(crate) fn status(&self) -> u8
         ensures { result ≡ failure_status self.now }
     {
         match self {
-            Failure::Absent(_) => 1,
+            Failure::Absent(_) | Failure::KeyTaken(_, _) => 1,
             _ => FAILED,
         }
     }
@@ -172,6 +175,7 @@ impl Failure {
             Failure::NotUtf16(_) => String::from_str(alloc, NOT_UTF_16),
             Failure::Malformed(escape) => reason_of_escape(alloc, escape),
             Failure::Absent(key) => reason_of_absence(alloc, key.as_str()),
+            Failure::KeyTaken(_, key) => reason_of_taken(alloc, key.as_str()),
             Failure::Texts(flaw) => String::from_str(alloc, reason_of_flaw(*flaw)),
             Failure::Input(error) | Failure::Output(error) => reason_of_error(alloc, error),
         }
@@ -235,6 +239,13 @@ fn reason_of_absence(alloc: Global, key: &str) -> Result<String, AllocError>
 {
     let key = Escaped(key);
     format!(in alloc; "no pair has the key '{key}'")
+}
+
+fn reason_of_taken(alloc: Global, key: &str) -> Result<String, AllocError>
+    ensures { IfOk result (λ text. string_bytes text ≡ taken_words key.now) }
+{
+    let key = Escaped(key);
+    format!(in alloc; "the key '{key}' is there already")
 }
 
 fn reason_of_flaw(flaw: TextFlaw) -> &'static str

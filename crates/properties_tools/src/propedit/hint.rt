@@ -16,13 +16,14 @@ use crate::propedit::request::{Command, Job, Source};
 use counted_io::CountedWrite;
 use java_properties::Encoding;
 use std::alloc::{AllocError, Global};
+use std::slice;
 
 const IS_A_FILE: &str = "a file is named by -f";
 
 const READING: &str = "propedit: reading standard input; '-f FILE' reads a file\n";
 
 /// Returns the KEYs of a job that may be files by mistake, if no file is named: those of `get`, but with a default not
-/// the first one.
+/// the first one, and that of `comment`.
 ///
 /// ```text
 /// // For the arguments `get port app.properties` it returns both.
@@ -31,12 +32,10 @@ const READING: &str = "propedit: reading standard input; '-f FILE' reads a file\
 pub fn possible_files(job: &Job) -> &[String]
     ensures { result.now ≡ possible_files job.now.source job.now.command }
 {
-    let Command::Get(keys, default, _) = &job.command else {
-        return &[];
-    };
-    match (&job.source, default) {
-        (Source::StandardInput, None) => keys.as_slice(),
-        (Source::StandardInput, Some(_)) => without_first(keys.as_slice()),
+    match (&job.source, &job.command) {
+        (Source::StandardInput, Command::Get(keys, None, _)) => keys.as_slice(),
+        (Source::StandardInput, Command::Get(keys, Some(_), _)) => without_first(keys.as_slice()),
+        (Source::StandardInput, Command::Comment(key)) => slice::from_ref(key),
         _ => &[],
     }
 }
@@ -95,14 +94,16 @@ pub(crate) fn hint(
         return Ok(None);
     }
     match &job.command {
-        Command::Get(_, _, _) => file_hint(alloc, source, job.encoding, files),
+        Command::Get(_, _, _) | Command::Comment(_) => file_hint(
+            alloc,
+            source,
+            job.encoding,
+            files,
+        ),
         Command::List(prefix, _) | Command::ListValues(prefix, _) | Command::ListJson(prefix) => {
             Ok(prefix_hint(alloc, &job.source, prefix.as_str())?)
         }
-        Command::Comment(_)
-        | Command::Check(_)
-        | Command::CheckAgainst(_, _)
-        | Command::Change(_) => Ok(None),
+        Command::Check(_) | Command::CheckAgainst(_, _) | Command::Change(_) => Ok(None),
     }
 }
 

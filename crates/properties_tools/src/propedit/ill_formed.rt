@@ -6,7 +6,7 @@ ghost use Rattle.properties_text.specs.Encoding.{encoding_of};
 ghost use Rattle.properties_lines.specs.Scanner.{bytes_of};
 ghost use Rattle.properties_tools.specs.Propedit.Lines as spec;
 ghost use Rattle.properties_tools.specs.Propedit.Lines.{FindsFlawed, IsFirstFlawed, IsFirstUtf8, starts_with_bom};
-ghost use Rattle.properties_tools.specs.Private.Flawed.{are_ascii, are_paired, is_ascii, is_flawed, is_well_formed, unit_in, FindsNext, HasLinesOf, IsFound, IsScanning};
+ghost use Rattle.properties_tools.specs.Private.Flawed.{are_ascii, are_paired, holds_mark_unit, is_ascii, is_flawed, is_well_formed, unit_in, FindsNext, HasLinesOf, IsFound, IsScanning};
 ghost use Rattle.properties_tools.specs.declared.propedit.ill_formed.Flaw.TheVariants.{Byte, IllFormed, MarkInside, NonAscii, Zero};
 
 use java_properties::{Encoding, PropertiesError};
@@ -28,8 +28,7 @@ pub enum Flaw {
     NonAscii,
     /// One of them is this byte. It is sought only if windows-1252 is in force.
     Byte(u8),
-    /// They hold U+FEFF, which is a byte order mark only at the front of a source. It is sought only if UTF-8 is in
-    /// force.
+    /// They hold U+FEFF, which is a byte order mark only at the front of a source.
     MarkInside,
 }
 
@@ -157,13 +156,11 @@ fn body_with_marks(source: &[u8], encoding: Encoding) -> (Encoding, &[u8])
 {
     let (in_force, start) = encoding_in_force(source, encoding);
     let body = &source[start..];
-    let Encoding::UTF_8 = in_force else {
-        return (in_force, &[]);
-    };
-    if !holds_mark(body) {
-        return (in_force, &[]);
+    match in_force {
+        Encoding::WINDOWS_1252 => (in_force, &[]),
+        Encoding::UTF_8 if !holds_mark(body) => (in_force, &[]),
+        _ => (in_force, body),
     }
-    (in_force, body)
 }
 
 fn whole_body(source: &[u8], encoding: Encoding) -> (Encoding, &[u8])
@@ -201,7 +198,7 @@ fn has_flaw(encoding: Encoding, body: &[u8], line: &RawLine, flaw: Flaw) -> bool
         Flaw::IllFormed => !is_well_formed(encoding, body, line),
         Flaw::Zero => holds_zero(&body[line.start..line.end]),
         Flaw::Byte(byte) => holds(&body[line.start..line.end], byte),
-        Flaw::MarkInside => holds_mark(&body[line.start..line.end]),
+        Flaw::MarkInside => holds_mark_in(encoding, &body[line.start..line.end]),
         Flaw::NonAscii => {
             !is_ascii(encoding, body, line) && is_well_formed(encoding, body, line)
         }
@@ -238,11 +235,37 @@ fn holds_zero(bytes: &[u8]) -> bool
     holds(bytes, 0)
 }
 
+// Returns whether this byte is among some.
 #[tactic(auto, using(crate::proofs::Flawed::tells_byte))]
-fn holds(bytes: &[u8], byte: u8) -> bool
+pub(crate) fn holds(bytes: &[u8], byte: u8) -> bool
     ensures { result ≡ spec.holds_byte byte bytes.now }
 {
     memchr(byte, bytes).is_some()
+}
+
+// Returns whether U+FEFF is in some bytes.
+fn holds_mark_in(encoding: Encoding, bytes: &[u8]) -> bool
+    ensures { result ≡ spec.holds_mark_in (encoding_of encoding) bytes.now }
+{
+    match encoding {
+        Encoding::WINDOWS_1252 => false,
+        Encoding::UTF_8 => holds_mark(bytes),
+        _ => holds_mark_unit(encoding, bytes),
+    }
+}
+
+// Returns whether one of the units is U+FEFF.
+fn holds_mark_unit(encoding: Encoding, bytes: &[u8]) -> bool
+    ensures { result ≡ holds_mark_unit (unit_in (encoding_of encoding)) bytes.now }
+{
+    let mut rest = bytes;
+    while let [first, second, others @ ..] = rest {
+        if unit(encoding, *first, *second) == 0xfeff {
+            return true;
+        }
+        rest = others;
+    }
+    false
 }
 
 // Returns whether U+FEFF is in some bytes in UTF-8.

@@ -5,7 +5,7 @@ ghost use Rattle.std.specs.Option.{is_some};
 ghost use Rattle.counted_io.specs.Streams.{IsSameSink};
 ghost use Rattle.std.specs.Path.{path_bytes};
 ghost use Rattle.properties_text.specs.Encoding.{encoding_of};
-ghost use Rattle.properties_tools.specs.Propedit.InPlace.{problem_display, replace_display, IsChangeLine, IsProblemLine, PrintsAbsent, PrintsChange, PrintsEditError, PrintsProblem};
+ghost use Rattle.properties_tools.specs.Propedit.InPlace.{problem_display, replace_display, IsChangeLine, IsProblemLine, PrintsChange, PrintsEditError, PrintsProblem, PrintsRefusal};
 ghost use Rattle.properties_tools.specs.Private.InPlace.{folder_of, unsynced, EditsBytes, IsEditError, IsPresenceAfter, IsRenameProblem, SaysOfSome};
 
 use crate::messages::{Escaped, print_line};
@@ -29,7 +29,7 @@ use std::path::Path;
 const BLOCK: usize = 1 << 16;
 
 /// Changes a file in place, and returns the exit status: 0, or 2 after an error, which is printed on `errors` as a
-/// line. It is 1 if that error is a key to set or remove which no pair of the file has.
+/// line. It is 1 if that error is a key to edit which no pair of the file has, or a new key which one has.
 ///
 /// The file is replaced whole, or stays as it is. Nothing is written if no byte changes. A missing file that
 /// may be created counts as empty. If the change is verbose and the status is 0, a line on `errors` says how many pairs
@@ -49,8 +49,8 @@ pub fn edit_file<E: CountedWrite>(
     ensures quiet { result ≡ 0 → file.now.verbose ≡ false → errors.new ≡ errors.old }
     ensures says { result ≡ 0 → file.now.verbose ≡ true →
         PrintsChange E.CountedWrite errors.old (string_bytes file.now.path) (encoding_of file.now.encoding) file.now.change errors.new }
-    ensures absent { result ≡ 1 →
-        PrintsAbsent E.CountedWrite errors.old (string_bytes file.now.path) (encoding_of file.now.encoding) file.now.change errors.new }
+    ensures refused { result ≡ 1 →
+        PrintsRefusal E.CountedWrite errors.old (string_bytes file.now.path) (encoding_of file.now.encoding) file.now.change errors.new }
     ensures prints { result ≡ 2 → PrintsEditError E.CountedWrite errors.old (string_bytes file.now.path) errors.new }
     ensures same_sink { IsSameSink E.CountedWrite errors.old errors.new }
 {

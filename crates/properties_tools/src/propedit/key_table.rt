@@ -6,7 +6,7 @@ ghost use Rattle.std.specs.Str.{chars};
 ghost use Rattle.std.specs.String.{string_cmp};
 ghost use Rattle.java_properties.specs.Findings.{KeyPlace};
 ghost use Rattle.properties_text.specs.Encoding.{encoding_of};
-ghost use Rattle.properties_tools.specs.Private.Table.{hash_after, place_keys, places_of, slot_for, FindsKey, IsKeyTable, KeepsRow, PutsKey, ReadsKeys, TookKeys};
+ghost use Rattle.properties_tools.specs.Private.Table.{hash_after, place_keys, places_in, places_of, slot_for, FindsKey, HoldKeys, IsKeyTable, KeepsRow, PutsKey, ReadsKeys, TookKeys};
 
 use crate::propedit::error::Failure;
 use crate::propedit::fold::Taker;
@@ -19,6 +19,9 @@ use std::collections::BTreeMap;
 // The factor of the hash.
 const FACTOR: u64 = 6_364_136_223_846_793_005;
 
+// A slot holds a row below this one.
+const ROWS_IN_SLOTS: usize = 4_294_967_295;
+
 /// Where a key is in the text, and the number of the line in which its first pair begins.
 #[derive(Clone, Copy)]
 pub(crate) struct KeyRow {
@@ -26,17 +29,23 @@ pub(crate) struct KeyRow {
     pub first_line: usize,
 }
 
-/// The keys that came, each once, in the order of their first pairs, with the lines of these.
+/// Keys, each once, in the order of their first pairs, with the lines of these.
+#[derive(Drop)]
+pub(crate) struct Keys {
+    /// The keys.
+    pub text: Vec<u8>,
+    pub rows: Vec<KeyRow>,
+}
+
+/// The keys that came, and what finds them.
 ///
 /// Each key has one of the slots, by its hash. A slot has the row of one key. The others with this slot are in a sorted
 /// map, so that no choice of keys makes it slow.
 #[derive(Drop)]
 pub(crate) struct KeyTable {
-    /// The keys.
-    pub text: Vec<u8>,
-    pub rows: Vec<KeyRow>,
+    pub keys: Keys,
     /// One more than a row, or 0.
-    pub slots: Vec<usize>,
+    pub slots: Vec<u32>,
     pub others: BTreeMap<String, usize>,
 }
 
@@ -45,11 +54,40 @@ pub(crate) fn keys_of_source(
     alloc: Global,
     source: &[u8],
     encoding: Encoding,
-) -> Result<KeyTable, Failure>
+) -> Result<Keys, Failure>
     ensures { ReadsKeys (encoding_of encoding) source.now result }
 {
     let none = KeyTable::for_source(alloc, source.len())?;
-    take_sound(alloc, source, encoding, none)
+    let table = take_sound(alloc, source, encoding, none)?;
+    Ok(table.into_keys())
+}
+
+impl Keys {
+    /// Returns the number of keys.
+    pub fn len(&self) -> usize
+        ensures { result ≡ length (places_in self.now) }
+    {
+        self.rows.len()
+    }
+
+    /// Returns the key of a row.
+    #[inline(always)]
+    pub fn key(&self, row: usize) -> &str
+        requires table { HoldKeys self.now }
+        requires within { row < length (places_in self.now) }
+        ensures { (d : KeyPlace) → chars result.now ≡ (get_or (places_in self.now) row d).key }
+    {
+        text_at(&self.text, self.rows[row].place)
+    }
+
+    /// Returns the line in which the first pair with the key of a row begins.
+    #[inline(always)]
+    pub fn first_line(&self, row: usize) -> usize
+        requires { row < length (places_in self.now) }
+        ensures { (d : KeyPlace) → result ≡ (get_or (places_in self.now) row d).number }
+    {
+        self.rows[row].first_line
+    }
 }
 
 impl KeyTable {
@@ -59,9 +97,12 @@ impl KeyTable {
         ensures empty { IfOk result (λ table. places_of table ≡ []) }
     {
         let slots = length / 8 + 1;
-        Ok(KeyTable {
+        let keys = Keys {
             text: Vec::new(alloc),
             rows: Vec::new(alloc),
+        };
+        Ok(KeyTable {
+            keys,
             slots: vec![in alloc; 0; slots]?,
             others: BTreeMap::new(alloc),
         })
@@ -71,7 +112,7 @@ impl KeyTable {
     pub fn len(&self) -> usize
         ensures { result ≡ length (places_of self.now) }
     {
-        self.rows.len()
+        self.keys.len()
     }
 
     /// Returns the key of a row.
@@ -81,7 +122,7 @@ impl KeyTable {
         requires within { row < length (places_of self.now) }
         ensures { (d : KeyPlace) → chars result.now ≡ (get_or (places_of self.now) row d).key }
     {
-        text_at(&self.text, self.rows[row].place)
+        self.keys.key(row)
     }
 
     /// Returns the line in which the first pair with the key of a row begins.
@@ -90,7 +131,7 @@ impl KeyTable {
         requires { row < length (places_of self.now) }
         ensures { (d : KeyPlace) → result ≡ (get_or (places_of self.now) row d).number }
     {
-        self.rows[row].first_line
+        self.keys.first_line(row)
     }
 
     /// Returns the row of a key, if a pair has it.
@@ -99,6 +140,18 @@ impl KeyTable {
         ensures { FindsKey (chars key.now) (place_keys (places_of self.now)) result }
     {
         self.row_in(slot_of(key, self.slots.len()), key)
+    }
+
+    /// Returns its keys. What finds them is freed.
+    pub fn into_keys(self) -> Keys
+        ensures { result ≡ self.keys }
+    {
+        let KeyTable {
+            keys,
+            slots: _slots,
+            others: _others,
+        } = self;
+        keys
     }
 
     /// Adds the key of a pair that begins in this line, if none before it has the key. Returns its row.
@@ -112,9 +165,9 @@ impl KeyTable {
         if let Some(row) = self.row_in(slot, key) {
             return Ok(row);
         }
-        let row = self.rows.len();
-        let place = append(&mut self.text, key)?;
-        self.rows.push(KeyRow {
+        let row = self.keys.rows.len();
+        let place = append(&mut self.keys.text, key)?;
+        self.keys.rows.push(KeyRow {
             place,
             first_line: line_number,
         })?;
@@ -129,7 +182,7 @@ impl KeyTable {
         requires slot { slot ≡ slot_for (length self.now.slots.items) key.now }
         ensures { FindsKey (chars key.now) (place_keys (places_of self.now)) result }
     {
-        let held = self.slots[slot];
+        let held = self.slots[slot] as usize;
         if held == 0 {
             return None;
         }
@@ -143,18 +196,22 @@ impl KeyTable {
         }
     }
 
-    // Keeps the row of a key, which has this slot: in the slot if nothing is there, and otherwise among the others.
+    // Keeps the row of a key, which has this slot: in the slot if nothing is there, and otherwise among the others. So
+    // is a row that doesn't fit a slot, which then has the first row.
     #[inline(always)]
     fn keep(&mut self, alloc: Global, slot: usize, key: &str, row: usize) -> Result<(), AllocError>
         requires some { slot < length self.old.slots.items }
         requires slot { slot ≡ slot_for (length self.old.slots.items) key.now }
-        requires row { row < length self.old.rows.items }
+        requires row { row < length self.old.keys.rows.items }
         requires ordered { IsOrdered string_cmp self.old.others }
         ensures { OnOk result (KeepsRow key.now row self.old self.new) }
     {
         if self.slots[slot] == 0 {
-            self.slots[slot] = row + 1;
-            return Ok(());
+            if row < ROWS_IN_SLOTS {
+                self.slots[slot] = row as u32 + 1;
+                return Ok(());
+            }
+            self.slots[slot] = 1;
         }
         self.others.insert(String::from_str(alloc, key)?, row)?;
         Ok(())

@@ -5,11 +5,11 @@ ghost use Rattle.std.specs.Str.{chars};
 ghost use Rattle.properties_text.specs.Encoding.{encoding_of};
 ghost use Rattle.properties_tools.specs.Propedit.Listing.{is_key_listed, listed_keys, Lists, PrintsAll};
 ghost use Rattle.properties_tools.specs.Propedit.Texts.{ended};
-ghost use Rattle.properties_tools.specs.Private.Table.{place_keys, places_of, IsKeyTable};
+ghost use Rattle.properties_tools.specs.Private.Table.{place_keys, places_in, HoldKeys};
 
 use crate::propedit::answer::{Answer, push_ended};
 use crate::propedit::error::Failure;
-use crate::propedit::key_table::{KeyTable, keys_of_source};
+use crate::propedit::key_table::{Keys, keys_of_source};
 use crate::propedit::request::Terminator;
 use java_properties::Encoding;
 use std::alloc::{AllocError, Global};
@@ -38,14 +38,9 @@ pub fn list(
 }
 
 // Returns the keys that are listed, and the status.
-fn listed(
-    alloc: Global,
-    keys: &KeyTable,
-    prefix: &str,
-    end: Terminator,
-) -> Result<Answer, AllocError>
-    requires { IsKeyTable keys.now }
-    ensures { IfOk result (PrintsAll (ended end) (listed_keys (chars prefix.now) (place_keys (places_of keys.now)))) }
+fn listed(alloc: Global, keys: &Keys, prefix: &str, end: Terminator) -> Result<Answer, AllocError>
+    requires { HoldKeys keys.now }
+    ensures { IfOk result (PrintsAll (ended end) (listed_keys (chars prefix.now) (place_keys (places_in keys.now)))) }
 {
     let mut text = Vec::new(alloc);
     for row in 0..keys.len() {

@@ -1,20 +1,102 @@
-// The edits by which the pairs of a file are set.
+// A merge: the edits by which the pairs of a file are set, and the change that they are.
 
 ghost use Rattle.std.specs.Prelude.{◌≡◌, ◌∷◌, ◌++◌, [], map, IfOk, OnOk};
 ghost use Rattle.std.specs.Str.{chars};
 ghost use Rattle.properties_format.specs.Edits.{set_value};
+ghost use Rattle.counted_io.specs.Streams.{IsSameReader, IsSameSink};
 ghost use Rattle.java_properties.specs.Editing.{edits_in};
 ghost use Rattle.properties_text.specs.Encoding.{encoding_of};
 ghost use Rattle.properties_tools.specs.Private.Merging.{TakesText};
 ghost use Rattle.properties_tools.specs.Private.Table.{rows_of, IsTable};
-ghost use Rattle.properties_tools.specs.Propedit.Merge.{set_of, SetsAll, SetsRows, SetsTexts};
+ghost use Rattle.properties_tools.specs.Propedit.Merge.{merged, set_of, ReadsMerge, ReadsPairs, SetsAll, SetsRows, SetsTexts};
 
+use crate::propedit::answers::name;
 use crate::propedit::error::{Failure, TextFlaw};
-use crate::propedit::request::Form;
+use crate::propedit::exit_status;
+use crate::propedit::request::{Change, Command, Destination, FileChange, Form, Job, Merge};
 use crate::propedit::table::{Table, table_of};
-use java_properties::{Edit, Encoding};
+use counted_io::{CountedRead, CountedWrite};
+use java_properties::{Edit, Encoding, read_source};
 use std::alloc::{AllocError, Global};
 use std::str;
+
+/// What a merge comes to once its pairs are known: a change of a source or of a file.
+#[derive(Drop)]
+pub enum Merged {
+    /// The source is printed after the change.
+    Printed(Job),
+    /// The file is changed in place.
+    InPlace(FileChange),
+}
+
+/// Reads the pairs of a merge to their end, and returns the change that sets them. If they can't be read or are
+/// refused, a line on `errors` says why, and the error is the exit status.
+///
+/// ```text
+/// let mut pairs: &[u8] = b"port = 8080\n";
+/// match read_merge(alloc, asked, &mut pairs, &mut errors) {
+///     Ok(Merged::Printed(job)) => run(alloc, &job, &[], &mut input, &mut output, &mut errors),
+///     Ok(Merged::InPlace(file)) => edit_file(&rt, alloc, &file, &mut errors),
+///     Err(status) => status,
+/// }
+/// ```
+pub fn read_merge<R: CountedRead, E: CountedWrite>(
+    alloc: Global,
+    asked: Merge,
+    pairs: &mut R,
+    errors: &mut E,
+) -> Result<Merged, u8>
+    ensures reads { ReadsMerge R.CountedRead E.CountedWrite asked
+        pairs.old errors.old result pairs.new errors.new }
+    ensures same_reader { IsSameReader R.CountedRead pairs.old pairs.new }
+    ensures same_error_sink { IsSameSink E.CountedWrite errors.old errors.new }
+{
+    match read_pairs(alloc, &asked, pairs) {
+        Ok(list) => Ok(with_edits(asked, list)),
+        Err(failure) => Err(exit_status(alloc, errors, name(&asked.pairs), Err(failure))),
+    }
+}
+
+// Reads the pairs of a merge to their end, and returns the edits that set them.
+fn read_pairs<R: CountedRead>(
+    alloc: Global,
+    asked: &Merge,
+    pairs: &mut R,
+) -> Result<Vec<Edit>, Failure>
+    ensures reads { ReadsPairs R.CountedRead asked.now pairs.old result pairs.new }
+    ensures same_reader { IsSameReader R.CountedRead pairs.old pairs.new }
+{
+    let file = read_source(alloc, pairs, asked.encoding)?;
+    edits_of(alloc, &file, asked.encoding, asked.form)
+}
+
+// Returns the change that makes these edits as a merge asks for.
+fn with_edits(asked: Merge, list: Vec<Edit>) -> Merged
+    ensures { result ≡ merged asked list }
+{
+    let Merge {
+        encoding,
+        mut edits,
+        destination,
+        ..
+    } = asked;
+    edits.list = list;
+    let change = Change::Edits(edits);
+    match destination {
+        Destination::Printed(source) => Merged::Printed(Job {
+            encoding,
+            source,
+            command: Command::Change(change),
+        }),
+        Destination::InPlace(path, missing, verbose) => Merged::InPlace(FileChange {
+            path,
+            encoding,
+            change,
+            missing,
+            verbose,
+        }),
+    }
+}
 
 /// Returns the edits that set each pair of a file, in its order.
 ///

@@ -2,11 +2,12 @@
 
 ghost use Rattle.std.specs.Prelude.{◌≡◌, ◌++◌, OnOk};
 ghost use Rattle.properties_text.specs.Encoding.{encoding_of};
-ghost use Rattle.properties_tools.specs.Propedit.Misread.{mark_of, misread_mark, misread_words, starts_with_utf_32_mark};
+ghost use Rattle.properties_tools.specs.Propedit.Misread.{misread_at, misread_mark, misread_name, misread_words, starts_with_utf_32_mark};
 ghost use Rattle.properties_tools.specs.Private.Checking.{misread_finding, FindsMisread};
 
 use crate::propedit::check::{Finding, FindingKind, push_all};
 use crate::propedit::ill_formed::{Flaw, flawed_lines, has_byte_order_mark};
+use crate::propedit::open_lines::push_ends;
 use java_properties::{Encoding, PropertiesError};
 use std::alloc::{AllocError, Global};
 
@@ -19,6 +20,10 @@ pub(crate) enum Misread {
     Utf32Mark,
     // A line holds U+FEFF.
     MarkInside,
+    // A line ends in a backslash and blanks. Without the blanks the next line would continue it.
+    BlankAfterBackslash,
+    // A line is continued, and nothing comes after it, or an empty last line.
+    OpenAtEnd,
 }
 
 // Returns what Java reads otherwise than people think, kind by kind.
@@ -30,25 +35,30 @@ pub(crate) fn find_misread(
     ensures { FindsMisread (encoding_of encoding) source.now result }
 {
     let mut findings = Vec::new(alloc);
-    let mark = misread_mark(source);
-    push_mark(&mut findings, mark)?;
+    push_misread(&mut findings, 1, misread_mark(source))?;
     let numbers = flawed_lines(alloc, source, encoding, Flaw::MarkInside)?;
     push_all(
         &mut findings,
         &numbers,
         FindingKind::Misread(Misread::MarkInside),
     )?;
+    push_ends(&mut findings, source, encoding)?;
     Ok(findings)
 }
 
-fn push_mark(findings: &mut Vec<Finding>, mark: Option<Misread>) -> Result<(), AllocError>
-    ensures { OnOk result (findings.new.items ≡ findings.old.items ++ mark_of misread_finding mark) }
+// Adds what Java reads otherwise in the line with this number, if there is something.
+pub(crate) fn push_misread(
+    findings: &mut Vec<Finding>,
+    line_number: usize,
+    misread: Option<Misread>,
+) -> Result<(), AllocError>
+    ensures { OnOk result (findings.new.items ≡ findings.old.items ++ misread_at misread_finding line_number misread) }
 {
-    let Some(misread) = mark else {
+    let Some(misread) = misread else {
         return Ok(());
     };
     Ok(findings.push(Finding {
-        line_number: 1,
+        line_number,
         kind: FindingKind::Misread(misread),
     })?)
 }
@@ -83,6 +93,23 @@ impl Misread {
                 "begins with the byte order mark of UTF-32, which is not read as UTF-32"
             }
             Misread::MarkInside => "has U+FEFF, a byte order mark that is not at the front",
+            Misread::BlankAfterBackslash => {
+                "ends in a backslash and a blank, so the next line does not continue it"
+            }
+            Misread::OpenAtEnd => "ends in a backslash that continues nothing",
+        }
+    }
+
+    // Returns its name in JSON.
+    pub(crate) fn name(self) -> &'static str
+        ensures { result.now ≡ misread_name self }
+    {
+        match self {
+            Misread::Mark => "byte-order-mark",
+            Misread::Utf32Mark => "utf-32-mark",
+            Misread::MarkInside => "u-feff",
+            Misread::BlankAfterBackslash => "blank-after-backslash",
+            Misread::OpenAtEnd => "backslash-at-end",
         }
     }
 }

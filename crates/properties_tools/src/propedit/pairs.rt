@@ -11,6 +11,7 @@ use crate::propedit::error::Failure;
 use crate::propedit::list::is_listed;
 use crate::propedit::request::Terminator;
 use crate::propedit::table::{Table, table_of};
+use crate::propedit::texts::text_at;
 use java_properties::Encoding;
 use std::alloc::{AllocError, Global};
 
@@ -34,21 +35,29 @@ pub fn list_values(
     ensures { ListsValues (encoding_of encoding) source.now (chars prefix.now) end result }
 {
     let table = table_of(alloc, source, encoding)?;
-    Ok(listed(alloc, &table, prefix, end)?)
+    Ok(listed(alloc, table, prefix, end)?)
 }
 
 // Returns the pairs that are listed, and the status.
-fn listed(alloc: Global, table: &Table, prefix: &str, end: Terminator) -> Result<Answer, AllocError>
-    requires { IsTable table.now }
-    ensures { IfOk result (PrintsAll (ended_pair end) (listed_pairs (chars prefix.now) (map row_pair (rows_of table.now)))) }
+fn listed(alloc: Global, table: Table, prefix: &str, end: Terminator) -> Result<Answer, AllocError>
+    requires { IsTable table }
+    ensures { IfOk result (PrintsAll (ended_pair end) (listed_pairs (chars prefix.now) (map row_pair (rows_of table)))) }
 {
     let separator = separator_of(end);
+    let rows = table.len();
+    let Table {
+        keys,
+        lasts,
+        values,
+    } = table;
+    // What finds keys is freed before the text takes memory.
+    let keys = keys.into_keys();
     let mut text = Vec::new(alloc);
-    for row in 0..table.len() {
-        let key = table.key(row);
+    for row in 0..rows {
+        let key = keys.key(row);
         if is_listed(key, prefix) {
             push_followed(&mut text, key, separator)?;
-            push_ended(&mut text, table.value(row), end)?;
+            push_ended(&mut text, text_at(&values, lasts[row].value), end)?;
         }
     }
     let status = if text.is_empty() { 1 } else { 0 };

@@ -35,8 +35,17 @@ pub struct CheckedFiles {
     pub check: Check,
     /// The file whose keys theirs are compared with.
     pub base: Option<Source>,
-    /// Their names. There is one at least.
+    /// Their names, without that of the base. There is one at least, or a base.
     pub paths: Vec<String>,
+}
+
+/// A base, which is checked before the files whose keys are compared with its own.
+#[derive(Drop)]
+pub struct CheckedBase {
+    pub source: Source,
+    /// Its encoding. A byte order mark overrides it.
+    pub encoding: Encoding,
+    pub check: Check,
 }
 
 /// Two sources that are compared. At most one of them is standard input.
@@ -49,7 +58,7 @@ pub struct Comparison {
     pub report: Report,
 }
 
-/// How what differs is printed.
+/// How what differs, or what is wrong, is printed.
 #[derive(Clone, Copy, Debug, PartialEq, Eq)]
 pub enum Report {
     /// As lines that begin with the name of a source.
@@ -109,8 +118,37 @@ pub enum Destination {
 pub enum Change {
     /// Make these edits.
     Edits(Edits),
+    /// Make these steps in turn.
+    Steps(Steps),
     /// Convert it.
     Conversion(Conversion),
+}
+
+/// Steps of a change. Each is made to what the one before it left.
+#[derive(Drop)]
+pub struct Steps {
+    pub first: Step,
+    pub others: Vec<Step>,
+}
+
+/// A step of a change.
+#[derive(Drop)]
+pub enum Step {
+    /// Make these edits.
+    Edits(Edits),
+    /// Rename a key.
+    Renaming(Renaming),
+}
+
+/// A key that is renamed where it stands, and how it is written then.
+#[derive(Drop)]
+pub struct Renaming {
+    pub old: String,
+    pub new: String,
+    /// Whether the new key is ASCII-only.
+    pub ascii_only: bool,
+    /// Whether it has only characters whose bytes ISO 8859-1 reads alike.
+    pub latin_1: bool,
 }
 
 /// Edits, and how they are written.
@@ -195,6 +233,7 @@ pub struct Check {
     pub pairs_only: bool,
     /// Whether nothing is printed: the status alone tells whether anything is wrong.
     pub quiet: bool,
+    pub report: Report,
 }
 
 /// The characters that a check allows.

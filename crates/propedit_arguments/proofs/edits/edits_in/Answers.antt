@@ -1,9 +1,8 @@
-use Rattle.std.proofs.Common.{◌∷◌, [], map, refl, sym, ◌∙◌}
+use Rattle.std.proofs.Common.{◌∷◌, ◌++◌, [], map, refl, ap, append-nil, sym, ◌∙◌}
 use Rattle.std.specs.Prelude.{string_bytes}
 use Rattle.std.proofs.lemmas.Result.{err_from_is_err_and}
-use Rattle.java_properties.specs.Editing.{edits_in}
-use Rattle.propedit_arguments.specs.Private.Edits.{borrowed_edit}
-use Rattle.propedit_arguments.proofs.Words.{made-none, made-more, refused, some-words}
+use Rattle.propedit_arguments.specs.Private.Edits.{asked_edits, borrowed_edit, words_of}
+use Rattle.propedit_arguments.proofs.Words.{made-none, made-more, no-words, refused, shorter, some-words}
 use Rattle.propedit_arguments.proofs.edits.edits_in.Goals as goal
 
 pub returns-in_err-first : goal.returns-in_err-first
@@ -11,7 +10,7 @@ returns-in_err-first c =
     let words = c.args.command.now ∷ map string_bytes c.args.words.now in
     let error = err_from_is_err_and c.from_residual.result c.from_residual.ensures.1 in
     rw (error.1, error.2)
-    (λ _. refused words (edits_in []) words c.in_err-first.field-0.0 (made-none words [] refl) (λ e. cc) c.in_err-first.ensures)
+    (λ _. refused words (asked_edits []) words c.in_err-first.field-0.0 (made-none words [] refl) (λ e. cc) c.in_err-first.ensures)
 
 pub loop-rest-init : goal.loop-rest-init
 loop-rest-init c =
@@ -28,7 +27,7 @@ returns-in_err-edit c =
     let error = err_from_is_err_and c.from_residual-in_err-edit.result c.from_residual-in_err-edit.ensures.1 in
     let mistake = c.in_err-edit.field-0.0 in
     rw (error.1, error.2)
-    (λ _. refused words (edits_in c.loop-rest.edits.items) (map string_bytes rest) mistake c.loop-rest.invariant some c.in_err-edit.ensures)
+    (λ _. refused words (asked_edits c.loop-rest.edits.items) (map string_bytes rest) mistake c.loop-rest.invariant some c.in_err-edit.ensures)
 
 pub loop-rest-preserved : goal.loop-rest-preserved
 loop-rest-preserved c =
@@ -36,3 +35,14 @@ loop-rest-preserved c =
     let (form, may, next) = c.in_ok-edit.ensures in
     made-more words c.loop-rest.edits.items (map string_bytes c.loop-rest.rest.now) (map string_bytes c.in_ok-edit.others.now)
     form (borrowed_edit c.in_ok-edit.edit) c.in_ok-into_edit-2.field-0 c.loop-rest.invariant may next c.in_ok-into_edit-2.ensures c.in_ok-push-2.ensures.items
+
+pub loop-rest-smaller : goal.loop-rest-smaller
+loop-rest-smaller c =
+    let (form, may, next) = c.in_ok-edit.ensures in
+    shorter c.loop-rest.rest.now c.in_ok-edit.others.now form (borrowed_edit c.in_ok-edit.edit) next
+
+pub returns : goal.returns
+returns c =
+    let h = c.loop-rest.invariant in
+    let none = no-words c.loop-rest.rest.now (sym c.is_empty.ensures ∙ c.loop-rest-test.false) in
+    record { asked = h.done; is = h.is ∙ ap (λ r. words_of h.done ++ r) none ∙ append-nil (words_of h.done); made = h.made }

@@ -1,7 +1,4 @@
-use Rattle.std.proofs.Common.{subst, sym}
-use Rattle.std.specs.Prelude.{string_bytes}
 use Rattle.properties_text.specs.Encoding.{encoding_of}
-use Rattle.properties_tools.specs.Propedit.Against.{IsReportAgainst}
 use Rattle.properties_tools.specs.Private.Lacking.{known_base}
 use Rattle.properties_tools.specs.declared.propedit.check.Reported.{Reported}
 use Rattle.properties_tools.proofs.Lacking.{said-against}
@@ -10,14 +7,13 @@ use Rattle.properties_tools.proofs.propedit.against.check_against.Goals as goal
 pub returns : goal.returns
 returns c =
     let r : Reported = c.in_ok-text.field-0 in
-    let missing = rw c.as_str-base_name.ensures.value at c.in_ok-push_missing.ensures in
-    let surplus = rw c.as_str-base_name.ensures.value at c.in_ok-push_surplus.ensures in
-    let both = rw (← c.base.view_is) at c.are_well_formed-are_well_formed.ensures in
+    let missing = rw c.as_str.ensures.value at c.in_ok-push_missing.ensures in
+    let surplus = rw c.as_str.ensures.value at c.in_ok-push_surplus.ensures in
+    let both = rw (← c.base.view_is) at c.are_well_formed.ensures in
     record {
-      report = string_bytes c.push_surplus.new.text;
+      report = _;
       is_report = rw (← c.base.view_is) (said-against c.args.name.now (encoding_of c.args.encoding) c.args.asked c.args.source.now r c.in_ok-text.ensures
-          (known_base c.base.inside) c.are_well_formed-are_well_formed.result (string_bytes c.push_missing.new.text) (string_bytes c.push_surplus.new.text)
-          both missing surplus);
+          (known_base c.base.inside) c.are_well_formed.result c.push_missing.new.text c.push_surplus.new.text both missing surplus);
       text = c.reported.ensures.text;
       status = c.reported.ensures.status;
     }

@@ -1,38 +1,41 @@
 use Rattle.std.proofs.Common.{◌≡◌, ◌<◌, ◌≤◌, ◌∙◌, ap, arith, length, sym, take}
-use Rattle.std.specs.Prelude.{get_or, string_bytes}
-use Rattle.std.proofs.lemmas.List.{take_all}
+use Rattle.std.specs.Prelude.{get_or}
+use Rattle.std.proofs.lemmas.List.{get_or_default, take_all}
 use Rattle.properties_tools.specs.Private.Lacking.{is_lacking}
 use Rattle.properties_tools.specs.Private.Table.{place_keys, places_of}
-use Rattle.properties_tools.specs.Propedit.Against.{surplus_line}
+use Rattle.properties_tools.specs.Propedit.Against.{surplus_line, surplus_value}
+use Rattle.properties_tools.specs.declared.propedit.against.Sides.{Sides}
+use Rattle.properties_tools.proofs.Json.{adds-both}
 use Rattle.properties_tools.proofs.KeyTables.{none}
-use Rattle.properties_tools.proofs.Lacking.{place-passed, place-printed}
+use Rattle.properties_tools.proofs.Printed.{kept, left_out}
 use Rattle.properties_tools.proofs.propedit.against.push_surplus.Goals as goal
 use Rattle.properties_tools.proofs.propedit.against.push_surplus.Goals.{then-is_lacking+in_ok-push_surplus_row, else-is_lacking}
 
 pub loop-row-preserved : goal.loop-row-preserved
 loop-row-preserved c =
-    let places = places_of c.args.keys.now in
-    let keys = place_keys (places_of c.args.base_keys.now) in
+    let s : Sides = c.args.sides.now in
+    let places = places_of s.keys.now in
     let row = c.loop-row.row in
-    let lacks = is_lacking c.args.are_well_formed keys in
-    let line = surplus_line c.args.name.now c.args.base_name.now in
+    let lacks = is_lacking s.are_well_formed (place_keys (places_of s.base_keys.now)) in
     let size = c.len-row-end.ensures in
     let test = c.loop-row-test.true in
     let within : row < length places = omega arith in
-    let told : lacks (get_or places row none).key ≡ c.is_lacking.result = ap lacks (sym (c.key.ensures none)) ∙ sym c.is_lacking.ensures in
-    let was = c.loop-row.invariant in
+    let place = get_or places row none in
+    let is : get_or places row place ≡ place = get_or_default places row place none within in
+    let told : lacks place.key ≡ c.is_lacking.result = ap lacks (sym (c.key.ensures none)) ∙ sym c.is_lacking.ensures in
     elim c.if-is_lacking.branch [
       | then-is_lacking+in_ok-push_surplus_row w ↦
-          ap string_bytes w.text-is ∙ w.in_ok-push_surplus_row.ensures none
-          ∙ place-printed (λ p. lacks p.key) line places row none within (string_bytes c.args.text.now) (string_bytes c.loop-row.text) was (told ∙ w.if-is_lacking.true)
+          rw (w.text-is, kept (λ p. lacks p.key) places row place within is (told ∙ w.if-is_lacking.true)) (
+          adds-both (surplus_line s.heading.name.now s.base_name.now) (surplus_value s.heading.name.now s.base_name.now) s.heading.report _ _
+          c.loop-row.invariant (w.in_ok-push_surplus_row.ensures none)
+          )
       | else-is_lacking w ↦
-          ap string_bytes w.text-is
-          ∙ place-passed (λ p. lacks p.key) line places row none within (string_bytes c.args.text.now) (string_bytes c.loop-row.text) was (told ∙ w.if-is_lacking.false)
+          rw (w.text-is, left_out (λ p. lacks p.key) places row place within is (told ∙ w.if-is_lacking.false)) c.loop-row.invariant
     ]
 
 pub returns : goal.returns
 returns c =
-    let places = places_of c.args.keys.now in
+    let places = places_of c.args.sides.now.keys.now in
     let size = c.len-row-end.ensures in
     let test = c.loop-row-test.false in
     let past : length places ≤ c.loop-row.row = omega arith in

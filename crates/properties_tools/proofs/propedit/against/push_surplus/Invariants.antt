@@ -1,12 +1,9 @@
-use Rattle.std.proofs.Common.{◌≡◌, ◌++◌, take}
-use Rattle.std.specs.Prelude.{string_bytes}
-use Rattle.std.specs.List.{flat_map}
-use Rattle.properties_tools.specs.Private.Lacking.{lacking}
+use Rattle.std.proofs.Common.{take}
+use Rattle.properties_tools.specs.Private.Lacking.{lacking, AddsSurplus}
 use Rattle.properties_tools.specs.Private.Table.{place_keys, places_of}
-use Rattle.properties_tools.specs.Propedit.Against.{surplus_line}
 use Rattle.properties_tools.proofs.propedit.against.push_surplus.Given as goal
 
 abbrev pub invariant-loop-row : goal.invariant-loop-row
 invariant-loop-row l =
-    string_bytes l.text ≡ string_bytes l.fn.text
-    ++ flat_map (surplus_line l.name l.base_name) (lacking l.are_well_formed (place_keys (places_of l.base_keys)) (take l.row (places_of l.keys)))
+    let others = place_keys (places_of l.sides.base_keys.now) in
+    AddsSurplus l.sides (lacking l.sides.are_well_formed others (take l.row (places_of l.sides.keys.now))) l.fn.text l.text

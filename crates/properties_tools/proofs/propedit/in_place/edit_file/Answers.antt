@@ -1,15 +1,15 @@
 use Rattle.std.proofs.Common.{sym, ◌∙◌, inl, inr}
-use Rattle.properties_tools.proofs.Statuses.{absent-status}
+use Rattle.properties_tools.proofs.Statuses.{refused-status}
 use Rattle.properties_tools.proofs.propedit.in_place.edit_file.Goals as goal
 
 pub returns-in-Err-NotReplaced-clause-prints : goal.returns-in-Err-NotReplaced-clause-prints
 returns-in-Err-NotReplaced-clause-prints g c =
     λ failed. rw (← c.as_str-path.ensures.value) (inr (c.in-Err-NotReplaced.error, c.print_replace_error.ensures.prints))
 
-pub returns-in-Err-NotEdited-clause-absent : goal.returns-in-Err-NotEdited-clause-absent
-returns-in-Err-NotEdited-clause-absent g c = λ one.
+pub returns-in-Err-NotEdited-clause-refused : goal.returns-in-Err-NotEdited-clause-refused
+returns-in-Err-NotEdited-clause-refused g c = λ one.
     rw (← c.as_str-path.ensures.value)
-    (absent-status _ _ _ _ _ _ c.in-Err-NotEdited.failure c.status.result
+    (refused-status _ _ _ _ _ _ c.in-Err-NotEdited.failure c.status.result
     (rw c.in-Err-NotEdited.field-0-is at c.in-Err-NotEdited.ensures.fails) c.status.ensures c.print_failure.ensures.prints one)
 
 pub returns-in-Err-NotEdited-clause-prints : goal.returns-in-Err-NotEdited-clause-prints

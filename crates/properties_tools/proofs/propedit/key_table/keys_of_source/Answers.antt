@@ -6,4 +6,6 @@ pub take_sound-requires : goal.take_sound-requires
 take_sound-requires c = took-none _ c.in_ok-none.ensures.table c.in_ok-none.ensures.empty
 
 pub returns : goal.returns
-returns c = reads-keys (encoding_of c.args.encoding) c.args.source.now _ c.take_sound.result c.take_sound.ensures
+returns c =
+    let e = encoding_of c.args.encoding in
+    rw c.into_keys.ensures (reads-keys e c.args.source.now _ c.in_ok-table.table c.in_ok-table.ensures)

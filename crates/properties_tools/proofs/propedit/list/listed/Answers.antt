@@ -4,7 +4,7 @@ use Rattle.std.proofs.lemmas.List.{get_or-map, length-map}
 use Rattle.java_properties.specs.Findings.{KeyPlace}
 use Rattle.properties_tools.specs.Propedit.Listing.{is_key_listed}
 use Rattle.properties_tools.specs.Propedit.Texts.{ended}
-use Rattle.properties_tools.specs.Private.Table.{place_keys, places_of}
+use Rattle.properties_tools.specs.Private.Table.{place_keys, places_in}
 use Rattle.properties_tools.proofs.KeyTables.{none}
 use Rattle.properties_tools.proofs.Printed.{passed, printed}
 use Rattle.properties_tools.proofs.propedit.list.listed.Goals as goal
@@ -12,7 +12,7 @@ use Rattle.properties_tools.proofs.propedit.list.listed.Goals.{then-is_listed+in
 
 pub loop-row-preserved : goal.loop-row-preserved
 loop-row-preserved c =
-    let places = places_of c.args.keys.now in
+    let places = places_in c.args.keys.now in
     let keys = place_keys places in
     let row = c.loop-row.row in
     let key = chars c.key-key.result.now in

@@ -3,8 +3,8 @@ use Rattle.std.specs.List.{flat_map}
 use Rattle.std.specs.Str.{chars}
 use Rattle.properties_tools.specs.Propedit.Listing.{listed_keys}
 use Rattle.properties_tools.specs.Propedit.Texts.{ended}
-use Rattle.properties_tools.specs.Private.Table.{place_keys, places_of}
+use Rattle.properties_tools.specs.Private.Table.{place_keys, places_in}
 use Rattle.properties_tools.proofs.propedit.list.listed.Given as goal
 
 abbrev pub invariant-loop-row : goal.invariant-loop-row
-invariant-loop-row l = l.text.items ≡ flat_map (ended l.end) (listed_keys (chars l.prefix) (take l.row (place_keys (places_of l.keys))))
+invariant-loop-row l = l.text.items ≡ flat_map (ended l.end) (listed_keys (chars l.prefix) (take l.row (place_keys (places_in l.keys))))

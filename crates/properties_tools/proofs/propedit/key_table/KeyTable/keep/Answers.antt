@@ -1,4 +1,4 @@
-use Rattle.std.proofs.Common.{◌∙◌, ◌+◌, ap, inl, inr, refl, subst}
+use Rattle.std.proofs.Common.{ℕ, ◌∙◌, ◌+◌, List, ap, arith, inl, inr, refl, subst}
 use Rattle.std.proofs.Math.ListN.{set}
 use Rattle.std.specs.Prelude.{Some, string_bytes}
 use Rattle.std.specs.BTreeMap.{UpdatesBy}
@@ -8,26 +8,34 @@ use Rattle.std.specs.String.{string_cmp}
 use Rattle.properties_items.proofs.TextMaps.Values.{at_chars-updated}
 use Rattle.properties_tools.proofs.KeyTables.{slot-is, some-row}
 use Rattle.properties_tools.proofs.propedit.key_table.KeyTable.keep.Goals as goal
+use Rattle.properties_tools.proofs.propedit.key_table.KeyTable.keep.Goals.{then-index-eq0+else-row-lt-ROWS_IN_SLOTS, else-index-eq0}
 
-pub returns-then-index-eq0 : goal.returns-then-index-eq0
-returns-then-index-eq0 c =
+pub returns-then-row-lt-ROWS_IN_SLOTS : goal.returns-then-row-lt-ROWS_IN_SLOTS
+returns-then-row-lt-ROWS_IN_SLOTS c =
     let s = c.args.self.now in
     let is = slot-is s c.args.key.now c.args.slot c.index.result.now c.requires.slot c.requires.some c.index.ensures in
-    (refl, refl, inl (is ∙ c.if-index-eq0.true, ap (λ v. set s.slots.items v (c.args.row + 1)) c.requires.slot, refl))
+    let slots = ap (λ v. set s.slots.items v (c.args.row + 1)) c.requires.slot in
+    (refl, (c.args.row, inl (is ∙ c.if-index-eq0.true, omega arith, slots), inl (refl, refl)))
 
 pub returns : goal.returns
 returns c =
     let s = c.args.self.now in
+    let now = c.if-index-eq0.self in
     let t = c.insert.new.self in
     let is = slot-is s c.args.key.now c.args.slot c.index.result.now c.requires.slot c.requires.some c.index.ensures in
-    let updates = subst (λ v. UpdatesBy string_cmp (λ x. slice_cmp nat_cmp v (string_bytes x)) s.others t (Some c.args.row))
-    c.in_ok-from_str.ensures.ok c.in_ok-insert.ensures.updates in (
-      refl,
-      refl,
-      inr (
-        (_, is ∙ some-row _ c.if-index-eq0.false),
-        refl,
-        c.insert.ensures.ordered,
-        at_chars-updated s.others t c.args.key.now c.utf8.key (Some c.args.row) updates,
-      ),
-    )
+    let updates = subst (λ v. UpdatesBy string_cmp (λ x. slice_cmp nat_cmp v (string_bytes x)) now.others t (Some c.args.row))
+    c.in_ok-from_str.ensures.ok c.in_ok-insert.ensures.updates in
+    let others = at_chars-updated now.others t c.args.key.now c.utf8.key (Some c.args.row) updates in
+    elim c.if-index-eq0.branch [
+      | then-index-eq0+else-row-lt-ROWS_IN_SLOTS w ↦
+          let slots = ap (λ v. set s.slots.items v 1) c.requires.slot in
+          rw w.self-is (
+            refl,
+            (0, inl (is ∙ w.if-index-eq0.true, omega arith, slots), inr (c.insert.ensures.ordered, rw w.self-is at others)),
+          )
+      | else-index-eq0 w ↦
+          rw w.self-is (
+            refl,
+            (_, inr (is ∙ some-row _ w.if-index-eq0.false, refl {A = List ℕ}), inr (c.insert.ensures.ordered, rw w.self-is at others)),
+          )
+    ]

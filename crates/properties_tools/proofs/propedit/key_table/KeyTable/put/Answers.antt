@@ -14,13 +14,13 @@ returns c =
     let keeps = c.in_ok-keep.ensures in
     let key = c.args.key.now in
     let r : KeyRow = record { place = c.in_ok-place.place; first_line = c.args.line_number } in
-    let text = ap (λ v. v.items) keeps.0 ∙ c.in_ok-place.ensures.appends in
-    let rows = ap (λ v. v.items) keeps.1 ∙ c.in_ok-push.ensures.items in
-    let holds : HoldsText t.text.items r.place = subst (λ v. HoldsText v.items r.place) (sym keeps.0) c.in_ok-place.ensures.holds in
-    let at : bytes_at t.text.items r.place ≡ key = subst (λ v. bytes_at v.items r.place ≡ key) (sym keeps.0) c.in_ok-place.ensures.is in
+    let text = ap (λ v. v.text.items) keeps.0 ∙ c.in_ok-place.ensures.appends in
+    let rows = ap (λ v. v.rows.items) keeps.0 ∙ c.in_ok-push.ensures.items in
+    let holds : HoldsText t.keys.text.items r.place = subst (λ v. HoldsText v.text.items r.place) (sym keeps.0) c.in_ok-place.ensures.holds in
+    let at : bytes_at t.keys.text.items r.place ≡ key = subst (λ v. bytes_at v.text.items r.place ≡ key) (sym keeps.0) c.in_ok-place.ensures.is in
     let new = rw c.in_default.is at c.row_in.ensures in
-    let size : c.len-row.result ≡ length s.rows.items = omega arith in
+    let size : c.len-row.result ≡ length s.keys.rows.items = omega arith in
     record {
       puts = inr (new, size ∙ sym (length-places s), places-more s t c.requires key new r text rows holds at);
-      table = table-more s t c.requires key new r text rows holds at (rw size at keeps.2);
+      table = table-more s t c.requires key new r text rows holds at (rw size at keeps.1);
     }
