@@ -142,12 +142,14 @@
 //! | Unicode blanks at the front of a continuation line | are dropped | stay; only spaces, tabs and form feeds are blanks |
 //! | input that ends inside a character or a byte order mark | panics | is decoded, with U+FFFD |
 //! | after an error | not said | `None`, and nothing is read |
+//! | a line that ends in a CR | comes after one more character was read | comes at once |
 //! | reading | character by character, as items are asked for | in parts of up to 64 KiB, or of what a read gives |
 //! | [`read_into`](PropertiesIter::read_into), [`read`], texts of errors | | the same |
 //!
 //! | writing | `java-properties` 2.0.0 | here |
 //! |---|---|---|
 //! | a character that the encoding lacks | `\u` and as many digits as it has | `\u` and four digits, twice past U+FFFF: it reads back |
+//! | many escapes in a row | some are lost when a buffer is full | are all written |
 //! | line endings and backslashes in a comment | are written as they are | are `\n`, `\r` and `\\`: it stays one comment |
 //! | a first key that begins like a byte order mark | is written as it is | its first character is an escape: it reads back |
 //! | an empty key, with a separator of blanks | is written, and its value reads back as the key | [`ErrorKind::EmptyKey`] |
@@ -162,7 +164,9 @@
 //! |---|---|---|
 //! | kinds | only in the text | [`PropertiesError::kind`] |
 //! | the source of a malformed escape | the error of a number that was parsed | none |
+//! | of an encoding | three, `Encoding error: ..` | none |
 //! | between threads | can't be sent | can be, as all types here can if the stream can |
+//! | texts of `Debug` | show the fields of its types | show those of these types |
 //! | no memory | ends the program | ends the program; [`ErrorKind::Memory`] if the library ran out |
 //!
 //! Beyond it are [`PropertiesIter::comments`], [`strict`](PropertiesIter::strict) and

@@ -316,15 +316,68 @@ const WITH_SPANS: u64 = 16;
 const END_SIZE: usize = RECORD + 16;
 
 /// Appends an edit, or a line to write, to a packed list.
+#[inline]
 pub fn push_record(list: &mut Vec<u8>, kind: u64, key: &str, value: &str) {
-    let mut numbers = [0; RECORD];
-    numbers[..8].copy_from_slice(&kind.to_le_bytes());
-    numbers[16..24].copy_from_slice(&key.len().to_le_bytes());
-    numbers[24..].copy_from_slice(&value.len().to_le_bytes());
-    list.reserve(RECORD + key.len() + value.len());
-    list.extend_from_slice(&numbers);
-    list.extend_from_slice(key.as_bytes());
-    list.extend_from_slice(value.as_bytes());
+    let numbers = [
+        kind.to_le_bytes(),
+        [0; 8],
+        key.len().to_le_bytes(),
+        value.len().to_le_bytes(),
+    ];
+    let size = RECORD.saturating_add(key.len()).saturating_add(value.len());
+    list.reserve(size);
+    // SAFETY: there is capacity for `size` bytes, which are written, one part behind the other. No pointer into the list is one
+    // into the texts, since the list is borrowed mutably.
+    unsafe {
+        let at = list.as_mut_ptr().add(list.len());
+        at.cast::<[[u8; 8]; 4]>().write(numbers);
+        copy(key.as_ptr(), at.add(RECORD), key.len());
+        copy(value.as_ptr(), at.add(RECORD + key.len()), value.len());
+        list.set_len(list.len() + size);
+    }
+}
+
+/// Copies so many bytes. A few are copied in place, as two parts that may overlap: a call would take longer.
+///
+/// # Safety
+///
+/// As for `ptr::copy_nonoverlapping`.
+#[inline]
+unsafe fn copy(from: *const u8, to: *mut u8, size: usize) {
+    // SAFETY: no byte past `size` is read or written; the caller answers for these.
+    unsafe {
+        match size {
+            0 => {}
+            1..=3 => {
+                copy_part::<1>(from, to, 0);
+                copy_part::<1>(from, to, size / 2);
+                copy_part::<1>(from, to, size - 1);
+            }
+            4..=8 => {
+                copy_part::<4>(from, to, 0);
+                copy_part::<4>(from, to, size - 4);
+            }
+            9..=16 => {
+                copy_part::<8>(from, to, 0);
+                copy_part::<8>(from, to, size - 8);
+            }
+            _ => ptr::copy_nonoverlapping(from, to, size),
+        }
+    }
+}
+
+/// Copies `N` bytes from this place on.
+///
+/// # Safety
+///
+/// The bytes at `from` may be read, and those at `to` written.
+#[inline]
+unsafe fn copy_part<const N: usize>(from: *const u8, to: *mut u8, at: usize) {
+    // SAFETY: the caller answers for it, and an array of bytes may be anywhere.
+    unsafe {
+        let part = from.add(at).cast::<[u8; N]>().read();
+        to.add(at).cast::<[u8; N]>().write(part);
+    }
 }
 
 /// A record of a packed list that a call gave.
@@ -349,18 +402,18 @@ impl Record<'_> {
 /// Returns the record at this place of a packed list that a call gave.
 #[inline]
 pub fn record(list: &[u8], at: usize) -> Record<'_> {
-    let kind = number(list, at) as u64;
-    let spans = if kind < WITH_SPANS { 0 } else { SPANS_SIZE };
-    let key = at + RECORD + spans;
-    let value = key + number(list, at + 16);
-    let end = value + number(list, at + 24);
+    let (numbers, rest) = list[at..].split_at(RECORD);
+    let kind = number(numbers, 0) as u64;
+    let (spans, texts) = rest.split_at(if kind < WITH_SPANS { 0 } else { SPANS_SIZE });
+    let (key, values) = texts.split_at(number(numbers, 16));
+    let (value, after) = values.split_at(number(numbers, 24));
     Record {
         kind: kind % WITH_SPANS,
-        line: number(list, at + 8),
-        key: text(&list[key..value]),
-        value: text(&list[value..end]),
-        spans: &list[at + RECORD..key],
-        size: end - at,
+        line: number(numbers, 8),
+        key: text(key),
+        value: text(value),
+        spans,
+        size: list.len() - at - after.len(),
     }
 }
 

@@ -7,7 +7,7 @@ use std::collections::HashMap;
 use std::fmt::{self, Debug, Formatter};
 use std::io::{self, Write};
 
-// How many bytes of lines are gathered, packed or made.
+// How many bytes of lines are gathered, without what becomes escapes.
 const MOST: usize = 1 << 13;
 
 /// Writes comments and pairs, a line each, to a stream.
@@ -43,8 +43,9 @@ pub struct PropertiesWriter<W: Write> {
     // The lines that are gathered: first those that are made, and then those that are packed, to be made as is set now.
     made: Vec<u8>,
     packed: Vec<u8>,
-    // How many lines these are, and how many the stream took before.
+    // How many lines these are, with how many bytes, and how many the stream took before.
     gathered: usize,
+    held: usize,
     sent: usize,
     has_begun: bool,
     has_failed: bool,
@@ -67,6 +68,7 @@ impl<W: Write> PropertiesWriter<W> {
             made: Vec::new(),
             packed: Vec::new(),
             gathered: 0,
+            held: 0,
             sent: 0,
             has_begun: false,
             has_failed: false,
@@ -88,12 +90,10 @@ impl<W: Write> PropertiesWriter<W> {
     ///
     /// A failed write of the stream, now or earlier; and an empty key, if the separator is blanks alone. This pair isn't
     /// written then.
+    #[inline]
     pub fn write(&mut self, key: &str, value: &str) -> Result<(), PropertiesError> {
-        if key.is_empty() && !self.has_failed {
-            // This is made for its error alone.
-            let mut pair = Vec::new();
-            sys::push_record(&mut pair, sys::PAIR, key, "");
-            given(self.make(&mut Vec::new(), &pair))?;
+        if key.is_empty() {
+            self.ask_without_key()?;
         }
         self.gather(sys::PAIR, key, value)
     }
@@ -188,11 +188,25 @@ impl<W: Write> PropertiesWriter<W> {
         }
     }
 
+    // Asks whether a pair may have an empty key, by having one made.
+    #[cold]
+    fn ask_without_key(&self) -> Result<(), PropertiesError> {
+        if self.has_failed {
+            return Ok(());
+        }
+        let mut pair = Vec::new();
+        sys::push_record(&mut pair, sys::PAIR, "", "");
+        given(self.make(&mut Vec::new(), &pair))
+    }
+
+    #[inline]
     fn gather(&mut self, kind: u64, key: &str, value: &str) -> Result<(), PropertiesError> {
-        if self.has_failed || self.made.len() + self.packed.len() >= MOST {
+        if self.has_failed || self.held >= MOST {
             self.send()?;
         }
         sys::push_record(&mut self.packed, kind, key, value);
+        // A separator or a sign, and a line ending.
+        self.held += key.len() + value.len() + 2;
         self.gathered += 1;
         Ok(())
     }
@@ -252,6 +266,7 @@ impl<W: Write> PropertiesWriter<W> {
         }
         self.made.clear();
         self.sent += std::mem::take(&mut self.gathered);
+        self.held = 0;
         self.has_failed = false;
         Ok(())
     }

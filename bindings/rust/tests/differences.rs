@@ -2,8 +2,8 @@
 //! crate page. Other tests have what is said there of streams.
 use std::collections::HashMap;
 use todrenval::{
-    edit, get, read, write, Comments, Encoding, ErrorKind, LineContent, LineEnding, PropertiesIter, PropertiesWriter,
-    UTF_16BE, UTF_16LE, UTF_8, WINDOWS_1252,
+    edit, get, read, write, Comments, Edit, Encoding, ErrorKind, LineContent, LineEnding, PropertiesIter,
+    PropertiesWriter, UTF_16BE, UTF_16LE, UTF_8, WINDOWS_1252,
 };
 
 /// Each item as its line and its texts, and an error as its line and its kind.
@@ -105,6 +105,45 @@ fn what_is_written_reads_back() {
         &many,
         format!("a={}\n", "\\ud83d\\udc1e".repeat(10_000)).as_bytes(),
     );
+}
+
+/// The three ways to write a comment and a pair that docs/DIFFERENCES.md begins with, but for that of Java.
+#[test]
+fn values_are_escaped_or_readable() {
+    for (is_readable, wanted) in [
+        (false, &b"# text\n\\u00e9=b\\ c\n"[..]),
+        (true, b"#text\n\\u00e9=b c\n"),
+    ] {
+        let bytes = written(UTF_8, |writer| {
+            writer.set_ascii_only(true);
+            if is_readable {
+                writer.set_comment_prefix("#").unwrap();
+                writer.set_readable(true);
+            }
+            writer.write_comment("text").unwrap();
+            writer.write("é", "b c").unwrap();
+        });
+        assert_eq!(bytes, wanted);
+        reads(&bytes, UTF_8, &[(1, "#text"), (2, "é=b c")]);
+    }
+    let cases = [
+        ("=", "b c:=#!", &b"a=b c:=#!\n"[..]),
+        ("=", " b ", b"a=\\ b\\u0020\n"),
+        (" ", "=b", b"a \\=b\n"),
+    ];
+    for (separator, value, wanted) in cases {
+        let readable = written(UTF_8, |writer| {
+            writer.set_readable(true);
+            writer.set_kv_separator(separator).unwrap();
+            writer.write("a", value).unwrap();
+        });
+        assert_eq!(readable, wanted);
+        let file = format!("a{separator}1\n");
+        assert_eq!(
+            edit(file.as_bytes(), UTF_8, &[Edit::SetValue("a", value)]).unwrap(),
+            wanted
+        );
+    }
 }
 
 #[test]

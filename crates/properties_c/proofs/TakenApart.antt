@@ -1,14 +1,14 @@
 -- Packed lists that are taken apart from their fronts.
-use Rattle.std.proofs.Common.{ℕ, ◌<◌, List, [], ◌∷◌, ◌++◌, length, sym, ◌∙◌, arith, append_assoc}
-use Rattle.std.proofs.lemmas.List.{append-nil, map-append}
+use Rattle.std.proofs.Common.{◌≡◌, ℕ, ◌-◌, ◌<◌, List, [], ◌∷◌, ◌++◌, length, take, drop, refl, ap, sym, ◌∙◌, arith, append_assoc}
+use Rattle.std.proofs.lemmas.List.{append-nil, drop_at, map-append, take_at}
 use Rattle.std.proofs.lemmas.List.Concat.{flat_map-append}
 use Rattle.properties_editing.specs.declared.edit.Edit.{Edit}
 use Rattle.java_properties.specs.Editing.{edit_in, edits_in}
-use Rattle.properties_c.specs.Packed.{Meaning, edits, AreMeant, Begins, Record, IsSized}
-use Rattle.properties_c.specs.Private.Lists.{Splits, IsFirst, RefusesFirst, RefusesRecord}
+use Rattle.properties_c.specs.Packed.{Meaning, edits, AreMeant, Begins, Record, IsSized, packed}
+use Rattle.properties_c.specs.Private.Lists.{header_bytes, header_of, Splits, IsFirst, RefusesFirst, RefusesRecord}
 use Rattle.properties_c.specs.declared.status.Status.{Status}
 use Rattle.properties_c.specs.declared.status.Status.TheVariants.{NoMemory, NotUtf8, BadList}
-use Rattle.properties_c.proofs.Packing.{sizes}
+use Rattle.properties_c.proofs.Packing.{packed-header, sizes}
 use Rattle.properties_c.proofs.Splitting.{packed-only}
 
 -- The list is refused for what its first record is refused for.
@@ -41,6 +41,19 @@ Begins-more {A} {m} {list} {rest} {after} {things} {thing} before next = record 
 pub IsFirst-shorter : {A : Type 0} {m : Meaning A} {list rest : List ℕ} {thing : A} → IsFirst m list thing rest → length rest < length list
 IsFirst-shorter {A} {m} {list} {rest} h =
     grind (arith, sizes, h.splits.division)
+
+-- The texts of the first record.
+pub first-texts : {list : List ℕ} {r : Record} {rest : List ℕ} → Splits list r rest → take (length list - length rest - 32) (drop 32 list) ≡ r.key ++ r.value
+first-texts {list} {r} {rest} splits =
+    let header = header_bytes (header_of r) in
+    let texts = r.key ++ r.value in
+    let is : list ≡ header ++ (texts ++ rest) = splits.division ∙ ap (λ v. v ++ rest) (packed-header r) ∙ append_assoc header texts rest in
+    let all : length list ≡ length (packed r ++ rest) = ap length splits.division in
+    let long : length header ≡ 32 = simp sizes refl in
+    let count : length texts ≡ length list - length rest - 32 = grind (arith, sizes, all) in
+    ap (λ v. take (length list - length rest - 32) (drop 32 v)) is
+    ∙ ap (λ v. take (length list - length rest - 32) v) (drop_at header (texts ++ rest) 32 long)
+    ∙ take_at texts rest _ count
 
 -- ---- edits
 

@@ -1,13 +1,13 @@
 // Packed lists that come from C: edits, and lines to write.
 
-ghost use Rattle.std.specs.Prelude.{◌≡◌};
+ghost use Rattle.std.specs.Prelude.{◌≡◌, ◌++◌, ◌≤◌, length, take, drop};
 ghost use Rattle.properties_c.specs.Packed.{record_in};
-ghost use Rattle.properties_c.specs.Private.Lists.{CopiesText, MakesEdit, MakesLine, ReadsEdits, ReadsFirstEdit, ReadsFirstLine, TakesText};
+ghost use Rattle.properties_c.specs.Private.Lists.{CopiesText, MakesEdit, MakesLine, ReadsEdits, ReadsFirstEdit, ReadsFirstLine, TakesText, TakesTexts};
 ghost use Rattle.properties_c.specs.declared.status.Status.TheVariants.{NoMemory};
 
 use crate::encoding::text_of;
 use crate::items::{COMMENT, PAIR};
-use crate::records::{Record, split_record};
+use crate::records::{HEADER_SIZE, Record, split_record};
 use crate::status::Status;
 use java_properties::Edit;
 use std::alloc::{AllocError, AllocFailed, Global};
@@ -89,7 +89,8 @@ pub fn first_line(list: &[u8]) -> Result<(Line<'_>, &[u8]), Status>
     let Some((first, rest)) = split_record(list) else {
         return Err(Status::BadList);
     };
-    match line_of(first) {
+    let texts = &list[HEADER_SIZE..list.len() - rest.len()];
+    match line_of(first, texts) {
         Ok(line) => Ok((line, rest)),
         Err(status) => Err(status),
     }
@@ -117,8 +118,10 @@ fn edit_of(alloc: Global, given: Record<'_>) -> Result<Edit, Status>
     }
 }
 
+// Returns the line of a record, whose texts are one after the other in `texts` too.
 #[inline(always)]
-fn line_of(given: Record<'_>) -> Result<Line<'_>, Status>
+fn line_of<'a>(given: Record<'a>, texts: &'a [u8]) -> Result<Line<'a>, Status>
+    requires { let r = record_in given in texts.now ≡ r.key ++ r.value }
     ensures { MakesLine (record_in given.entry) result }
 {
     match given.kind {
@@ -129,8 +132,8 @@ fn line_of(given: Record<'_>) -> Result<Line<'_>, Status>
             Ok(Line::Comment(sound_text(given.value)?))
         }
         PAIR => {
-            let key = sound_text(given.key)?;
-            Ok(Line::Pair(key, sound_text(given.value)?))
+            let (key, value) = sound_texts(texts, given.key.len())?;
+            Ok(Line::Pair(key, value))
         }
         _ => Err(Status::BadList),
     }
@@ -143,6 +146,22 @@ fn sound_text(bytes: &[u8]) -> Result<&str, Status>
 {
     match text_of(bytes) {
         Some(text) => Ok(text),
+        None => Err(Status::NotUtf8),
+    }
+}
+
+// Returns the two texts that these bytes are, of which the second one begins at this place. That takes one look at short
+// texts, where one at each would take two.
+#[inline(always)]
+fn sound_texts(bytes: &[u8], at: usize) -> Result<(&str, &str), Status>
+    requires { at ≤ length bytes.now }
+    ensures { TakesTexts (take at bytes.now) (drop at bytes.now) result }
+{
+    let Some(texts) = text_of(bytes) else {
+        return Err(Status::NotUtf8);
+    };
+    match texts.split_at_checked(at) {
+        Some(parts) => Ok(parts),
         None => Err(Status::NotUtf8),
     }
 }

@@ -1,7 +1,8 @@
 // The items of a source that goes on: those of the lines that a part of it holds whole.
 
-ghost use Rattle.std.specs.Prelude.{◌≡◌, ◌++◌, ◌&&◌, ◌||◌, not, ℕ, List, IfOk, OnOk};
+ghost use Rattle.std.specs.Prelude.{◌≡◌, ◌++◌, ◌&&◌, ◌||◌, ◌≤◌, not, ℕ, List, length, IfOk, IfSome, OnOk};
 ghost use Rattle.std.specs.Bool.{Decides};
+ghost use Rattle.properties_format.specs.Computed.Cut.{cut_of};
 ghost use Rattle.properties_format.specs.Computed.Encoding.{decoded_of};
 ghost use Rattle.properties_format.specs.Computed.Lines.{lines_of};
 ghost use Rattle.properties_format.specs.Encoding.{ascii_bytes};
@@ -12,7 +13,7 @@ ghost use Rattle.properties_c.specs.Crossing.{crossing};
 ghost use Rattle.properties_c.specs.Items.{GivesPart};
 ghost use Rattle.properties_c.specs.Packed.{end_record, packed};
 ghost use Rattle.properties_c.specs.Parts.{IsDivided, IsLineEnd};
-ghost use Rattle.properties_c.specs.Private.Results.{HasFront, TellsLast, TellsLines};
+ghost use Rattle.properties_c.specs.Private.Results.{HasFront, TellsLast, TellsLines, feeds};
 
 use crate::asked::Asked;
 use crate::encoding::number_of;
@@ -23,6 +24,7 @@ use crate::records::{Record, push_record};
 use crate::sound::refused_line;
 use crate::status::Status;
 use java_properties::Encoding;
+use memchr::memchr;
 use properties_lines::scanner::{Scan, Scanner};
 use properties_lines::search::unit_size;
 use properties_text::encoding::byte_order_mark::encoding_in_force;
@@ -30,6 +32,9 @@ use std::alloc::{AllocError, Global};
 
 // The kind of the record that says where a front ends.
 const END: usize = 6;
+
+// How many bytes are searched for LFs at once: the count of these fits in a byte.
+const BLOCK: usize = 240;
 
 /// Gives the items of the front of a part, and where it ends. At a malformed escape, it gives the items before it.
 pub fn give_part(
@@ -154,7 +159,7 @@ fn push_end(
     ensures { let e = encoding_of encoding in
         OnOk result (bytes.new.items ≡ bytes.old.items ++ packed (end_record e front.now (line_endings (lines_of (decoded_of e front.now))))) }
 {
-    let (in_force, lines) = count_lines(front, encoding);
+    let (in_force, lines) = count_endings(front, encoding);
     let mut value = Vec::new(alloc);
     push_number(&mut value, front.len())?;
     push_number(&mut value, number_of(in_force) as usize)?;
@@ -170,6 +175,17 @@ fn push_end(
 }
 
 // Returns the encoding in force in a source, and how many line endings it has.
+fn count_endings(source: &[u8], encoding: Encoding) -> (Encoding, usize)
+    ensures { TellsLines (encoding_of encoding) source.now (encoding_of result.0) result.1 }
+{
+    let (in_force, start) = encoding_in_force(source, encoding);
+    match count_feeds(in_force, &source[start..]) {
+        Some(lines) => (in_force, lines),
+        None => count_lines(source, encoding),
+    }
+}
+
+// Returns the same, by a scan of the body.
 fn count_lines(source: &[u8], encoding: Encoding) -> (Encoding, usize)
     ensures { TellsLines (encoding_of encoding) source.now (encoding_of result.0) result.1 }
 {
@@ -185,4 +201,49 @@ fn count_lines(source: &[u8], encoding: Encoding) -> (Encoding, usize)
             Scan::More => unreachable!(),
         }
     }
+}
+
+// Returns how many lines end in a body, if LFs alone end them and units have one byte.
+#[tactic(auto, using(crate::proofs::PartedLines::feeding))]
+fn count_feeds(encoding: Encoding, body: &[u8]) -> Option<usize>
+    ensures { IfSome result (λ lines. lines ≡ line_endings (cut_of (encoding_of encoding) body.now)) }
+{
+    match encoding {
+        Encoding::UTF_16LE | Encoding::UTF_16BE => None,
+        Encoding::WINDOWS_1252 | Encoding::UTF_8 => {
+            if memchr(b'\r', body).is_some() {
+                return None;
+            }
+            Some(feeds_in(body))
+        }
+    }
+}
+
+#[tactic(auto, using(crate::proofs::PartedLines::feeding))]
+fn feeds_in(body: &[u8]) -> usize
+    ensures { result ≡ feeds body.now }
+{
+    let mut count = 0;
+    let mut rest = body;
+    while rest.len() > BLOCK {
+        let (block, after) = rest.split_at(BLOCK);
+        count += usize::from(feeds_in_block(block));
+        rest = after;
+    }
+    count + usize::from(feeds_in_block(rest))
+}
+
+// Returns the same in a byte, so that one instruction counts several bytes.
+#[inline(always)]
+fn feeds_in_block(block: &[u8]) -> u8
+    requires { length block.now ≤ 240 }
+    ensures { result ≡ feeds block.now }
+{
+    let mut count = 0;
+    for byte in block {
+        if *byte == b'\n' {
+            count += 1;
+        }
+    }
+    count
 }

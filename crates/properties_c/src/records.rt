@@ -8,6 +8,9 @@ ghost use Rattle.properties_c.specs.Private.Lists.{SplitsRecord, header_bytes, h
 use crate::numbers::{push_number, split_number};
 use std::alloc::AllocError;
 
+/// How many bytes the numbers at the front of a record take.
+pub const HEADER_SIZE: usize = 32;
+
 /// A record of a packed list.
 #[derive(Clone, Copy)]
 pub struct Record<'a> {

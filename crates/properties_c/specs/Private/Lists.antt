@@ -91,6 +91,11 @@ abbrev pub TakesText : List ℕ → Result (Bor (List ℕ)) Status → Type 0
 TakesText bytes (Ok text) = IsText bytes (chars text.now)
 TakesText bytes (Err status) = RefusesFor ⊥ (¬ IsUtf8 bytes) status
 
+-- the result of taking two texts
+abbrev pub TakesTexts : List ℕ → List ℕ → Result (Bor (List ℕ) × Bor (List ℕ)) Status → Type 0
+TakesTexts key value (Ok (name, text)) = IsText key (chars name.now) × IsText value (chars text.now)
+TakesTexts key value (Err status) = RefusesFor ⊥ (IsUtf8 key → IsUtf8 value → ⊥) status
+
 -- what a line holds
 abbrev pub line_in : Line → Content
 line_in (Comment text) = comment (chars text.now)

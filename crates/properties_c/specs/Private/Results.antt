@@ -1,10 +1,11 @@
 -- What the exports write to memory of what they read, find and print.
-use Rattle.std.specs.Prelude.{ℕ, List, ◌≡◌, ◌≤◌, ◌⊎◌, ◌++◌, [], ◌∷◌, length, map, take, drop, Option, Some, None, Result, Ok, Err, if◌then◌else◌, Bool, true, false, encode_utf8_all}
+use Rattle.std.specs.Prelude.{ℕ, List, ◌≡◌, ◌≤◌, ◌==◌, ◌⊎◌, ◌+◌, ◌++◌, [], ◌∷◌, length, map, take, drop, Option, Some, None, Result, Ok, Err, if◌then◌else◌, Bool, true, false, encode_utf8_all}
 use Rattle.std.specs.List.{list_any}
 use Rattle.properties_format.specs.Computed.Encoding.{decoded_of}
 use Rattle.properties_format.specs.Computed.Items.{outcome_of}
 use Rattle.properties_format.specs.Computed.Lines.{lines_of}
 use Rattle.properties_format.specs.Lines.{line_endings}
+use Rattle.properties_format.specs.Text.{line_feed}
 use Rattle.properties_format.specs.Edited.{is_editable}
 use Rattle.properties_format.specs.Items.{Content, Entry, Outcome, ignored, given, broken, comment, pair}
 use Rattle.properties_format.specs.Split.{Logical, blank}
@@ -78,6 +79,11 @@ TellsLast e body (Some at) =
 -- This is the encoding in force in a source, and the number of its line endings.
 abbrev pub TellsLines : Encoding → List ℕ → Encoding → ℕ → Type 0
 TellsLines e source f lines = (f ≡ (byte_order_mark e source).encoding) × (lines ≡ line_endings (lines_of (decoded_of e source)))
+
+-- how many LFs there are
+abbrev pub feeds : List ℕ → ℕ
+feeds [] = 0
+feeds (c ∷ cs) = if c == line_feed then feeds cs + 1 else feeds cs
 
 -- What a logical line gives was appended.
 abbrev pub Appends : ℕ → Outcome → List ℕ → List ℕ → Type 0
