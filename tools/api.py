@@ -17,11 +17,10 @@ sys.dont_write_bytecode = True
 from wrap import WIDTH, wrapped
 
 TOP = pathlib.Path(__file__).resolve().parent.parent
-FOR_CALLERS = ["java_properties", "properties_renaming", "counted_io"]
+FOR_CALLERS = ["java_properties", "counted_io"]
 INNER = ["properties_tools"]
 ABOUT = {
     "java_properties": "The library. The functions of the module `laws` do nothing when they run; their contracts are laws.",
-    "properties_renaming": "A key renamed where it stands.",
     "counted_io": "Readers and writers that count their I/O errors. `Counted` makes one of any reader or writer.",
     "properties_tools": "What the programs `propfilter` and `propedit` do, over any streams: the names of each module, and in brackets the functions of a type. What each does stands beside it in the source. [CALLING](CALLING.md) shows `filter`.",
 }

@@ -25,7 +25,7 @@ CRATES = {
     "properties_items": (1, "library", "comments and pairs, errors"),
     "single_lines": (2, "test", "a plain reader, to compare"),
     "properties_editing": (1, "library", "edits of a source"),
-    "properties_renaming": (2, "library", "renames a key"),
+    "properties_renaming": (1, "library", "edits over a view"),
     "java_properties": (1, "public", "the library"),
     "properties_c": (0, "public", "the library for C"),
     "properties_tools": (1, "library", "what the programs do"),

@@ -30,8 +30,9 @@ def rows(kind):
 
 def words_after(row):
     """What comes after a command. Dots end a word that may come again, EDIT stands for a command that edits, and TOPIC for
-    one that help is asked on."""
-    words = row["words"].strip("[]").replace("COMMAND", "TOPIC").replace("OLD NEW", "FILE FILE")
+    one that help is asked on. A new key is completed as little as a value."""
+    words = row["words"].strip("[]").replace("COMMAND", "TOPIC")
+    words = words.replace("OLD NEW", "KEY VALUE" if row["is_edit"] else "FILE FILE")
     if row["is_edit"]:
         return words + " EDIT"
     return words.replace(" ..", "..")

@@ -32,7 +32,7 @@ use properties_tools::arguments::words;
 use properties_tools::filter::{filter, filter_ascii};
 use properties_tools::messages::{Escaped, print_error, print_line};
 use properties_tools::propedit::answers::{answer_to, name};
-use properties_tools::propedit::request::{AbsentKeys, Allowed, Change, Check, Command, Conversion, Edits, FileChange, Form, Missing, Request, Source, Terminator, Job};
+use properties_tools::propedit::request::{AbsentKeys, Allowed, Change, Check, Command, Conversion, Edits, FileChange, Form, Missing, Report, Request, Source, Terminator, Job};
 use properties_tools::propedit::error::{Failure, print_failure};
 use properties_tools::propedit::hint::{possible_files, print_reading, refused_file};
 use properties_tools::propedit::in_place::{Target, edit_file};
@@ -65,7 +65,7 @@ GIVEN = {
     "sink": f"let mut sink = {SINK};",
     "arguments": "let arguments: &[String] = &[];",
     "words": "let words: Vec<String> = Vec::new(alloc);",
-    "job": "let job = Job { encoding: Encoding::UTF_8, source: Source::StandardInput, command: Command::Check(Check { allowed: Allowed::All, pairs_only: false, quiet: false }) };",
+    "job": "let job = Job { encoding: Encoding::UTF_8, source: Source::StandardInput, command: Command::Check(Check { allowed: Allowed::All, pairs_only: false, quiet: false, report: Report::Lines }) };",
     "Target": 'std::fs::write(&rt, "app.properties", b"port = 80".as_slice())?;',
     "File": 'std::fs::write(&rt, "app.properties", b"port = 80".as_slice())?;',
     "map": "let map: HashMap<String, String> = HashMap::new(alloc);",
