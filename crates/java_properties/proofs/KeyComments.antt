@@ -1,9 +1,8 @@
 -- How the comment of a key is found, group by group.
-use Rattle.std.proofs.Common.{◌≡◌, ◌≢◌, ℕ, ◌+◌, ◌==◌, true, false, List, [], ◌∷◌, ◌++◌, length, refl, ap, sym, ◌∙◌, subst, inl, inr, append-nil, append_assoc, length-append, arith}
-use Rattle.std.specs.Prelude.{Bool, ◌&&◌, ◌⊎◌, Option, Some, None}
+use Rattle.std.proofs.Common.{◌≡◌, ℕ, ◌==◌, true, false, List, [], ◌∷◌, ◌++◌, length, refl, ap, sym, ◌∙◌, subst, inl, inr, append-nil, append_assoc, arith}
+use Rattle.std.specs.Prelude.{Bool, ◌&&◌, Option, Some, None}
 use Rattle.std.proofs.lemmas.Bool.{cases_Bool}
 use Rattle.properties_format.specs.Text.{is_blank, is_comment_sign, begins, without_leading_blanks}
-use Rattle.properties_format.specs.Encoding.{Encoding}
 use Rattle.properties_format.specs.Lines.{is_comment_line, is_open, joined, without_last, without_open_backslash}
 use Rattle.properties_format.specs.Split.{Logical, IsComment, IsSplit}
 use Rattle.properties_format.specs.Body.{HeldLine, HasKey, NoneHasKey, as_lines}
@@ -22,8 +21,9 @@ use Rattle.properties_editing.specs.declared.group.GroupKind.{GroupKind}
 use Rattle.properties_editing.specs.declared.group.GroupKind.TheVariants as kind
 use Rattle.properties_editing.specs.declared.source.Comments.TheVariants.{PassedOver}
 use Rattle.properties_editing.proofs.PassedOver.{sound-join}
-use Rattle.java_properties.specs.Commented.{AreCommentGroups, AreCommentTexts, AreTextsOf, IsCommentGroup, IsCommentLine, IsCommentOf}
-use Rattle.java_properties.specs.Private.PassedGroups.{ArePassed, IsKindOf, IsSoundLine, Texts, after_other, is_comment}
+use Rattle.properties_renaming.specs.CommentLines.{AreCommentGroups, AreCommentTexts, IsCommentGroup, IsCommentLine, is_comment}
+use Rattle.java_properties.specs.Commented.{AreTextsOf}
+use Rattle.java_properties.specs.Private.PassedGroups.{ArePassed, IsKindOf, IsSoundLine, Texts, after_other}
 
 -- ---- comment lines
 

@@ -1,5 +1,5 @@
 -- The comment of a key as a view shows the groups of a source.
-use Rattle.std.proofs.Common.{◌≡◌, ◌≢◌, ℕ, ◌+◌, true, false, List, [], ◌∷◌, ◌++◌, length, refl, ap, sym, ◌∙◌, subst, inl, inr, append-nil, append_assoc, length-append, arith}
+use Rattle.std.proofs.Common.{◌≡◌, ℕ, ◌+◌, true, false, List, [], ◌∷◌, ◌++◌, length, refl, ap, sym, ◌∙◌, subst, inl, inr, append-nil, append_assoc, length-append, arith}
 use Rattle.std.specs.Prelude.{◌⊎◌, if◌then◌else◌, Option, Some, None, Ok}
 use Rattle.std.proofs.lemmas.Bool.{cases_Bool}
 use Rattle.properties_format.specs.Text.{is_empty, LineEnding}
@@ -7,11 +7,11 @@ use Rattle.properties_format.specs.Encoding.{Encoding, InForce, byte_order_mark}
 use Rattle.properties_format.specs.Lines.{is_comment_line, joined}
 use Rattle.properties_format.specs.Escapes.{Malformed}
 use Rattle.properties_format.specs.Body.{HeldLine, AreGroupsOf, HasKey, as_lines, group_bytes, held_in, last_ending, ending_bytes}
-use Rattle.properties_format.specs.Edited.{edited, is_editable, is_empty_line, unreadable}
+use Rattle.properties_format.specs.Edited.{is_editable, is_empty_line}
 use Rattle.properties_format.specs.Edits.{AreInComments, EscapesAre, IsFirstInPair}
 use Rattle.properties_format.specs.Items as content
 use Rattle.properties_format.specs.Computed.Cut.{decoded_line}
-use Rattle.properties_format.specs.Computed.Body.{held_groups_of, unended_bytes}
+use Rattle.properties_format.specs.Computed.Body.{unended_bytes}
 use Rattle.properties_format.specs.Computed.Edited.{IsSound}
 use Rattle.properties_format.specs.Computed.Items.{outcome_of}
 use Rattle.properties_format.proofs.Body.Decoded.{decoded-nil}
@@ -24,14 +24,15 @@ use Rattle.properties_format.proofs.Valued.Lined.{held_in-append}
 use Rattle.properties_items.specs.Errors.{IsBareError, IsMalformed}
 use Rattle.properties_items.specs.declared.error.ErrorKind.TheVariants as reason
 use Rattle.properties_items.specs.declared.error.PropertiesError.{PropertiesError}
-use Rattle.properties_editing.specs.Private.Sound.{AreSound, AreSoundFor, IsResult, IsSoundFor}
+use Rattle.properties_editing.specs.Private.Sound.{AreSound, IsResult, IsSoundFor}
 use Rattle.properties_editing.specs.Views.{GivesNext, IsViewOf, OpenView, TakesNext, line_of, with_bytes}
 use Rattle.properties_editing.specs.declared.group.ViewedGroup.{ViewedGroup}
 use Rattle.properties_editing.specs.declared.source.Comments.TheVariants.{PassedOver}
 use Rattle.properties_editing.proofs.PassedOver.{from-after, from-fault, from-sound, result-groups, result_for-meets, result_from, sound-join}
 use Rattle.std.specs.declared.alloc.AllocError.{AllocError}
 use Rattle.java_properties.specs.Commented.{AreTextsOf, HasComment, IsCommentError, RefusesComment}
-use Rattle.java_properties.specs.Private.PassedGroups.{ArePassed, IsUnsound, Texts, is_line_of_comment}
+use Rattle.properties_renaming.specs.CommentLines.{is_line_of_comment}
+use Rattle.java_properties.specs.Private.PassedGroups.{ArePassed, IsUnsound, Texts}
 use Rattle.java_properties.proofs.KeyComments.{HavePassed, passed-more, passed-none, texts-more}
 
 -- ---- a last group without bytes

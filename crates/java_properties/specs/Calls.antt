@@ -1,8 +1,8 @@
 -- Lists of a writer's calls, and the effect of making them.
-use Rattle.std.specs.Prelude.{◌≡◌, ◌⊎◌, Bool, true, false, if◌then◌else◌, List, [], ◌∷◌, ◌++◌, map, Result, Ok, Err, is_some, string_bytes, vec_items, ℕ}
+use Rattle.std.specs.Prelude.{◌≡◌, ◌⊎◌, Bool, true, false, if◌then◌else◌, List, [], ◌∷◌, ◌++◌, map, Result, Ok, Err, is_some, string_bytes, vec_items}
 use Rattle.std.specs.Global.{Vec}
 use Rattle.std.specs.Str.{chars}
-use Rattle.counted_io.specs.Streams.{Sink, HasWritten, HasFaulted}
+use Rattle.counted_io.specs.Streams.{Sink, HasWritten}
 use Rattle.properties_format.specs.Settings.{Settings}
 use Rattle.properties_format.specs.Items.{comment, pair}
 use Rattle.properties_format.specs.Writing as format

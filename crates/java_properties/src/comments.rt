@@ -4,14 +4,15 @@ ghost use Rattle.std.specs.Prelude.{◌≡◌, bytes_eq, true, OnOk};
 ghost use Rattle.std.specs.Str.{chars};
 ghost use Rattle.properties_format.specs.Lines.{is_comment_line};
 ghost use Rattle.properties_text.specs.Encoding.{encoding_of};
-ghost use Rattle.java_properties.specs.Commented.{IsCommentLine, TellsComment};
-ghost use Rattle.java_properties.specs.Private.PassedGroups.{AddsLine, IsKindOf, PassesGroup, TellsKey, after_other, is_line_of_comment, texts_of, without_first_blank};
+ghost use Rattle.properties_renaming.specs.CommentLines.{is_line_of_comment};
+ghost use Rattle.java_properties.specs.Commented.{TellsComment};
+ghost use Rattle.java_properties.specs.Private.PassedGroups.{AddsLine, IsKindOf, PassesGroup, TellsKey, after_other, texts_of};
 
 use properties_editing::{GroupKind, View, ViewedGroup};
 use properties_items::error::PropertiesError;
 use properties_items::found::{find_item, pair_texts};
+use properties_renaming::comment_lines::{comment_text, is_comment_line};
 use properties_text::encoding::Encoding;
-use properties_text::parse::leading_blanks;
 use std::alloc::{AllocError, Global};
 use std::mem;
 
@@ -100,36 +101,6 @@ impl Passed {
         let above = mem::replace(&mut self.above, Vec::new(alloc));
         self.comment = Some(above);
     }
-}
-
-// Returns whether a group is a comment line. A comment that joining lines makes is none.
-fn is_comment_line(group: ViewedGroup) -> bool
-    ensures { result ≡ is_line_of_comment group }
-{
-    match group.kind {
-        GroupKind::Comment => group.line_count == 1,
-        _ => false,
-    }
-}
-
-// Returns the text of a comment line: what follows its sign and one blank.
-fn comment_text(line: &str) -> &str
-    requires { is_comment_line (chars line.now) ≡ true }
-    ensures { IsCommentLine (chars line.now) (chars result.now) }
-{
-    let sign = leading_blanks(line.as_bytes());
-    without_first_blank(&line[sign + 1..])
-}
-
-// Returns the text without the blank that it begins with, if it begins with one.
-fn without_first_blank(text: &str) -> &str
-    ensures { chars result.now ≡ without_first_blank (chars text.now) }
-{
-    let blanks = leading_blanks(text.as_bytes());
-    if blanks == 0 {
-        return text;
-    }
-    &text[1..]
 }
 
 // Returns whether a group, of which this is the logical line, is a pair with the key.

@@ -10,7 +10,8 @@ use Rattle.properties_format.proofs.Groups.Joined.{joined-comment_line, joined-o
 use Rattle.properties_format.proofs.Split.Blanks.{without_leading_blanks-blanks, without_leading_blanks-only}
 use Rattle.properties_format.proofs.Split.Unique.{sign-full}
 use Rattle.properties_format.proofs.Valued.Parts.{comment_line-no_pair}
-use Rattle.properties_renaming.specs.Commented.{AreCommentGroups, AreOthers, IsCommentGroup, LeadTo}
+use Rattle.properties_renaming.specs.CommentLines.{AreCommentGroups, IsCommentGroup}
+use Rattle.properties_renaming.specs.Commented.{AreOthers, LeadTo}
 
 -- ---- comment lines
 
@@ -62,7 +63,7 @@ group-other [] h = λ c. c
 group-other (l ∷ []) h = λ c. let y = one-comment l ∙ c in absurd (grind (arith))
 group-other (l ∷ m ∷ g) h = λ c. c
 
-comment-no_key : (key : List ℕ) (g : List HeldLine) → IsCommentGroup g → ¬ (HasKey key g)
+pub comment-no_key : (key : List ℕ) (g : List HeldLine) → IsCommentGroup g → ¬ (HasKey key g)
 comment-no_key key [] c = absurd c
 comment-no_key key (l ∷ []) c = λ h. let m = h.1 in comment_line-no_pair (joined (as_lines (l ∷ []))) m.raw_key m.raw_value (one-comment l ∙ c) m.split
 comment-no_key key (l ∷ m ∷ g) c = absurd c

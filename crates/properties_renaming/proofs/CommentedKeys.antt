@@ -15,8 +15,9 @@ use Rattle.properties_format.specs.Computed.Body.{held_groups_of}
 use Rattle.properties_format.proofs.Body.Groups.{groups_bytes-append, held_groups_of-only}
 use Rattle.properties_editing.specs.Views.{AreGiven, IsGroup, IsViewOf, OpenView, TakesNext, kind_of, line_of, past, with_bytes}
 use Rattle.properties_editing.specs.declared.group.ViewedGroup.{ViewedGroup}
-use Rattle.properties_renaming.specs.Commented.{AreCommentGroups, AreOthers, IsCommentGroup, IsRemovedWithComments}
-use Rattle.properties_renaming.specs.Private.Commented.{AreLeft, GivesHeaded, TakesHeaded, is_comment, is_line_of_comment}
+use Rattle.properties_renaming.specs.CommentLines.{AreCommentGroups, IsCommentGroup, is_comment, is_line_of_comment}
+use Rattle.properties_renaming.specs.Commented.{AreOthers, IsRemovedWithComments}
+use Rattle.properties_renaming.specs.Private.Commented.{AreLeft, GivesHeaded, TakesHeaded}
 use Rattle.properties_renaming.specs.declared.comments.Headed.{Headed}
 use Rattle.properties_renaming.specs.Private.Copied.{IsNew, IsReplacedIn, copied_to}
 use Rattle.properties_renaming.specs.declared.copied.Copied.{Copied}
@@ -42,6 +43,10 @@ told-comment v group h k = group-comment v.group (sym (told v group h) ∙ k)
 pub told-other : (v : OpenView) (group : ViewedGroup) → IsGroup v group → is_line_of_comment group ≡ false → ¬ (IsCommentGroup v.group)
 told-other v group h k = group-other v.group (sym (told v group h) ∙ k)
 
+-- The logical line of a comment line is one.
+pub told-line : (v : OpenView) (group : ViewedGroup) → IsGroup v group → is_line_of_comment group ≡ true → is_comment_line (line_of v) ≡ true
+told-line v group h k = let c = sym (told v group h) ∙ k in grind (arith)
+
 -- ---- the next group that isn't a comment line
 
 -- Comment lines alone were passed.
@@ -56,7 +61,11 @@ pub record ArePassed (v now : OpenView) (above : Option ℕ) : Type 0 where
 pub none-passed : (v : OpenView) → ArePassed v v None
 none-passed v = record { run = []; are_comments = tt; division = refl; place = omega arith; start = refl; nearer = omega arith }
 
-moved : {now next : OpenView} {group : ViewedGroup} → TakesNext now group next → next.start ≡ (past now).start
+pub none-passed-run : (v : OpenView) → (none-passed v).run ≡ []
+unfolding none-passed
+none-passed-run v = refl
+
+pub moved : {now next : OpenView} {group : ViewedGroup} → TakesNext now group next → next.start ≡ (past now).start
 moved t = ap (λ w. let o : OpenView = w in o.start) t.moves
 
 module _ {v now next : OpenView} {above : Option ℕ} (group : ViewedGroup) (start : ℕ) where
@@ -85,6 +94,11 @@ module _ {v now next : OpenView} {above : Option ℕ} (group : ViewedGroup) (sta
         nearer = omega arith;
       }
 
+  pub one-passed-run : (h : ArePassed v now above) (t : TakesNext now group next) (is : start ≡ unwrap_or above group.start) (line : is_line_of_comment group ≡ true)
+      → (one-passed h t is line).run ≡ h.run ++ next.group ∷ []
+  unfolding one-passed
+  one-passed-run h t is line = refl
+
   -- and another group comes;
   pub headed-next : ArePassed v now above → TakesNext now group next → start ≡ unwrap_or above group.start → is_line_of_comment group ≡ false
       → TakesHeaded v (record { start = start; group = group }) next
@@ -97,6 +111,11 @@ module _ {v now next : OpenView} {above : Option ℕ} (group : ViewedGroup) (sta
     group_start = moved t ∙ h.place;
     is_group = t.is_group;
   }
+
+  pub headed-next-run : (h : ArePassed v now above) (t : TakesNext now group next) (is : start ≡ unwrap_or above group.start) (other : is_line_of_comment group ≡ false)
+      → (headed-next h t is other).run ≡ h.run
+  unfolding headed-next
+  headed-next-run h t is other = refl
 
   pub headed-nearer : ArePassed v now above → TakesNext now group next → length next.to_come < length v.to_come
   headed-nearer h t =
@@ -259,22 +278,21 @@ no-mark source h = grind (arith)
 guard-none : (mark like : Bool) → mark ≡ true → (if not mark && like then line_feed ∷ [] else []) ≡ []
 guard-none mark like h = rw h refl
 
+pub guarded-whole : (source bytes body all : List ℕ) → bytes ≡ bom_of source ++ body → all ≡ guarding_lf source bytes ++ bytes
+    → all ≡ bom_of source ++ (guarding_lf source body ++ body)
+guarded-whole source bytes body all whole is = elim (cases_Bool (begins_like_bom source)) [
+  | inl m ↦
+      let none : (w : List ℕ) → guarding_lf source w ≡ [] = λ w. guard-none (begins_like_bom source) (begins_like_bom w) m in
+      is ∙ ap (λ w. w ++ bytes) (none bytes) ∙ whole ∙ ap (λ w. bom_of source ++ (w ++ body)) (sym (none body))
+  | inr m ↦
+      let none = no-mark source m in
+      is ∙ ap (λ w. guarding_lf source w ++ w) (whole ∙ ap (λ w. w ++ body) none) ∙ sym (ap (λ w. w ++ (guarding_lf source body ++ body)) none)
+]
+
 pub left-guarded : {e : Encoding} {source key : List ℕ} (others all : List ℕ) → AreLeft e source key others → all ≡ guarding_lf source others ++ others
     → IsRemovedWithComments e source key all
-left-guarded {e} {source} {key} others all h is = record {
-  groups = h.groups;
-  held = h.held;
-  rest = h.rest;
-  others = h.others;
-  whole = elim (cases_Bool (begins_like_bom source)) [
-    | inl m ↦
-        let none : (w : List ℕ) → guarding_lf source w ≡ [] = λ w. guard-none (begins_like_bom source) (begins_like_bom w) m in
-        is ∙ ap (λ w. w ++ others) (none others) ∙ h.whole ∙ ap (λ w. bom_of source ++ (w ++ h.rest)) (sym (none h.rest))
-    | inr m ↦
-        let none = no-mark source m in
-        is ∙ ap (λ w. guarding_lf source w ++ w) (h.whole ∙ ap (λ w. w ++ h.rest) none) ∙ sym (ap (λ w. w ++ (guarding_lf source h.rest ++ h.rest)) none)
-  ];
-}
+left-guarded {e} {source} {key} others all h is =
+    record { groups = h.groups; held = h.held; rest = h.rest; others = h.others; whole = guarded-whole source others h.rest all h.whole is }
 
 -- ---- one result
 

@@ -4,3 +4,7 @@ pub mod RenamedContents
 pub mod RenamedKeys
 pub mod CommentGroups
 pub mod CommentedKeys
+pub mod CommentTexts
+pub mod TextLines
+pub mod FoundComments
+pub mod NewComments

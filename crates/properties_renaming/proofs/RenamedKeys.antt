@@ -11,9 +11,9 @@ use Rattle.std.proofs.lemmas.List.{drop-drop, length-drop, take-append-drop}
 use Rattle.std.proofs.lemmas.Str.{chars-nil}
 use Rattle.std.proofs.lemmas.Slice.Eq.{bytes_eq-Decides}
 use Rattle.properties_format.specs.Text.{equals_sign, is_blanks, is_empty}
-use Rattle.properties_format.specs.Encoding.{Characters, Encoding, InForce, Repertoire, byte_order_mark, in_encoding, in_force, output_encoding}
+use Rattle.properties_format.specs.Encoding.{Characters, Encoding, InForce, Repertoire, ascii_in, byte_order_mark, in_encoding, in_force, latin_1_in, output_encoding, utf_8}
 use Rattle.properties_format.specs.Split.{Logical, blank, comment, pair, IsSplit}
-use Rattle.properties_format.specs.Printing.{encoded_text, printed_key}
+use Rattle.properties_format.specs.Printing.{encoded_text, in_prefix, printed_characters, printed_key}
 use Rattle.properties_format.specs.Lines.{joined}
 use Rattle.properties_format.specs.Body.{HeldLine, HasKey, NoneHasKey, as_lines, group_bytes, groups_bytes, held_in}
 use Rattle.properties_format.specs.Items as entry
@@ -22,6 +22,8 @@ use Rattle.properties_items.specs.BorrowedItems.{outcome_pair}
 use Rattle.properties_format.specs.Computed.Body.{has_key}
 use Rattle.properties_format.specs.Computed.Valued.{between_if_pair, between_in}
 use Rattle.properties_format.specs.Edited.{bom_of, is_editable}
+use Rattle.properties_format.proofs.AsciiOnly.{printed_characters-alike, printed_characters-ascii, printed_characters-same}
+use Rattle.properties_format.proofs.Valued.InAscii.{encoded-same}
 use Rattle.properties_format.proofs.Edited.ByteOrderMarks.{source-whole}
 use Rattle.properties_format.proofs.Edited.Pair.{editable-own}
 use Rattle.properties_format.proofs.Edited.Made.{has_key-true, HasKey-test}
@@ -29,9 +31,14 @@ use Rattle.properties_format.proofs.Printing.Characters.{encoded-ascii}
 use Rattle.properties_format.proofs.Split.Unique.{split_of-only}
 use Rattle.properties_format.proofs.Valued.Parts.{between_in-pair}
 use Rattle.properties_text.specs.Parsing.{bytes_in}
-use Rattle.properties_text.specs.Printing.{in_format, key_bytes, puts_of}
+use Rattle.properties_text.specs.Printing.{in_format, key_bytes, puts_of, text_bytes}
 use Rattle.properties_text.specs.declared.parse.Span.{Span}
+use Rattle.properties_text.specs.Encoding.{encoding_of}
+use Rattle.properties_text.specs.declared.encoding.Encoding as asked
+use Rattle.properties_text.specs.declared.encoding.Encoding.TheVariants.{WINDOWS_1252, UTF_8, UTF_16LE, UTF_16BE}
+use Rattle.properties_text.specs.declared.print.Place.TheVariants.{Prefix}
 use Rattle.properties_text.specs.declared.print.Repertoire as code
+use Rattle.properties_text.specs.declared.print.Repertoire.TheVariants.{Ascii}
 use Rattle.properties_editing.specs.Private.BodyValues.{IsBetweenAt}
 use Rattle.properties_editing.specs.Private.Sources.{PrintsIn}
 use Rattle.properties_editing.specs.Editing.{MakesEditsFor}
@@ -173,7 +180,7 @@ rekeyed-in characters v old new key places name value text n first slice done at
 
 -- ---- group after group
 
-none-append : (key : List ℕ) (gs : List (List HeldLine)) (g : List HeldLine) → NoneHasKey key gs → ¬ (HasKey key g) → NoneHasKey key (gs ++ g ∷ [])
+pub none-append : (key : List ℕ) (gs : List (List HeldLine)) (g : List HeldLine) → NoneHasKey key gs → ¬ (HasKey key g) → NoneHasKey key (gs ++ g ∷ [])
 none-append key [] g h k = (k, tt)
 none-append key (f ∷ gs) g h k = (h.0, none-append key gs g h.1 k)
 
@@ -198,7 +205,7 @@ none-among : (before : List (List HeldLine)) (g : List HeldLine) (after : List (
 none-among [] g after h = cc
 none-among (f ∷ before) g after h = cc
 
-bytes-front : (all before : List (List HeldLine)) (g : List HeldLine) (after : List (List HeldLine)) → with_bytes all ≡ before ++ g ∷ after
+pub bytes-front : (all before : List (List HeldLine)) (g : List HeldLine) (after : List (List HeldLine)) → with_bytes all ≡ before ++ g ∷ after
     → (more : List (List HeldLine)) × (all ≡ before ++ g ∷ more)
 bytes-front [] before g after h = absurd (none-among before g after h)
 bytes-front (f ∷ []) before g after h = elim (cases_Bool (is_empty (group_bytes f))) [
@@ -456,12 +463,30 @@ edited-same r source bytes PassedOver h = h.result.2
 sign-printed : (e : Encoding) → encoded_text e (equals_sign ∷ []) ≡ equals_sign ∷ []
 sign-printed e = ap (λ o. unwrap_or o [] ++ []) (encoded-ascii e equals_sign (lit< tt))
 
-pub prints-keys : {t : Repertoire} {r : code.Repertoire} → PrintsIn t r → PrintsKeys t r
-prints-keys {t} h = record { keys = h.keys; sign = sign-printed t.encoding }
+pub prints-keys : {t : Repertoire} {r : code.Repertoire} → PrintsIn t r
+    → ((text : List ℕ) → text_bytes r Prefix text ≡ encoded_text t.encoding (printed_characters t in_prefix text)) → PrintsKeys t r
+prints-keys {t} h comments = record { keys = h.keys; comments = comments; sign = sign-printed t.encoding }
+
+-- In ASCII alone, the text of a comment has the same bytes in each encoding;
+pub comments-ascii : (e : Encoding) (text : List ℕ) → text_bytes Ascii Prefix text ≡ encoded_text e (printed_characters (ascii_in e) in_prefix text)
+comments-ascii e text = encoded-same utf_8 e _ _ (printed_characters-ascii utf_8 in_prefix text) (printed_characters-same utf_8 e in_prefix text)
+
+-- and what is read alike in ISO 8859-1 is ASCII, but in windows-1252.
+comments-utf_8 : (text : List ℕ) → text_bytes Ascii Prefix text ≡ encoded_text utf_8 (printed_characters (latin_1_in utf_8) in_prefix text)
+comments-utf_8 text = ap (encoded_text utf_8) (printed_characters-alike (ascii_in utf_8) (latin_1_in utf_8) (λ c. refl) in_prefix text)
+
+pub comments-latin_1 : (e : asked.Encoding) → (e ≡ WINDOWS_1252 → ⊥) → (text : List ℕ)
+    → text_bytes Ascii Prefix text
+    ≡ encoded_text (output_encoding (encoding_of e)) (printed_characters (latin_1_in (output_encoding (encoding_of e))) in_prefix text)
+comments-latin_1 WINDOWS_1252 other text = absurd (other refl)
+comments-latin_1 UTF_8 other text = comments-utf_8 text
+comments-latin_1 UTF_16LE other text = comments-utf_8 text
+comments-latin_1 UTF_16BE other text = comments-utf_8 text
 
 pub prints-same : {t : Repertoire} {r : code.Repertoire} → in_format r ≡ t → PrintsKeys t r
 prints-same {t} {r} h = record {
   keys = λ first key. ap (λ w. let m : Repertoire = w in encoded_text m.encoding (printed_key m first key)) h;
+  comments = λ text. ap (λ w. let m : Repertoire = w in encoded_text m.encoding (printed_characters m in_prefix text)) h;
   sign = sign-printed t.encoding;
 }
 

@@ -1,9 +1,7 @@
--- The comment lines directly above a pair, and how they are removed together with it.
--- Source: java.util.Properties of Java SE 7, load (what a comment line is; a comment line is never continued).
-use Rattle.std.specs.Prelude.{◌≡◌, ◌⊎◌, ℕ, true, List, [], ◌∷◌, ◌++◌, Result, Ok, Err}
+-- A key is removed together with the comment lines directly above each of its pairs.
+use Rattle.std.specs.Prelude.{◌≡◌, ◌⊎◌, ℕ, List, [], ◌∷◌, ◌++◌, Result, Ok, Err}
 use Rattle.std.specs.Global.{Vec}
 use Rattle.properties_format.specs.Encoding.{Encoding}
-use Rattle.properties_format.specs.Lines.{is_comment_line}
 use Rattle.properties_format.specs.Body.{HeldLine, HasKey, group_bytes}
 use Rattle.properties_format.specs.Edited.{bom_of, guarding_lf}
 use Rattle.properties_items.specs.Errors.{IsBareError}
@@ -11,21 +9,8 @@ use Rattle.properties_items.specs.declared.error.ErrorKind.TheVariants as kind
 use Rattle.properties_items.specs.declared.error.PropertiesError.{PropertiesError}
 use Rattle.properties_editing.specs.Editing.{EditsWith, asked_for}
 use Rattle.properties_editing.specs.declared.source.SourceOptions.{SourceOptions}
+use Rattle.properties_renaming.specs.CommentLines.{AreCommentGroups}
 use Rattle.properties_renaming.specs.Renaming.{AreIn, IsEditable}
-
--- ---- where the comment lines of a pair are
-
--- The group is a comment line. A comment that joining makes is none.
-abbrev pub IsCommentGroup : List HeldLine → Type 0
-IsCommentGroup (h ∷ []) = is_comment_line h.text ≡ true
-IsCommentGroup group = ⊥
-
--- Each of these groups is a comment line.
-abbrev pub AreCommentGroups : List (List HeldLine) → Type 0
-AreCommentGroups [] = Unit {0}
-AreCommentGroups (g ∷ gs) = IsCommentGroup g × AreCommentGroups gs
-
--- ---- a key is removed with its comments
 
 -- The groups begin with a pair with the key, or with comment lines directly above one.
 pub record LeadTo (key : List ℕ) (groups : List (List HeldLine)) : Type 0 where

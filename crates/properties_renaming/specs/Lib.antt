@@ -1,4 +1,6 @@
+pub mod CommentLines
 pub mod Commented
+pub mod Commenting
 pub mod Laws
 pub mod Private
 pub mod Renaming

@@ -1,3 +1,5 @@
 pub mod Copied
 pub mod Renaming
 pub mod Commented
+pub mod CommentTexts
+pub mod Commenting

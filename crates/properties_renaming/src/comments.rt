@@ -7,11 +7,12 @@ ghost use Rattle.properties_format.specs.Computed.Items.{outcome_of};
 ghost use Rattle.properties_format.specs.Edited.{guarding_lf};
 ghost use Rattle.properties_text.specs.Encoding.{encoding_of};
 ghost use Rattle.properties_renaming.specs.Commented.{RemovesWithComments};
-ghost use Rattle.properties_renaming.specs.Private.Commented.{GivesHeaded, LeavesOthers, is_line_of_comment};
+ghost use Rattle.properties_renaming.specs.Private.Commented.{GivesHeaded, LeavesOthers};
 
+use crate::comment_lines::is_comment_line;
 use crate::copied::Copied;
 use crate::renaming::{Named, find_named};
-use properties_editing::{GroupKind, SourceOptions, View, ViewedGroup, edit_with};
+use properties_editing::{SourceOptions, View, ViewedGroup, edit_with};
 use properties_items::error::PropertiesError;
 use properties_text::encoding::Encoding;
 use properties_text::encoding::byte_order_mark::begins_like_byte_order_mark;
@@ -68,10 +69,10 @@ fn without_key(
 
 // A group that isn't a comment line, with the comment lines directly above it.
 #[derive(Clone, Copy)]
-struct Headed {
+pub(crate) struct Headed {
     // Where the first of these lines begins, or the group if there is none.
-    start: usize,
-    group: ViewedGroup,
+    pub(crate) start: usize,
+    pub(crate) group: ViewedGroup,
 }
 
 // Returns the next group that isn't a comment line, or `None` if comment lines alone are to come.
@@ -90,18 +91,8 @@ fn next_headed(view: &mut View<'_>) -> Result<Option<Headed>, AllocError>
     Ok(None)
 }
 
-// Returns whether a group is a comment line. A comment that joining lines makes is none.
-fn is_comment_line(group: ViewedGroup) -> bool
-    ensures { result ≡ is_line_of_comment group }
-{
-    match group.kind {
-        GroupKind::Comment => group.line_count == 1,
-        _ => false,
-    }
-}
-
 // Returns whether a logical line is a pair with the key.
-fn has_key(alloc: Global, line: &str, key: &str) -> Result<bool, AllocError>
+pub(crate) fn has_key(alloc: Global, line: &str, key: &str) -> Result<bool, AllocError>
     ensures { IfOk result (λ has. has ≡ is_pair_with (chars key.now) (outcome_of (chars line.now))) }
 {
     let named = find_named(alloc, line, key, key)?;
@@ -109,7 +100,7 @@ fn has_key(alloc: Global, line: &str, key: &str) -> Result<bool, AllocError>
 }
 
 // Returns these bytes, with a line feed before them if they begin like a byte order mark and the source doesn't.
-fn guarded(source: &[u8], mut bytes: Vec<u8>) -> Result<Vec<u8>, AllocError>
+pub(crate) fn guarded(source: &[u8], mut bytes: Vec<u8>) -> Result<Vec<u8>, AllocError>
     ensures { IfOk result (λ all. all.items ≡ guarding_lf source.now bytes.items ++ bytes.items) }
 {
     if begins_like_byte_order_mark(&bytes) && !begins_like_byte_order_mark(source) {

@@ -1,4 +1,5 @@
-//! Renames a key of a `.properties` source where it stands, or removes it with its comment, and keeps every other byte.
+//! Renames a key of a `.properties` source where it stands, sets its comment, or removes both, and keeps every other
+//! byte.
 //!
 //! ```text
 //! let options = SourceOptions::new(Encoding::UTF_8);
@@ -10,11 +11,14 @@
 //! ```
 #![tactic(auto)]
 
+pub mod comment_lines;
+mod commenting;
 mod comments;
 mod copied;
 pub mod laws;
 mod renaming;
 
+pub use commenting::set_comment;
 pub use comments::remove_with_comment;
 pub use properties_editing::{Comments, SourceOptions};
 pub use properties_items::error::{ErrorKind, PropertiesError};

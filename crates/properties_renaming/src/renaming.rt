@@ -300,7 +300,7 @@ fn has_sign(line: &str) -> bool
 }
 
 // Returns the characters that are printed as they are by these options, in this encoding.
-fn repertoire_for(options: SourceOptions, encoding: Encoding) -> Repertoire
+pub(crate) fn repertoire_for(options: SourceOptions, encoding: Encoding) -> Repertoire
     ensures { let output = output_encoding (encoding_of encoding) in
         PrintsKeys (in_encoding (asked_for options) output) result }
 {

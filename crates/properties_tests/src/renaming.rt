@@ -1,7 +1,8 @@
-// Sources in which a key is renamed, or removed with its comment, and what comes of each.
+// Sources in which a key is renamed, its comment set, or both removed, and what comes of each.
 
 use java_properties::{
-    Comments, Encoding, ErrorKind, RenameError, SourceOptions, remove_with_comment, rename_key,
+    Comments, Encoding, ErrorKind, RenameError, SourceOptions, comment_of, remove_with_comment,
+    rename_key, set_comment,
 };
 use std::alloc::Global;
 use std::process::Abort;
@@ -229,4 +230,139 @@ fn a_source_with_a_malformed_escape_keeps_its_comments(rt: HostRuntime) -> Resul
     };
     let row: [Removed; 1] = [(b"# C:\\users\na=1\nb=2\n", "a", b"b=2\n")];
     check_removed(&rt, rt.alloc(), passed_over, row.as_slice())
+}
+
+// A source, a key, the text of its comment, and the source after that was set.
+type Commented = (&'static [u8], &'static str, &'static str, &'static [u8]);
+
+fn check_commented(
+    rt: &impl Abort,
+    alloc: Global,
+    options: SourceOptions,
+    rows: &[Commented],
+) -> Result<(), Fail> {
+    for (row, (source, key, text, wanted)) in rows.iter().enumerate() {
+        let commented = set_comment(alloc, source, options, key, text)?;
+        same(rt, row, commented.as_slice(), *wanted);
+    }
+    Ok(())
+}
+
+#[test]
+fn the_comment_of_a_key_is_set(rt: HostRuntime) -> Result<(), Fail> {
+    let rows: [Commented; 12] = [
+        (b"# old\na=1\n", "a", "new", b"# new\na=1\n"),
+        (b"a=1\n", "a", "new", b"# new\na=1\n"),
+        (b"a=1", "a", "new", b"# new\na=1"),
+        (
+            b"b=2\r\n  a=1\r\n",
+            "a",
+            "x\ny",
+            b"b=2\r\n  # x\r\n  # y\r\n  a=1\r\n",
+        ),
+        (b"#a\n# b\nk=1\n", "k", "a\nb", b"#a\n# b\nk=1\n"),
+        (b"# old\na=1\n", "a", "C:\\new\\", b"# C:\\new\\\na=1\n"),
+        (b"# old\na=1\n", "a", "x\r\ny\rz\n", b"# x\n# y\n# z\na=1\n"),
+        (b"a=1\n", "a", "\r\r\n\nx", b"#\n#\n#\n# x\na=1\n"),
+        (b"# one\n\n# two\na=1\n", "a", "", b"# one\n\na=1\n"),
+        (b"# one\nb=1\na=1\n", "a", "", b"# one\nb=1\na=1\n"),
+        (b"# one\na=1\n# two\na=2", "a", "x", b"# one\na=1\n# x\na=2"),
+        (
+            b"\xef\xbb\xbf# one\na=1\n",
+            "a",
+            "\u{e9}",
+            b"\xef\xbb\xbf# \xc3\xa9\na=1\n",
+        ),
+    ];
+    let options = SourceOptions::new(Encoding::UTF_8);
+    check_commented(&rt, rt.alloc(), options, rows.as_slice())
+}
+
+#[test]
+fn new_comment_lines_look_like_the_old_ones(rt: HostRuntime) -> Result<(), Fail> {
+    let rows: [Commented; 7] = [
+        (
+            b"#\n  !old\r#x\na=1",
+            "a",
+            "p\n\nq",
+            b"  !p\r  !\r  !q\ra=1",
+        ),
+        (b"#old\na=1\n", "a", " x", b"#  x\na=1\n"),
+        (b"#\told\r\na=1\n", "a", "x\n y", b"#\tx\r\n#\t y\r\na=1\n"),
+        (b"#\n#\n a=1", "a", "x", b" # x\n a=1"),
+        (b"# \xe3\x81\x82\na=1\n", "a", "", b"a=1\n"),
+        (
+            b" \t! one\n! two\na=1\r",
+            "a",
+            "\u{3042}",
+            b" \t! \xe3\x81\x82\na=1\r",
+        ),
+        (
+            b"\t\\\n  a=1\\\n  2\r\n",
+            "a",
+            "x",
+            b"\t# x\r\n\t\\\n  a=1\\\n  2\r\n",
+        ),
+    ];
+    let options = SourceOptions::new(Encoding::UTF_8);
+    check_commented(&rt, rt.alloc(), options, rows.as_slice())
+}
+
+#[test]
+fn a_comment_has_what_the_encoding_has(rt: HostRuntime) -> Result<(), Fail> {
+    let rows: [Commented; 3] = [
+        (b"a=1\n", "a", "\u{e9} \u{3042}", b"# \xe9 \\u3042\na=1\n"),
+        (b"#\xe9\na=1\n", "a", "\u{e9}", b"#\xe9\na=1\n"),
+        // What is left would begin like a byte order mark.
+        (
+            b"# x\n\xef\xbb\xbf=1\n",
+            "\u{ef}\u{bb}\u{bf}",
+            "",
+            b"\n\xef\xbb\xbf=1\n",
+        ),
+    ];
+    let windows = SourceOptions::new(Encoding::WINDOWS_1252);
+    check_commented(&rt, rt.alloc(), windows, rows.as_slice())?;
+    let ascii = SourceOptions {
+        ascii_only: true,
+        ..SourceOptions::new(Encoding::UTF_8)
+    };
+    let row: [Commented; 1] = [(b"a=1\n", "a", "\u{e9}", b"# \\u00e9\na=1\n")];
+    check_commented(&rt, rt.alloc(), ascii, row.as_slice())
+}
+
+#[test]
+fn a_comment_that_was_set_is_read(rt: HostRuntime) -> Result<(), Fail> {
+    let options = SourceOptions::new(Encoding::UTF_8);
+    let source = b"#old\na=1\n";
+    let commented = set_comment(rt.alloc(), source, options, "a", " x\n\n\u{e9}")?;
+    let Some(texts) = comment_of(rt.alloc(), &commented, Encoding::UTF_8, "a")? else {
+        panic!(rt; "the key is there");
+    };
+    let [first, second, third] = texts.as_slice() else {
+        panic!(rt; "there are three lines");
+    };
+    same(&rt, 1, first.as_str(), " x");
+    same(&rt, 2, second.as_str(), "");
+    same(&rt, 3, third.as_str(), "\u{e9}");
+    Ok(())
+}
+
+#[test]
+fn a_comment_needs_its_key(rt: HostRuntime) {
+    let rows: [(&'static [u8], Why); 3] = [
+        (b"# old\nb=1\n", Why::NoKey),
+        (b"\xff\xfea\0=\0", Why::Source(ErrorKind::Unsupported, None)),
+        (
+            b"b=\\u12\n",
+            Why::Source(ErrorKind::NotEnoughDigits, Some(1)),
+        ),
+    ];
+    let options = SourceOptions::new(Encoding::UTF_8);
+    for (row, (source, wanted)) in rows.iter().enumerate() {
+        match set_comment(rt.alloc(), source, options, "a", "x") {
+            Ok(_) => panic!(rt; "row {row}"),
+            Err(error) => same(&rt, row, reason_of(&error), *wanted),
+        }
+    }
 }

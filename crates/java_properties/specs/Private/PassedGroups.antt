@@ -1,9 +1,8 @@
 -- How the comment of a key is found, as one group after another is passed.
-use Rattle.std.specs.Prelude.{◌≡◌, ◌⊎◌, ◌==◌, ◌&&◌, ℕ, Bool, true, false, if◌then◌else◌, List, [], ◌∷◌, ◌++◌, map, Option, Some, None, Result, Ok, Err}
+use Rattle.std.specs.Prelude.{◌≡◌, ◌⊎◌, ℕ, Bool, true, false, List, [], ◌∷◌, ◌++◌, map, Option, Some, Result, Ok, Err}
 use Rattle.std.specs.Option.{option_map}
 use Rattle.std.specs.declared.string.String.{String}
 use Rattle.std.specs.declared.vec.Vec.{Vec}
-use Rattle.properties_format.specs.Text.{is_blank}
 use Rattle.properties_format.specs.Lines.{is_comment_line}
 use Rattle.properties_format.specs.Split.{Logical, IsSplit}
 use Rattle.properties_format.specs.Computed.Body.{is_pair_with}
@@ -16,24 +15,8 @@ use Rattle.properties_items.specs.declared.error.ErrorKind.TheVariants as reason
 use Rattle.properties_items.specs.declared.error.PropertiesError.{PropertiesError}
 use Rattle.properties_editing.specs.Views.{kind_of}
 use Rattle.properties_editing.specs.declared.group.GroupKind.{GroupKind}
-use Rattle.properties_editing.specs.declared.group.GroupKind.TheVariants as kind
-use Rattle.properties_editing.specs.declared.group.ViewedGroup.{ViewedGroup}
-use Rattle.java_properties.specs.Commented.{IsCommentLine}
+use Rattle.properties_renaming.specs.CommentLines.{IsCommentLine}
 use Rattle.java_properties.specs.declared.comments.Passed.{Passed}
-
--- whether the kind is that of a comment
-abbrev pub is_comment : GroupKind → Bool
-is_comment kind.Comment = true
-is_comment other = false
-
--- whether a group is a comment line
-abbrev pub is_line_of_comment : ViewedGroup → Bool
-is_line_of_comment group = is_comment group.kind && (group.line_count == 1)
-
--- the text without the blank that it begins with, if it begins with one
-abbrev pub without_first_blank : List ℕ → List ℕ
-without_first_blank [] = []
-without_first_blank (c ∷ cs) = if is_blank c then cs else c ∷ cs
 
 -- A group is what its logical line is.
 abbrev pub IsKindOf : GroupKind → List ℕ → Type 0

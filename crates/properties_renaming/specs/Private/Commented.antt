@@ -1,5 +1,5 @@
 -- How the pairs with a key are left out with their comment lines, group after group of a view.
-use Rattle.std.specs.Prelude.{◌≡◌, ◌⊎◌, ◌==◌, ◌&&◌, ◌++◌, ℕ, ◌+◌, Bool, true, false, List, ◌∷◌, length, Option, Some, None, Result, Ok, Err}
+use Rattle.std.specs.Prelude.{◌≡◌, ◌⊎◌, ◌++◌, ℕ, ◌+◌, false, List, ◌∷◌, length, Option, Some, None, Result, Ok, Err}
 use Rattle.std.specs.Global.{Vec}
 use Rattle.properties_format.specs.Encoding.{Encoding, byte_order_mark}
 use Rattle.properties_format.specs.Body.{HeldLine, groups_bytes}
@@ -7,22 +7,11 @@ use Rattle.properties_format.specs.Edited.{bom_of, is_editable}
 use Rattle.properties_items.specs.Errors.{IsBareError}
 use Rattle.properties_items.specs.declared.error.ErrorKind.TheVariants as error
 use Rattle.properties_items.specs.declared.error.PropertiesError.{PropertiesError}
-use Rattle.properties_editing.specs.declared.group.GroupKind.{GroupKind}
-use Rattle.properties_editing.specs.declared.group.GroupKind.TheVariants as kind
-use Rattle.properties_editing.specs.declared.group.ViewedGroup.{ViewedGroup}
 use Rattle.properties_editing.specs.Views.{IsGroup, OpenView, past}
-use Rattle.properties_renaming.specs.Commented.{AreCommentGroups, AreOthers, IsCommentGroup}
+use Rattle.properties_renaming.specs.CommentLines.{AreCommentGroups, IsCommentGroup}
+use Rattle.properties_renaming.specs.Commented.{AreOthers}
 use Rattle.properties_renaming.specs.Renaming.{AreIn}
 use Rattle.properties_renaming.specs.declared.comments.Headed.{Headed}
-
--- whether the kind is that of a comment
-abbrev pub is_comment : GroupKind → Bool
-is_comment kind.Comment = true
-is_comment other = false
-
--- whether a group is a comment line
-abbrev pub is_line_of_comment : ViewedGroup → Bool
-is_line_of_comment group = is_comment group.kind && (group.line_count == 1)
 
 -- The next group that isn't a comment line was given, with the comment lines directly above it;
 pub record TakesHeaded (old : OpenView) (headed : Headed) (new : OpenView) : Type 0 where

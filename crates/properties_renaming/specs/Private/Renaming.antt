@@ -4,13 +4,14 @@ use Rattle.std.specs.Str.{chars}
 use Rattle.properties_format.specs.Text.{backslash, begins, equals_sign, is_blank, is_blanks, is_line_ending}
 use Rattle.properties_format.specs.Encoding.{Characters, Encoding, Repertoire, byte_order_mark, in_force}
 use Rattle.properties_format.specs.Split.{IsPair}
-use Rattle.properties_format.specs.Printing.{encoded_text, printed_key}
+use Rattle.properties_format.specs.Printing.{encoded_text, in_prefix, printed_characters, printed_key}
 use Rattle.properties_format.specs.Items.{Outcome}
 use Rattle.properties_format.specs.Body.{AreGroupsOf, HasKey, HeldLine, NoneHasKey, group_bytes, held_in}
 use Rattle.properties_format.specs.Edited.{bom_of, is_editable}
 use Rattle.properties_format.specs.Computed.Body.{is_pair_with}
 use Rattle.properties_format.specs.Computed.Valued.{between_in}
-use Rattle.properties_text.specs.Printing.{AppendsOnOk, key_bytes}
+use Rattle.properties_text.specs.Printing.{AppendsOnOk, key_bytes, text_bytes}
+use Rattle.properties_text.specs.declared.print.Place.TheVariants.{Prefix}
 use Rattle.properties_text.specs.declared.print.Repertoire as code
 use Rattle.properties_items.specs.declared.error.ErrorKind.TheVariants as kind
 use Rattle.properties_items.specs.declared.error.PropertiesError.{PropertiesError}
@@ -56,9 +57,10 @@ IsAnyPair x = (key : List ℕ) × (value : List ℕ) × IsPair x key value
 abbrev pub TellsSign : List ℕ → Bool → Type 0
 TellsSign x sign = IsAnyPair x → sign ≡ not (is_blanks (between_in x))
 
--- Keys are printed in the first repertoire as in the second.
+-- Keys and the texts of comments are printed in the first repertoire as in the second.
 pub record PrintsKeys (t : Repertoire) (r : code.Repertoire) : Type 0 where
   pub keys : (first : Bool) (key : List ℕ) → key_bytes r first key ≡ encoded_text t.encoding (printed_key t first key)
+  pub comments : (text : List ℕ) → text_bytes r Prefix text ≡ encoded_text t.encoding (printed_characters t in_prefix text)
   pub sign : encoded_text t.encoding (equals_sign ∷ []) ≡ equals_sign ∷ []
 
 -- What is put in for the key of this pair was appended.

@@ -1,7 +1,7 @@
 use Rattle.std.proofs.Common.{ap, ◌∙◌}
 use Rattle.std.specs.Str.{chars}
-use Rattle.java_properties.proofs.CommentTexts.{none-first, some-first}
-use Rattle.java_properties.proofs.comments.without_first_blank.Goals as goal
+use Rattle.properties_renaming.proofs.CommentTexts.{none-first, some-first}
+use Rattle.properties_renaming.proofs.comment_lines.without_first_blank.Goals as goal
 
 pub returns-then-blanks-eq0 : goal.returns-then-blanks-eq0
 returns-then-blanks-eq0 c =

@@ -1,10 +1,9 @@
-use Rattle.std.proofs.Common.{◌≡◌, ◌≤◌, length, drop, ap, subst, sym, ◌∙◌}
+use Rattle.std.proofs.Common.{ap, subst, sym, ◌∙◌}
 use Rattle.std.specs.Str.{chars}
-use Rattle.properties_format.specs.Text.{without_leading_blanks}
-use Rattle.java_properties.specs.Commented.{IsCommentLine}
-use Rattle.java_properties.specs.Private.PassedGroups.{without_first_blank}
-use Rattle.java_properties.proofs.CommentTexts.{comment-text}
-use Rattle.java_properties.proofs.comments.comment_text.Goals as goal
+use Rattle.properties_renaming.specs.CommentLines.{IsCommentLine}
+use Rattle.properties_renaming.specs.Private.CommentTexts.{without_first_blank}
+use Rattle.properties_renaming.proofs.CommentTexts.{comment-text}
+use Rattle.properties_renaming.proofs.comment_lines.comment_text.Goals as goal
 
 pub range_from-requires : goal.range_from-requires
 range_from-requires c = λ _.

@@ -1,0 +1,17 @@
+use Rattle.properties_renaming.specs.Private.Commenting.{style_in}
+use Rattle.properties_renaming.proofs.NewComments.{model-held, pair-held, style-as_line, style-as_pair}
+use Rattle.properties_renaming.proofs.commenting.style_for.Goals as goal
+
+pub style_of-requires : goal.style_of-requires
+style_of-requires c =
+    let h = c.requires.1.1 in
+    let m = rw c.in-Some.is at h.found_is.model in (m.line, model-held h c.in-Some.line m)
+
+pub style_above-requires : goal.style_above-requires
+style_above-requires c = let h = c.requires.1.1 in (h.found_is.group, pair-held h)
+
+pub returns-in-Some : goal.returns-in-Some
+returns-in-Some c = λ e key h. style-as_line h c.in-Some.line (style_in c.style_of.result) c.in-Some.is c.style_of.ensures
+
+pub returns-in-None : goal.returns-in-None
+returns-in-None c = λ e key h. style-as_pair h (style_in c.style_above.result) c.in-None.is c.style_above.ensures

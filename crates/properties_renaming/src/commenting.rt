@@ -1,0 +1,358 @@
+// The comment of a key is set: the comment lines directly above the last pair with it.
+
+ghost use Rattle.std.specs.Prelude.{◌≡◌, ◌<◌, List, flat_map, length, map, IfOk, OnOk, OnSome};
+ghost use Rattle.std.specs.Str.{chars};
+ghost use Rattle.properties_format.specs.Text.{is_line_ending};
+ghost use Rattle.properties_format.specs.Body.{HeldLine, group_bytes};
+ghost use Rattle.properties_items.specs.Texts.{characters};
+ghost use Rattle.properties_text.specs.Encoding.{encoding_of};
+ghost use Rattle.properties_text.specs.Printing.{AppendsOnOk};
+ghost use Rattle.properties_editing.specs.Editing.{asked_for};
+ghost use Rattle.properties_renaming.specs.Commenting.{AreLinesOf, IsStyleAbove, IsStyleOfLine, SetsComment, ending_of, gap_before};
+ghost use Rattle.properties_renaming.specs.Private.CommentTexts.{first_blank};
+ghost use Rattle.properties_renaming.specs.Private.Commenting.{FindsComment, GivesComment, HoldsGroup, HoldsLine, IsFound, IsFoundSome, IsFoundStyle, MakesComment, PutsLines, ReadsCharacter, first_model, line_bytes, style_in};
+
+use crate::comment_lines::{comment_text, is_comment_line};
+use crate::comments::{Headed, guarded, has_key};
+use crate::copied::Copied;
+use crate::renaming::{RenameError, repertoire_for};
+use properties_editing::{SourceOptions, View, ViewedGroup, edit_with};
+use properties_items::error::PropertiesError;
+use properties_text::encoding::Encoding;
+use properties_text::encoding::byte_order_mark::encoding_in_force;
+use properties_text::parse::leading_blanks;
+use properties_text::print::{LineBuffer, Place, Repertoire, print_text};
+use std::alloc::{AllocError, Global};
+use std::mem;
+
+/// Returns the source with the comment of a key set: the comment lines directly above the last pair with the key.
+///
+/// `text` is divided at line feeds, carriage returns and both together, and a last empty line doesn't count. So the
+/// empty text removes the comment, and a line feed alone makes one line, `#`. If the comment has these lines already,
+/// the result is a copy of the source. Otherwise new lines replace the old ones, and every other byte stays.
+///
+/// New lines look like the first old one that has a text: its indentation, its sign, the blank after it or none, and its
+/// line ending. If there is none, they have the indentation of the pair, `# `, and the line ending of the pair, or a
+/// line feed if it has none. No blank is before an empty text, and one always is before a text that begins with a blank,
+/// so that it is read as it is. Characters that these options don't let stand are written as escapes, and no others: a
+/// backslash stays. If the source has no byte order mark and the result would begin like one, a line feed is inserted
+/// before it.
+///
+/// The source is read twice.
+///
+/// Fails with [`NoKey`](RenameError::NoKey) if no pair has the key. Before that, a source is refused with the error of
+/// [`edit_with`].
+///
+/// ```text
+/// let options = SourceOptions::new(Encoding::UTF_8);
+/// let commented = set_comment(alloc, b"port = 80\n", options, "port", "the front door")?;
+/// // It is `# the front door` and `port = 80`, each with a line feed.
+/// ```
+pub fn set_comment(
+    alloc: Global,
+    source: &[u8],
+    options: SourceOptions,
+    key: &str,
+    text: &str,
+) -> Result<Vec<u8>, RenameError>
+    ensures { SetsComment options source.now (chars key.now) (chars text.now) result }
+{
+    // What an edit would refuse is refused.
+    edit_with(alloc, source, options, &[])?;
+    match with_comment(alloc, source, options, key, text)? {
+        Some(bytes) => Ok(bytes),
+        None => Err(RenameError::NoKey),
+    }
+}
+
+// Returns the source with the comment of a key set, or `None` if no pair has the key.
+fn with_comment(
+    alloc: Global,
+    source: &[u8],
+    options: SourceOptions,
+    key: &str,
+    text: &str,
+) -> Result<Option<Vec<u8>>, PropertiesError>
+    ensures { MakesComment (asked_for options) source.now (chars key.now) (chars text.now) result }
+{
+    let Some(comment) = find_comment(alloc, source, options.encoding, key)? else {
+        return Ok(None);
+    };
+    let lines = lines_of(alloc, text)?;
+    if comment.texts == lines {
+        let same = source.to_vec(alloc)?;
+        return Ok(Some(same));
+    }
+    let bytes = with_lines(alloc, source, options, &comment, &lines)?;
+    Ok(Some(bytes))
+}
+
+// A group that isn't a comment line, with the comment lines directly above it.
+#[derive(Drop)]
+struct Comment {
+    headed: Headed,
+    // What follows the sign and one blank, of each comment line.
+    texts: Vec<String>,
+    // The first of these lines that has a text.
+    model: Option<ViewedGroup>,
+}
+
+// Returns the last pair with a key, with its comment.
+fn find_comment(
+    alloc: Global,
+    source: &[u8],
+    encoding: Encoding,
+    key: &str,
+) -> Result<Option<Comment>, PropertiesError>
+    ensures { FindsComment (encoding_of encoding) source.now (chars key.now) result }
+{
+    let mut view = View::open(alloc, source, encoding)?;
+    let mut found: Option<Comment> = None;
+    while let Some(comment) = next_comment(alloc, &mut view)? {
+        if has_key(alloc, view.line(), key)? {
+            found = Some(comment);
+        }
+    }
+    Ok(found)
+}
+
+// Returns the next group that isn't a comment line, with the comment lines directly above it, or `None` if comment lines
+// alone are to come.
+fn next_comment(alloc: Global, view: &mut View<'_>) -> Result<Option<Comment>, AllocError>
+    ensures gives { IfOk result (λ comment. GivesComment view.old comment view.new) }
+    ensures nearer { IfOk result (λ comment. OnSome comment (length view.new.to_come < length view.old.to_come)) }
+{
+    let mut texts = Vec::new(alloc);
+    let mut model: Option<ViewedGroup> = None;
+    let mut above: Option<usize> = None;
+    while let Some(group) = view.next()? {
+        let start = above.unwrap_or(group.start);
+        if !is_comment_line(group) {
+            return Ok(Some(Comment {
+                headed: Headed { start, group },
+                texts,
+                model,
+            }));
+        }
+        let text = comment_text(view.line());
+        model = first_model(model, group, text);
+        texts.push(String::from_str(alloc, text)?)?;
+        above = Some(start);
+    }
+    Ok(None)
+}
+
+// Returns the first comment line that has a text, given that before this one.
+fn first_model(model: Option<ViewedGroup>, line: ViewedGroup, text: &str) -> Option<ViewedGroup>
+    ensures { result ≡ first_model model line (chars text.now) }
+{
+    if text.is_empty() {
+        return model;
+    }
+    Some(model.unwrap_or(line))
+}
+
+// Returns the source with these comment lines above a pair, in place of those that are there.
+fn with_lines(
+    alloc: Global,
+    source: &[u8],
+    options: SourceOptions,
+    comment: &Comment,
+    lines: &[String],
+) -> Result<Vec<u8>, AllocError>
+    requires { IsFound (encoding_of options.encoding) source.now comment.now }
+    ensures { IfOk result (λ bytes. PutsLines (asked_for options) source.now comment.now (map characters lines.now) bytes.items) }
+{
+    let (encoding, _) = encoding_in_force(source, options.encoding);
+    let repertoire = repertoire_for(options, encoding);
+    let mut new = LineBuffer::new(alloc);
+    let style = style_for(source, comment);
+    print_lines(&mut new, repertoire, style, lines)?;
+    let mut copied = Copied::new(alloc, source)?;
+    copied.replace(
+        comment.headed.start,
+        comment.headed.group.start,
+        new.as_slice(),
+    )?;
+    let others = copied.finish()?;
+    let bytes = guarded(source, others)?;
+    Ok(bytes)
+}
+
+// What a comment line has around its text.
+#[derive(Clone, Copy)]
+struct Style<'a> {
+    indent: &'a [u8],
+    sign: u8,
+    blank: &'a [u8],
+    ending: &'a [u8],
+}
+
+// Returns what new comment lines have.
+fn style_for<'a>(source: &'a [u8], comment: &Comment) -> Style<'a>
+    requires { IsFoundSome source.now comment.now }
+    ensures { IsFoundStyle source.now comment.now (style_in result) }
+{
+    match comment.model {
+        Some(line) => style_of(source, line),
+        None => style_above(source, comment.headed.group),
+    }
+}
+
+// Returns what a comment line has.
+fn style_of(source: &[u8], line: ViewedGroup) -> Style<'_>
+    requires { (g : List HeldLine) × HoldsLine source.now g line }
+    ensures { (g : List HeldLine) → HoldsLine source.now g line → IsStyleOfLine g (style_in result) }
+{
+    let bytes = bytes_of(source, line);
+    let sign = leading_blanks(bytes);
+    Style {
+        indent: &bytes[..sign],
+        sign: bytes[sign],
+        blank: first_blank(&bytes[sign + 1..]),
+        ending: ending_of(source, line),
+    }
+}
+
+// Returns what the first comment line above a pair has.
+fn style_above(source: &[u8], pair: ViewedGroup) -> Style<'_>
+    requires { (g : List HeldLine) × HoldsGroup source.now g pair }
+    ensures { (g : List HeldLine) → HoldsGroup source.now g pair → IsStyleAbove g (style_in result) }
+{
+    let bytes = bytes_of(source, pair);
+    Style {
+        indent: &bytes[..leading_blanks(bytes)],
+        sign: b'#',
+        blank: b" ",
+        ending: ending_of(source, pair),
+    }
+}
+
+// Returns the bytes of a group.
+fn bytes_of(source: &[u8], group: ViewedGroup) -> &[u8]
+    requires { (g : List HeldLine) × HoldsGroup source.now g group }
+    ensures { (g : List HeldLine) → HoldsGroup source.now g group → result.now ≡ group_bytes g }
+{
+    &source[group.start..group.next]
+}
+
+// Returns the blank that a text begins with, or nothing.
+fn first_blank(bytes: &[u8]) -> &[u8]
+    ensures { result.now ≡ first_blank bytes.now }
+{
+    if leading_blanks(bytes) == 0 {
+        return b"";
+    }
+    &bytes[..1]
+}
+
+// Returns the line ending of a group, or a line feed if it has none.
+fn ending_of(source: &[u8], group: ViewedGroup) -> &[u8]
+    requires { (g : List HeldLine) × HoldsGroup source.now g group }
+    ensures { (g : List HeldLine) → HoldsGroup source.now g group → result.now ≡ ending_of g }
+{
+    let ending = &source[group.end..group.next];
+    if ending.is_empty() { b"\n" } else { ending }
+}
+
+// Appends comment lines with these texts.
+fn print_lines(
+    line: &mut LineBuffer,
+    repertoire: Repertoire,
+    style: Style<'_>,
+    lines: &[String],
+) -> Result<(), AllocError>
+    ensures { AppendsOnOk line.old (flat_map (line_bytes repertoire style.entry) (map characters lines.now)) result line.new }
+{
+    for text in lines {
+        print_line(line, repertoire, style, text)?;
+    }
+    Ok(())
+}
+
+// Appends a comment line with this text.
+fn print_line(
+    line: &mut LineBuffer,
+    repertoire: Repertoire,
+    style: Style<'_>,
+    text: &str,
+) -> Result<(), AllocError>
+    ensures { AppendsOnOk line.old (line_bytes repertoire style.entry (chars text.now)) result line.new }
+{
+    line.extend(style.indent)?;
+    line.extend(&[style.sign])?;
+    line.extend(gap_before(style.blank, text))?;
+    print_text(line, repertoire, Place::Prefix, text)?;
+    line.extend(style.ending)
+}
+
+// Returns what comes between the sign and a text, so that it is read as it is.
+fn gap_before<'a>(blank: &'a [u8], text: &str) -> &'a [u8]
+    ensures { result.now ≡ gap_before blank.now (chars text.now) }
+{
+    if text.is_empty() {
+        return b"";
+    }
+    if leading_blanks(text.as_bytes()) == 0 {
+        return blank;
+    }
+    if blank.is_empty() {
+        return b" ";
+    }
+    blank
+}
+
+// Returns the lines of a text. The last one counts only if it isn't empty.
+fn lines_of(alloc: Global, text: &str) -> Result<Vec<String>, AllocError>
+    ensures { IfOk result (λ lines. AreLinesOf (chars text.now) (map characters lines.items)) }
+{
+    let mut lines = TextLines {
+        ended: Vec::new(alloc),
+        last: String::new(alloc),
+        after_cr: false,
+    };
+    for character in text.chars() {
+        lines.push(alloc, character)?;
+    }
+    let TextLines {
+        mut ended,
+        last,
+        ..
+    } = lines;
+    if !last.as_str().is_empty() {
+        ended.push(last)?;
+    }
+    Ok(ended)
+}
+
+// The lines of a text, as far as it was read.
+#[derive(Drop)]
+struct TextLines {
+    ended: Vec<String>,
+    last: String,
+    // Whether the text ends in a CR, to which an LF after it belongs.
+    after_cr: bool,
+}
+
+impl TextLines {
+    // Reads one more character.
+    fn push(&mut self, alloc: Global, character: char) -> Result<(), AllocError>
+        ensures { OnOk result (ReadsCharacter self.old character self.new) }
+    {
+        let after_cr = mem::replace(&mut self.after_cr, character == '\r');
+        if !is_ending(character) {
+            self.last.push(character)?;
+        } else if !(after_cr && character == '\n') {
+            let line = mem::replace(&mut self.last, String::new(alloc));
+            self.ended.push(line)?;
+        }
+        Ok(())
+    }
+}
+
+// Returns whether a character ends a line.
+fn is_ending(character: char) -> bool
+    ensures { result ≡ is_line_ending character }
+{
+    character == '\n' || character == '\r'
+}
