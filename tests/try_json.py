@@ -16,6 +16,9 @@ import tempfile
 from try_diff import PIECES, firsts, is_sound, pairs, shown, table, text
 
 PREFIXES = ["", "", "", "a", "ab", "é", "b"]
+# The kinds that `--ignore` takes.
+KINDS = ["byte-order-mark", "utf-32-mark", "u-feff", "non-ascii", "read-otherwise", "looks-like-utf-8", "blank-after-backslash",
+         "backslash-at-end", "repeated-key", "missing-key", "surplus-key"]
 
 
 def listed(rows, prefix):
@@ -108,6 +111,12 @@ def main(program, count):
             if ([finding for finding in found if "key" in dict(finding)], [line_of(finding) for finding in found], status) != (
                     wanted, plain.stdout.decode().split("\n")[:-1], plain.returncode):
                 print(f"old {old!r}\nnew {new!r}\n{words}\nfound {found}\nwanted {wanted}", file=sys.stderr)
+                sys.exit(1)
+            kinds = draw.sample(KINDS, draw.randint(1, 4)) + draw.choice([[], ["repeated-key"]])
+            words = ["check", "--ignore", ",".join(kinds), *words[1:]]
+            left = [finding for finding in found if dict(finding)["kind"] not in kinds]
+            if answer(program, folder, words) != (left, 1 if left else 0):
+                print(f"old {old!r}\nnew {new!r}\n{words}\nwanted {left}", file=sys.stderr)
                 sys.exit(1)
             passed += 1
     print(f"{passed} pairs of files passed")

@@ -1,5 +1,5 @@
 #!/usr/bin/env python3
-"""Compares what propedit merges with the maps of both files, on 2,000 random pairs of files.
+"""Compares what propedit merges with the maps of both files, on 10,000 random pairs of files.
 
     tests/try_merge.py PROPEDIT
 
@@ -13,7 +13,7 @@ import subprocess
 import sys
 import tempfile
 
-HOW_MANY = 2000
+HOW_MANY = 10000
 KEYS = ["a", "b", "k", "é", "a b", ":", "", "ключ", "\\", "a=b"]
 BREAK = "\\\n  "
 VALUES = ["", "1", " x", "x ", "C:\\tmp", "=", "# no", "\t", "é €", "🐞", "two\nlines", "a\\"]

@@ -84,8 +84,8 @@ run --help
 gives 0 "$(cat ../output)\n" ''
 cp ../output ../usage
 for words in 'Usage: propedit COMMAND [OPTION ..] [ARGUMENT ..]' '  get KEY ..  ' '  list [PREFIX]  ' '  comment KEY  ' '  check [FILE ..]  ' '  diff OLD NEW  ' \
-    '  set KEY VALUE  ' '  remove KEY  ' '  rename OLD NEW  ' '  merge FILE  ' '  convert ENCODING  ' '  help [COMMAND]  ' '-f, --file FILE' '-i, --in-place FILE' '--create' '-e, --encoding NAME' \
-    '-d, --default VALUE' '-z, --null' '-v, --values' '-a, --ascii' '-x, --existing' '--known' '--base FILE' '--pairs' '-q, --quiet' '-v, --verbose' '-r, --readable' '-h, --help' '-V, --version' 'utf-8 (default)' iso-8859-1 \
+    '  set KEY VALUE  ' '  remove KEY  ' '  rename OLD NEW  ' '  set-comment KEY TEXT ' '  merge FILE  ' '  convert ENCODING  ' '  help [COMMAND]  ' '-f, --file FILE' '-i, --in-place FILE' '--create' '-e, --encoding NAME' \
+    '-d, --default VALUE' '-z, --null' '-v, --values' '-a, --ascii' '-x, --existing' '--with-comment' '--known' '--base FILE' '--pairs' '--ignore KIND' '-q, --quiet' '-v, --verbose' '-r, --readable' '-h, --help' '-V, --version' 'utf-8 (default)' iso-8859-1 \
     'Options come before or after the command, but before its first argument' "comes after '--'" 'standard input' \
     'Status: 0'; do
     grep -qF -- "$words" ../usage || fail "the usage lacks: $words"
@@ -95,9 +95,9 @@ is "$(awk 'length > 80' ../usage)" ''
 run -h
 gives 0 "$(cat ../usage)\n" ''
 run --version
-gives 0 'propedit 1.19.0\n' ''
+gives 0 'propedit 1.20.0\n' ''
 run -V
-gives 0 'propedit 1.19.0\n' ''
+gives 0 'propedit 1.20.0\n' ''
 run -f nowhere --help get
 gives 0 "$(cat ../usage)\n" ''
 run help
@@ -118,11 +118,12 @@ done <<'end'
 get file encoding default null
 list file encoding null values json
 comment file encoding
-check file encoding json ascii base pairs quiet
+check file encoding json ascii base pairs ignore quiet
 diff encoding json
-set file in-place create encoding ascii existing verbose
-remove file in-place create encoding ascii existing verbose
-rename file in-place create encoding ascii existing verbose
+set file in-place create encoding ascii existing with-comment verbose
+remove file in-place create encoding ascii existing with-comment verbose
+rename file in-place create encoding ascii existing with-comment verbose
+set-comment file in-place create encoding ascii existing with-comment verbose
 merge file in-place create encoding null ascii existing known verbose
 convert file in-place encoding readable
 end
@@ -130,9 +131,9 @@ run help help
 gives 0 "$(cat ../output)\n" ''
 is "$(head -n 3 ../output)" $'Prints the commands, or the page of one of them\n\nUsage: propedit help [COMMAND]'
 run help remove
-is "$(tail -n 2 ../output)" $'Status: 0 done; 1 no pair has a KEY, and -x is given; 2 an error.\nThe option -a requires a \'set\' or a \'rename\'.'
+is "$(tail -n 2 ../output)" $'Status: 0 done; 1 no pair has a KEY, and -x is given; 2 an error.\nThe option -a requires a \'set\', \'rename\' or \'set-comment\'.'
 run get -V
-gives 0 'propedit 1.19.0\n' ''
+gives 0 'propedit 1.20.0\n' ''
 
 # Each option, short and long.
 
@@ -436,6 +437,29 @@ run check --pairs -q two.properties one.properties
 gives 1 '' ''
 run check -q two.properties
 gives 1 '' ''
+# With --ignore, findings of these kinds are left out, of each file, and don't count.
+printf '\xef\xbb\xbfa=1\nc=2\nk=\\ \nb=\\u12\n' >three.properties
+mark='three.properties:1: begins with a byte order mark, which Java reads as part of a key\n'
+blank='three.properties:3: ends in a backslash and a blank, so the next line does not continue it\n'
+short='three.properties:4: Malformed \\uxxxx encoding: not enough digits.\n'
+run check three.properties
+gives 1 "$mark$blank$short" ''
+run check --ignore byte-order-mark three.properties
+gives 1 "$blank$short" ''
+run --ignore=blank-after-backslash,byte-order-mark check two.properties three.properties
+gives 1 "two.properties:1: Malformed \\\\uxxxx encoding: not hex. (in a comment, which Java and propedit pass over)\n$short" ''
+run check -q --pairs --ignore u-feff,repeated-key two.properties
+gives 0 '' ''
+printf 'a=1\na=2\nk=\\ \n' >three.properties
+run check --ignore repeated-key -f three.properties
+gives 1 "$blank" ''
+run check --ignore blank-after-backslash,repeated-key -f three.properties
+gives 0 '' ''
+run check -q --ignore repeated-key -f three.properties
+gives 1 '' ''
+run --json check --ignore repeated-key -f three.properties
+gives 1 '{"file":"three.properties","line":3,"kind":"blank-after-backslash","message":"ends in a backslash and a blank, so the next line does not continue it"}\n' ''
+rm three.properties
 # With --json, each finding is an object. Statuses are the same.
 printf 'a=1\na=2\n' >one.properties
 object='{"file":"one.properties","line":2,"kind":"repeated-key","key":"a","first":1,"message":"repeats the key \x27a\x27 of line 1"}\n'
@@ -481,6 +505,12 @@ run check --pairs --base base.properties -f one.properties
 gives 1 "$own$repeats$keys" ''
 run check -q --base base.properties one.properties
 gives 1 '' ''
+run check --ignore repeated-key,surplus-key --base base.properties one.properties
+gives 1 "$(head -2 <<<"$keys")\n" ''
+run check --ignore missing-key --base base.properties one.properties
+gives 1 "$own$repeats$(tail -n +3 <<<"$keys")\n" ''
+run check --ignore missing-key,surplus-key,repeated-key --base base.properties one.properties
+gives 0 '' ''
 objects='{"file":"base.properties","line":5,"kind":"repeated-key","key":"price","first":2,"message":"repeats the key \x27price\x27 of line 2"}\n'
 objects+="${objects/base.properties\",\"line\":5/one.properties\",\"line\":4}"
 objects+='{"file":"one.properties","kind":"missing-key","key":"a key","base":"base.properties","base_line":3,"message":"key \x27a key\x27 is missing (base.properties:3)"}
@@ -648,6 +678,40 @@ rm $'b\n.properties'
 printf '# ports\r\n\r\n  host = b\r\n! end' >app.properties
 run set -xv -i app.properties prot 1
 gives 1 '' "propedit: app.properties: no pair has the key 'prot'\n"
+# With --with-comment, remove takes the comment lines above a pair, but none beyond a blank line.
+printf '# head\n\n# the port\n! of the door\nport = 80\n# name\nname : a\nport=81\n' >app.properties
+run -i app.properties remove -x --with-comment port set name b
+gives 0 '' ''
+holds app.properties '# head\n\n# name\nname : b\n'
+run -i app.properties --with-comment -x remove name remove port
+gives 1 '' "propedit: app.properties: no pair has the key 'port'\n"
+run --with-comment -i app.properties remove port
+gives 0 '' ''
+holds app.properties '# head\n\n# name\nname : b\n'
+run -vi app.properties --with-comment rename name port remove port
+gives 0 '' 'app.properties: 0 pairs changed, 0 added, 1 removed\n'
+holds app.properties '# head\n\n'
+run remove --with-comment --create -i new.properties a
+gives 0 '' ''
+is "$(ls new.properties 2>&1 | grep -c 'No such file')" 1
+# set-comment sets the comment lines above the last pair with a key, and keeps all else.
+printf '# head\n\n# the port\n! of the door\nport = 80\n' >app.properties
+run -i app.properties set-comment port $'where it is\nheard\n'
+gives 0 '' ''
+holds app.properties '# head\n\n# where it is\n# heard\nport = 80\n'
+run comment -f app.properties port
+gives 0 'where it is\nheard\n' ''
+run -vi app.properties set-comment port $'where it is\r\nheard'
+gives 0 '' 'app.properties: unchanged\n'
+run -i app.properties set name a set-comment name x set-comment host y
+gives 1 '' "propedit: app.properties: no pair has the key 'host'\n"
+holds app.properties '# head\n\n# where it is\n# heard\nport = 80\n'
+run -vai app.properties set-comment port é set name a set-comment name x
+gives 0 '' 'app.properties: 0 pairs changed, 1 added, 0 removed\n'
+holds app.properties '# head\n\n# \\u00e9\nport = 80\n# x\nname = a\n'
+run -i app.properties set-comment port '' set-comment name ''
+gives 0 '' ''
+holds app.properties '# head\n\nport = 80\nname = a\n'
 # rename keeps all but the key, and changes nothing that it refuses.
 printf '# of the user\r\n  login\\.user : me\\\r\n    too\r\nuser.id=7' >app.properties
 run -v -i app.properties rename login.user user.name
@@ -1125,10 +1189,11 @@ gives 2 '' 'propedit: standard input:2: not UTF-8; if it is in windows-1252 or L
 # Wrong arguments: the message names the word, and the usage is that of the command that was meant.
 
 given 'a = 1\n'
-more='[set .. | remove .. | rename ..] ..'
+more='[EDIT ..]'
 edits="Usage: propedit set [OPTION ..] KEY VALUE $more
        propedit remove [OPTION ..] KEY $more
-       propedit rename [OPTION ..] OLD NEW $more"
+       propedit rename [OPTION ..] OLD NEW $more
+       propedit set-comment [OPTION ..] KEY TEXT $more"
 all="Usage: propedit get [OPTION ..] KEY ..
        propedit list [OPTION ..] [PREFIX]
        propedit comment [OPTION ..] KEY
@@ -1137,6 +1202,7 @@ all="Usage: propedit get [OPTION ..] KEY ..
        propedit set [OPTION ..] KEY VALUE $more
        propedit remove [OPTION ..] KEY $more
        propedit rename [OPTION ..] OLD NEW $more
+       propedit set-comment [OPTION ..] KEY TEXT $more
        propedit merge [OPTION ..] FILE
        propedit convert [OPTION ..] ENCODING
        propedit help [COMMAND]"
@@ -1146,6 +1212,20 @@ shape() {
 targets='utf-8, iso-8859-1, windows-1252 or ascii'
 is_refused "'convert' requires an ENCODING: $targets" "$(shape convert)" convert
 is_refused "cannot convert to 'utf-16le'; use $targets" "$(shape convert)" convert utf-16le
+kinds='byte-order-mark, utf-32-mark, u-feff, non-ascii, read-otherwise, looks-like-utf-8, blank-after-backslash, backslash-at-end, repeated-key, missing-key, surplus-key'
+for word in zero ill-formed; do
+    is_refused "'$word' cannot be ignored: all other commands refuse such a file; use $kinds" "$(shape check)" check --ignore $word one.properties
+done
+is_refused "'malformed-escape' cannot be ignored: all other commands refuse such a file; '--pairs' passes over those in comments" "$(shape check)" \
+    check --ignore u-feff,malformed-escape
+is_refused "unknown kind 'bom'; use $kinds" "$(shape check)" check --ignore bom
+is_refused "unknown kind ''; use $kinds" "$(shape check)" check --ignore u-feff,
+is_refused "unknown kind 'Repeated_Keys'; use $kinds" "$(shape check)" check --ignore Repeated_Keys
+is_refused "unknown kind 'repeated'; did you mean 'repeated-key'?" "$(shape check)" check --ignore u-feff,repeated
+is_refused "unknown kind 'U_FEFF'; did you mean 'u-feff'?" "$(shape check)" check --ignore=U_FEFF
+is_refused "the option '--ignore KIND' requires a KIND" "$(shape check)" check --ignore=
+is_refused "the option '--ignore KIND' is given twice" "$(shape check)" --ignore u-feff check --ignore u-feff
+is_refused "the option '--ignore KIND' cannot be used with 'get'" "$(shape get)" --ignore u-feff get a
 is_refused "cannot convert to 'latin1'; did you mean 'iso-8859-1'?" "$(shape convert)" convert latin1
 is_refused "cannot convert to 'UTF_8'; did you mean 'utf-8'?" "$(shape convert)" convert UTF_8
 is_refused "cannot convert to 'us-ascii'; did you mean 'ascii'?" "$(shape convert)" convert us-ascii
@@ -1250,6 +1330,11 @@ for word in mv move; do
     is_refused "unknown command '$word'; did you mean 'rename'?" "$(shape rename)" -f app.properties $word a b
     is_refused "unknown edit '$word'; did you mean 'rename'?" "$edits" set a 1 $word a b
 done
+for words in 'set-comment a' 'set-comment -- a' 'set a 1 set-comment a'; do
+    is_refused "'set-comment a' requires a TEXT" "$(shape set-comment)" $words
+done
+is_refused "'set comment': did you mean 'set-comment'?" "$(shape set-comment)" set comment a b
+is_refused "unknown option '--set' of 'comment'; a key $dashes; did you mean 'set-comment'?" "$(shape comment)" comment --set a b
 is_refused "'merge' requires a FILE" 'Usage: propedit merge [OPTION ..] FILE' merge -x
 is_refused "'merge -' reads standard input; '-f FILE' or '-i FILE' names the file to change" \
     'Usage: propedit merge [OPTION ..] FILE' merge -z -
@@ -1271,7 +1356,7 @@ run set a=1 b set a '=2' set '=c' b=2 set 'd e=' b=2
 gives 0 'a = =2\na\\=1 = b\n\\=c = b=2\nd\\ e\\= = b=2\n' ''
 run set -- -- 1 set -- set remove remove -- a
 gives 0 '-- = 1\nset = remove\n' ''
-edit="each edit begins with set, remove or rename, and $first"
+edit="each edit begins with set, remove, rename or set-comment, and $first"
 is_refused "unknown edit 'get': $edit" "$edits" set a 1 get a
 is_refused "unknown edit 'host': $edit" "$edits" -i app.properties set port 1 host 2
 is_refused "unknown edit '-i': $edit" "$edits" set a 1 -i app.properties
@@ -1320,7 +1405,10 @@ for words in 'get a' list; do
     is_refused "the option '-a' cannot be used with '${words%% *}'" "$(shape ${words%% *})" -a $words
 done
 for words in 'remove a' 'remove a remove b'; do
-    is_refused "the option '-a' requires a 'set' or a 'rename'" "$(shape remove)" -a $words
+    is_refused "the option '-a' requires a 'set', 'rename' or 'set-comment'" "$(shape remove)" -a $words
+done
+for words in 'set a 1' 'rename a b' 'set-comment a b' 'set a 1 rename a b'; do
+    is_refused "the option '--with-comment' requires a 'remove'" "$(shape ${words%% *})" --with-comment $words
 done
 for words in 'get a' list 'set a 1' 'remove a'; do
     is_refused "the option '-q' cannot be used with '${words%% *}'" "$(shape ${words%% *})" -q $words

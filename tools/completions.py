@@ -4,8 +4,8 @@
     tools/completions.py            writes the files
     tools/completions.py --check    compares them, and ends with 1 if one is not what it would write
 
-Commands, options and their words are those of the tables in propedit_arguments/src/command_line.rt. Keys are those of the
-file that the command line names, as `propedit list` prints them.
+Commands, options and their words are those of the tables in propedit_arguments/src/command_line.rt, and kinds of findings
+those of kinds.rt beside it. Keys are those of the file that the command line names, as `propedit list` prints them.
 """
 import pathlib
 import re
@@ -15,7 +15,7 @@ TOP = pathlib.Path(__file__).resolve().parent.parent
 CODE = (TOP / "crates/propedit_arguments/src/command_line.rt").read_text()
 FOLDER = TOP / "docs/completions"
 # What a word or the value of an option may be called in the tables.
-KINDS = {"KEY", "PREFIX", "VALUE", "FILE", "ENCODING", "NAME", "TOPIC"}
+KINDS = {"KEY", "PREFIX", "VALUE", "FILE", "ENCODING", "NAME", "KIND", "TOPIC"}
 
 
 def rows(kind):
@@ -30,9 +30,9 @@ def rows(kind):
 
 def words_after(row):
     """What comes after a command. Dots end a word that may come again, EDIT stands for a command that edits, and TOPIC for
-    one that help is asked on. A new key is completed as little as a value."""
+    one that help is asked on. A new key is completed as little as a value, and so is a text."""
     words = row["words"].strip("[]").replace("COMMAND", "TOPIC")
-    words = words.replace("OLD NEW", "KEY VALUE" if row["is_edit"] else "FILE FILE")
+    words = words.replace("OLD NEW", "KEY VALUE" if row["is_edit"] else "FILE FILE").replace("TEXT", "VALUE")
     if row["is_edit"]:
         return words + " EDIT"
     return words.replace(" ..", "..")
@@ -48,6 +48,9 @@ ENCODINGS = " ".join(re.findall(r"(?:utf|windows|iso)-[\w-]+", NAMES))
 FILTERS = ENCODINGS.replace("iso-8859-1 ", "")
 TARGETS = " ".join(re.findall(r'\("([\w-]+)", Repertoire::', CODE))
 FILTERED = "ascii"
+FINDINGS = dict(re.findall(r'Kind::(\w+) => "([\w-]+)"', (TOP / "crates/properties_tools/src/propedit/kinds.rt").read_text()))
+OPTIONAL = re.search(r"const OPTIONAL.*?\];", (TOP / "crates/propedit_arguments/src/kinds.rt").read_text(), re.S)[0]
+IGNORED = " ".join(FINDINGS[kind] for kind in re.findall(r"Kind::(\w+)", OPTIONAL))
 
 
 def is_of(option, command):
@@ -149,6 +152,10 @@ _propedit() {
     case $option in
     @FILE_NAMES@) wanted=FILE ;;
     @ENCODING_NAMES@) choices='@ENCODINGS@' wanted= ;;
+    @KIND_NAMES@)
+        choices='@IGNORED@' wanted=
+        prefix+=${typed%"${typed##*,}"} typed=${typed##*,}
+        ;;
     ?*) wanted= ;;
     # A file that begins with a dash would be an option.
     *) [ -z "$open" ] || hidden=(-X '-*') ;;
@@ -343,7 +350,8 @@ def lines(made):
 
 
 def zsh_arguments():
-    actions = {"FILE": ":file:_files", "NAME": f":encoding:({ENCODINGS})", "VALUE": ":value:", "": ""}
+    actions = {"FILE": ":file:_files", "NAME": f":encoding:({ENCODINGS})", "KIND": f":kind:_values -s , kind {IGNORED}",
+               "VALUE": ":value:", "": ""}
     for row in OPTIONS:
         short, long, takes = row["short"], row["long"], bool(row["value"])
         others = "- *" if long in ("help", "version") else " ".join(filter(None, [short and f"-{short}", f"--{long}"]))
@@ -357,7 +365,7 @@ def zsh_arguments():
 
 
 def fish_lines():
-    takes = {"FILE": " -r -F", "NAME": f" -x -a '{ENCODINGS}'", "VALUE": " -x", "": ""}
+    takes = {"FILE": " -r -F", "NAME": f" -x -a '{ENCODINGS}'", "KIND": f" -x -a '{IGNORED}'", "VALUE": " -x", "": ""}
     said = lambda row: row["help"].replace("\\", "\\\\").replace("'", "\\'")
     when = "complete -c propedit -n '__propedit_wants COMMAND'"
     for row in OPTIONS:
@@ -383,6 +391,8 @@ def filled(template):
         "FILE_WORDS": " ".join(names("FILE")),
         "ENCODING_NAMES": " | ".join(names("NAME")),
         "ENCODING_WORDS": " ".join(names("NAME")),
+        "KIND_NAMES": " | ".join(names("KIND")),
+        "IGNORED": IGNORED,
         "VALUE_NAMES": " | ".join(names("ANY")),
         "VALUE_WORDS": " ".join(names("ANY")),
         "VALUE_LETTERS": "".join(row["short"] for row in OPTIONS if row["value"]),

@@ -6,11 +6,12 @@ _propedit_after() {
     get) wanted='KEY..' own='-f --file -e --encoding -d --default -z --null -h --help -V --version' ;;
     list) wanted='PREFIX' own='-f --file -e --encoding -z --null -v --values --json -h --help -V --version' ;;
     comment) wanted='KEY' own='-f --file -e --encoding -h --help -V --version' ;;
-    check) wanted='FILE..' own='-f --file -e --encoding --json -a --ascii --base --pairs -q --quiet -h --help -V --version' ;;
+    check) wanted='FILE..' own='-f --file -e --encoding --json -a --ascii --base --pairs --ignore -q --quiet -h --help -V --version' ;;
     diff) wanted='FILE FILE' own='-e --encoding --json -h --help -V --version' ;;
-    set) wanted='KEY VALUE EDIT' own='-f --file -i --in-place --create -e --encoding -a --ascii -x --existing -v --verbose -h --help -V --version' ;;
-    remove) wanted='KEY EDIT' own='-f --file -i --in-place --create -e --encoding -a --ascii -x --existing -v --verbose -h --help -V --version' ;;
-    rename) wanted='KEY VALUE EDIT' own='-f --file -i --in-place --create -e --encoding -a --ascii -x --existing -v --verbose -h --help -V --version' ;;
+    set) wanted='KEY VALUE EDIT' own='-f --file -i --in-place --create -e --encoding -a --ascii -x --existing --with-comment -v --verbose -h --help -V --version' ;;
+    remove) wanted='KEY EDIT' own='-f --file -i --in-place --create -e --encoding -a --ascii -x --existing --with-comment -v --verbose -h --help -V --version' ;;
+    rename) wanted='KEY VALUE EDIT' own='-f --file -i --in-place --create -e --encoding -a --ascii -x --existing --with-comment -v --verbose -h --help -V --version' ;;
+    set-comment) wanted='KEY VALUE EDIT' own='-f --file -i --in-place --create -e --encoding -a --ascii -x --existing --with-comment -v --verbose -h --help -V --version' ;;
     merge) wanted='FILE' own='-f --file -i --in-place --create -e --encoding -z --null -a --ascii -x --existing --known -v --verbose -h --help -V --version' ;;
     convert) wanted='ENCODING' own='-f --file -i --in-place -e --encoding -r --readable -h --help -V --version' ;;
     help) wanted='TOPIC' own='-h --help -V --version' ;;
@@ -39,7 +40,7 @@ _propedit_keys() {
 
 _propedit() {
     # Options may come before the first word after a command: then it is `open`. At its front, `--` is dropped.
-    local wanted=COMMAND own='-f --file -i --in-place --create -e --encoding -d --default -z --null -v --values --json -a --ascii -x --existing --known --base --pairs -q --quiet --verbose -r --readable -h --help -V --version' open=1 front=
+    local wanted=COMMAND own='-f --file -i --in-place --create -e --encoding -d --default -z --null -v --values --json -a --ascii -x --existing --with-comment --known --base --pairs --ignore -q --quiet --verbose -r --readable -h --help -V --version' open=1 front=
     local option= file= encoding= word before words=() at=-1
     # Bash splits words at equals signs and colons too. Here they are whole again, up to the cursor.
     local line=${COMP_LINE:0:COMP_POINT}
@@ -59,7 +60,7 @@ _propedit() {
             _propedit_option "${word%%=*}" "${word#*=}"
         elif [[ -n $open && $word == -?* && $word != -- ]]; then
             case $word in
-            -f | --file | -i | --in-place | -e | --encoding | -d | --default | --base) option=$word ;;
+            -f | --file | -i | --in-place | -e | --encoding | -d | --default | --base | --ignore) option=$word ;;
             --*) ;;
             -*[fied]*)
                 before=${word%%[fied]*}
@@ -95,13 +96,17 @@ _propedit() {
     case $option in
     -f | --file | -i | --in-place | --base) wanted=FILE ;;
     -e | --encoding) choices='utf-8 iso-8859-1 windows-1252 utf-16le utf-16be' wanted= ;;
+    --ignore)
+        choices='byte-order-mark utf-32-mark u-feff non-ascii read-otherwise looks-like-utf-8 blank-after-backslash backslash-at-end repeated-key missing-key surplus-key' wanted=
+        prefix+=${typed%"${typed##*,}"} typed=${typed##*,}
+        ;;
     ?*) wanted= ;;
     # A file that begins with a dash would be an option.
     *) [ -z "$open" ] || hidden=(-X '-*') ;;
     esac
     case ${wanted%% *} in
-    COMMAND | TOPIC) choices='get list comment check diff set remove rename merge convert help' ;;
-    EDIT) choices='set remove rename' ;;
+    COMMAND | TOPIC) choices='get list comment check diff set remove rename set-comment merge convert help' ;;
+    EDIT) choices='set remove rename set-comment' ;;
     ENCODING) choices='utf-8 iso-8859-1 windows-1252 ascii' ;;
     KEY | KEY.. | PREFIX)
         _propedit_keys

@@ -184,6 +184,24 @@ const ROWS: &[Row<'static>] = &[
         1,
         b"d: key '\xef\xbf\xbd' is missing (m:1)\nd:1: key 'a' is not in m\n",
     ),
+    // One kind of these is ignored, and repeated keys.
+    (
+        "check --ignore surplus-key,repeated-key --base m d",
+        BASE,
+        FILE,
+        1,
+        b"d: key 'title' is missing (m:1)\nd: key 'a key' is missing (m:3)\n",
+    ),
+    (
+        "check --ignore missing-key --base m d",
+        BASE,
+        FILE,
+        1,
+        b"m:4: repeats the key 'price' of line 2\n\
+          d:4: repeats the key 'price' of line 2\n\
+          d:1: key 'contact' is not in m\n\
+          d:3: key 'a\\u{9}key' is not in m\n",
+    ),
     // Both are in the encoding, unless a byte order mark says otherwise.
     (
         "-e utf-16le check --base m d",

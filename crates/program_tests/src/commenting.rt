@@ -1,6 +1,6 @@
-// Runs of `propedit comment`.
+// Runs of `propedit comment` and `propedit set-comment`.
 
-use crate::runs::{Program, Row, check_runs};
+use crate::runs::{Program, Row, SOUND, check_run, check_runs};
 use std::test::Fail;
 
 // With a comment of two lines, one without a text, and a blank line.
@@ -34,4 +34,124 @@ const COMMENT: &[Row] = &[
 #[test]
 fn comment_prints_the_comment_lines_above_the_last_pair(rt: HostRuntime) -> Result<(), Fail> {
     check_runs(&rt, Program::Propedit, COMMENT)
+}
+
+const SET_COMMENT: &[Row] = &[
+    (
+        "set-comment port 'the front door'",
+        b"# head\n\nport = 80\n",
+        0,
+        b"# head\n\n# the front door\nport = 80\n",
+    ),
+    // A line of the text each, in place of the comment lines that are there.
+    (
+        "set-comment a 'one\n\ntwo\n'",
+        b"# head\n\n# old\n! lines\na=1\n",
+        0,
+        b"# head\n\n# one\n#\n# two\na=1\n",
+    ),
+    // The last pair has the comment.
+    (
+        "set-comment a x",
+        b"# one\na=1\r\n  \\u0061=2\r\nb",
+        0,
+        b"# one\na=1\r\n  # x\r\n  \\u0061=2\r\nb",
+    ),
+    // The empty text removes it.
+    ("set-comment a ''", b"# b\n\n# a\na=1\n", 0, b"# b\n\na=1\n"),
+    // A comment that has these lines stays as it is.
+    ("set-comment a x", b"  !x\na=1", 0, b"  !x\na=1"),
+    // New lines look like the old ones.
+    ("set-comment a y", b"  !x\na=1", 0, b"  !y\na=1"),
+    (
+        "-a set-comment a 'caf\u{e9} \\'",
+        b"a=1",
+        0,
+        b"# caf\\u00e9 \\\na=1",
+    ),
+    (
+        "-e latin1 set-comment a '\u{e9} \u{20ac}'",
+        b"a=1",
+        0,
+        b"# \xe9 \\u20ac\na=1",
+    ),
+    ("set-comment -- -a --", b"-a=1", 0, b"# --\n-a=1"),
+    ("set-comment '' x", b"=1", 0, b"# x\n=1"),
+];
+
+#[test]
+fn set_comment_sets_the_comment_lines_above_the_last_pair(rt: HostRuntime) -> Result<(), Fail> {
+    check_runs(&rt, Program::Propedit, SET_COMMENT)
+}
+
+const LISTS: &[Row] = &[
+    (
+        "set a 2 set-comment a x set-comment b y",
+        b"a=1\nb=1\n",
+        0,
+        b"# x\na=2\n# y\nb=1\n",
+    ),
+    (
+        "set-comment a x rename a b set-comment b y",
+        b"a=1\n",
+        0,
+        b"# y\nb=1\n",
+    ),
+    (
+        "set-comment --with-comment a x remove a",
+        b"a=1\nb=1\n",
+        0,
+        b"b=1\n",
+    ),
+    ("-x set b 2 set-comment b x", b"b=1", 0, b"# x\nb=2"),
+];
+
+#[test]
+fn each_comment_is_set_in_what_the_edits_before_it_left(rt: HostRuntime) -> Result<(), Fail> {
+    check_runs(&rt, Program::Propedit, LISTS)
+}
+
+// The words, the input, the status, and the message after the name of the source.
+const REFUSED: &[(&str, &[u8], u8, &str)] = &[
+    (
+        "set-comment a x",
+        b"# a=1\nb=1",
+        1,
+        " no pair has the key 'a'",
+    ),
+    (
+        "remove a set-comment a x",
+        b"a=1",
+        1,
+        " no pair has the key 'a'",
+    ),
+    (
+        "set-comment a x set-comment b x",
+        b"a=1",
+        1,
+        " no pair has the key 'b'",
+    ),
+    (
+        "set-comment a x",
+        b"b=1\nc=\\u12",
+        2,
+        "2: Malformed \\uxxxx encoding: not enough digits.",
+    ),
+    (
+        "set-comment a x",
+        b"\xff\xfec\0=\0",
+        2,
+        " this command does not support UTF-16; propedit convert utf-8 converts it",
+    ),
+];
+
+#[test]
+fn a_comment_that_cannot_be_set_prints_nothing(rt: HostRuntime) -> Result<(), Fail> {
+    let alloc = rt.alloc();
+    for (number, (words, input, status, message)) in (1usize..).zip(REFUSED) {
+        let errors = format!(in alloc; "propedit: standard input:{message}\n")?;
+        let row = (*words, *input, *status, b"".as_slice(), errors.as_str());
+        check_run(&rt, number, Program::Propedit, SOUND, row)?;
+    }
+    Ok(())
 }

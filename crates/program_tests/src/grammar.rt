@@ -34,6 +34,8 @@ const PLACES: &[Placed] = &[
     ("-f x", "set a 2", b"a=1", 0, b"a=2"),
     ("-fx", "remove a", b"a=1", 0, b""),
     ("-f x", "rename a b", b"a=1", 0, b"b=1"),
+    ("-f x", "set-comment a b", b"a=1", 0, b"# b\na=1"),
+    ("--with-comment", "remove a", b"# a\na=1", 0, b""),
     ("--file x", "convert ascii", b"\xc3\xa9", 0, b"\\u00e9"),
     ("-e latin1", "get \u{e9}", b"\xe9=1", 0, b"1\n"),
     ("--encoding=latin1", "list", b"\xe9=1", 0, b"\xc3\xa9\n"),
@@ -48,7 +50,9 @@ const PLACES: &[Placed] = &[
     ("-v -i x", "set a 1", b"", 3, b""),
     ("--verbose -i x", "remove a", b"", 3, b""),
     ("--create -vi x", "rename a b", b"", 3, b""),
+    ("--create -vi x", "set-comment a b", b"", 3, b""),
     ("-xvi x", "remove a set b 1", b"", 3, b""),
+    ("--with-comment -xi x", "remove a", b"", 3, b""),
     ("-i x --create", "remove a", b"", 3, b""),
     ("-d 80", "get port", b"", 0, b"80\n"),
     ("--default -z", "get a b", b"a=1", 0, b"1\n-z\n"),
@@ -82,7 +86,7 @@ const PLACES: &[Placed] = &[
         0,
         b"a=\xc3\xa9",
     ),
-    ("-V", "get a", b"", 0, b"propedit 1.19.0\n"),
+    ("-V", "get a", b"", 0, b"propedit 1.20.0\n"),
 ];
 
 #[test]

@@ -24,6 +24,8 @@ mod grammar;
 #[cfg(test)]
 mod hints;
 #[cfg(test)]
+mod ignoring;
+#[cfg(test)]
 mod in_place;
 #[cfg(test)]
 mod json_answers;
@@ -35,6 +37,8 @@ mod merging;
 mod propedit;
 #[cfg(test)]
 mod propfilter;
+#[cfg(test)]
+mod removing;
 #[cfg(test)]
 mod renaming;
 #[cfg(test)]

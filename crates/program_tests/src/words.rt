@@ -23,10 +23,10 @@ fn check_refusal<R: Abort + AllocGlobal>(
     Ok(())
 }
 
-// The words, and that line.
-type Refusal = (&'static str, &'static str);
+/// The words, and that line.
+pub type Refusal = (&'static str, &'static str);
 
-fn check_refusals<R: Abort + AllocGlobal>(rt: &R, rows: &[Refusal]) -> Result<(), Fail> {
+pub fn check_refusals<R: Abort + AllocGlobal>(rt: &R, rows: &[Refusal]) -> Result<(), Fail> {
     for (number, (words, line)) in (1usize..).zip(rows) {
         check_refusal(rt, number, words, line)?;
     }
@@ -188,6 +188,35 @@ const EDITS: &[Refusal] = &[
         "rename -a b",
         "'rename b' requires a new KEY; a key that begins with a dash comes after '--'",
     ),
+    ("set-comment", "'set-comment' requires a KEY"),
+    ("set-comment a", "'set-comment a' requires a TEXT"),
+    (
+        "remove b set-comment -- a",
+        "'set-comment a' requires a TEXT",
+    ),
+    (
+        "set-comment -a b",
+        "'set-comment b' requires a TEXT; a key that begins with a dash comes after '--'",
+    ),
+    // What is meant by words like these.
+    (
+        "set comment a b",
+        "'set comment': did you mean 'set-comment'?",
+    ),
+    ("set comment a remove", "'remove' requires a KEY"),
+    (
+        "comment --set a b",
+        "unknown option '--set' of 'comment'; a key that begins with a dash comes after '--'; \
+        did you mean 'set-comment'?",
+    ),
+    (
+        "set_comment a b",
+        "unknown command 'set_comment'; did you mean 'set-comment'?",
+    ),
+    (
+        "remove b comment-set a b",
+        "unknown edit 'comment-set'; did you mean 'set-comment'?",
+    ),
     ("set a 1 set b", "'set b' requires a VALUE"),
     // A KEY may be meant by an option.
     (
@@ -221,7 +250,7 @@ const EDITS: &[Refusal] = &[
     ),
     (
         "set a 1 set -i x y",
-        "unknown edit 'y': each edit begins with set, remove or rename, and options come before the first KEY",
+        "unknown edit 'y': each edit begins with set, remove, rename or set-comment, and options come before the first KEY",
     ),
     // A KEY and a VALUE that both look like NAME=TEXT.
     (
@@ -234,15 +263,15 @@ const EDITS: &[Refusal] = &[
     ),
     (
         "set a 1 -i x",
-        "unknown edit '-i': each edit begins with set, remove or rename, and options come before the first KEY",
+        "unknown edit '-i': each edit begins with set, remove, rename or set-comment, and options come before the first KEY",
     ),
     (
         "set port=8080 -i x",
-        "unknown edit 'x': each edit begins with set, remove or rename, and options come before the first KEY",
+        "unknown edit 'x': each edit begins with set, remove, rename or set-comment, and options come before the first KEY",
     ),
     (
         "-i x set port 1 host 2",
-        "unknown edit 'host': each edit begins with set, remove or rename, and options come before the first KEY",
+        "unknown edit 'host': each edit begins with set, remove, rename or set-comment, and options come before the first KEY",
     ),
     (
         "set a 1 delete b",
@@ -318,7 +347,7 @@ const OPTIONS: &[Refusal] = &[
     ("get -z --", "'get' requires a KEY"),
     (
         "set -e -i x a 1",
-        "unknown edit '1': each edit begins with set, remove or rename, and options come before the first KEY",
+        "unknown edit '1': each edit begins with set, remove, rename or set-comment, and options come before the first KEY",
     ),
     // Standard input can't be changed in place.
     ("-i - set k v", REQUIRES_A_FILE),
@@ -347,17 +376,38 @@ const OPTIONS: &[Refusal] = &[
     // What is written in ASCII is what a `set` puts in.
     (
         "-a remove a",
-        "the option '-a' requires a 'set' or a 'rename'",
+        "the option '-a' requires a 'set', 'rename' or 'set-comment'",
     ),
     (
         "remove -ax a",
-        "the option '-a' requires a 'set' or a 'rename'",
+        "the option '-a' requires a 'set', 'rename' or 'set-comment'",
     ),
     (
         "remove --ascii a remove b",
-        "the option '--ascii' requires a 'set' or a 'rename'",
+        "the option '--ascii' requires a 'set', 'rename' or 'set-comment'",
+    ),
+    // Comments go with what a `remove` takes.
+    ("--with-comment set a 1", REQUIRES_A_REMOVE),
+    (
+        "rename --with-comment a b set-comment c 1",
+        REQUIRES_A_REMOVE,
+    ),
+    (
+        "remove --with-comment --with-comment a",
+        "the option '--with-comment' is given twice",
+    ),
+    (
+        "remove --with-comment=1 a",
+        "the option '--with-comment' takes no value",
+    ),
+    (
+        "remove --with-comments a",
+        "unknown option '--with-comments' of 'remove'; a key that begins with a dash comes after '--'; \
+        did you mean '--with-comment'?",
     ),
 ];
+
+const REQUIRES_A_REMOVE: &str = "the option '--with-comment' requires a 'remove'";
 
 #[test]
 fn options_that_say_nothing_are_named(rt: HostRuntime) -> Result<(), Fail> {
@@ -638,6 +688,8 @@ const USELESS_OPTIONS: &[Filled] = &[
     ("-x merge --known a", "-x", "--known"),
     ("--known --create -i a merge b", "--known", "--create"),
     ("--known set a 1", "--known", "set"),
+    ("--with-comment get a", "--with-comment", "get"),
+    ("--with-comment merge x", "--with-comment", "merge"),
     ("-r get a", "-r", "get"),
     ("-r list", "-r", "list"),
     ("-r check", "-r", "check"),
@@ -674,9 +726,10 @@ const COMMANDS: &str = "get [OPTION ..] KEY ..\n       \
     propedit comment [OPTION ..] KEY\n       \
     propedit check [OPTION ..] [FILE ..]\n       \
     propedit diff [OPTION ..] OLD NEW\n       \
-    propedit set [OPTION ..] KEY VALUE [set .. | remove .. | rename ..] ..\n       \
-    propedit remove [OPTION ..] KEY [set .. | remove .. | rename ..] ..\n       \
-    propedit rename [OPTION ..] OLD NEW [set .. | remove .. | rename ..] ..\n       \
+    propedit set [OPTION ..] KEY VALUE [EDIT ..]\n       \
+    propedit remove [OPTION ..] KEY [EDIT ..]\n       \
+    propedit rename [OPTION ..] OLD NEW [EDIT ..]\n       \
+    propedit set-comment [OPTION ..] KEY TEXT [EDIT ..]\n       \
     propedit merge [OPTION ..] FILE\n       \
     propedit convert [OPTION ..] ENCODING\n       \
     propedit help [COMMAND]";
@@ -687,7 +740,7 @@ const USAGES: &[(&str, &str, &str)] = &[
     (
         "-f x delete a",
         "unknown command 'delete'; did you mean 'remove'?",
-        "remove [OPTION ..] KEY [set .. | remove .. | rename ..] ..",
+        "remove [OPTION ..] KEY [EDIT ..]",
     ),
     (
         "-a get a",
@@ -707,14 +760,15 @@ const USAGES: &[(&str, &str, &str)] = &[
     (
         "set a",
         "'set a' requires a VALUE",
-        "set [OPTION ..] KEY VALUE [set .. | remove .. | rename ..] ..",
+        "set [OPTION ..] KEY VALUE [EDIT ..]",
     ),
     (
         "set a 1 b",
-        "unknown edit 'b': each edit begins with set, remove or rename, and options come before the first KEY",
-        "set [OPTION ..] KEY VALUE [set .. | remove .. | rename ..] ..\n       \
-        propedit remove [OPTION ..] KEY [set .. | remove .. | rename ..] ..\n       \
-        propedit rename [OPTION ..] OLD NEW [set .. | remove .. | rename ..] ..",
+        "unknown edit 'b': each edit begins with set, remove, rename or set-comment, and options come before the first KEY",
+        "set [OPTION ..] KEY VALUE [EDIT ..]\n       \
+        propedit remove [OPTION ..] KEY [EDIT ..]\n       \
+        propedit rename [OPTION ..] OLD NEW [EDIT ..]\n       \
+        propedit set-comment [OPTION ..] KEY TEXT [EDIT ..]",
     ),
     // An option after the command tells which command is meant.
     (

@@ -6,9 +6,9 @@ use Rattle.std.specs.declared.string.String.{String}
 use Rattle.std.specs.List.{list_any}
 use Rattle.std.proofs.lemmas.Grind.{common_steps}
 use Rattle.std.proofs.lemmas.List.{length-append, length-map, map-append, nil_from_length}
-use Rattle.propedit_arguments.specs.Private.Edits.{Edit, Meant, set, remove, rename, Form, plain, literal, WrittenEdit, MayBeWritten, IsAssignment}
-use Rattle.propedit_arguments.specs.Private.Edits.{asked_edit, asked_edits, in_characters, edit_words, words_of, IsMistakeAt, no_edit, no_key, no_value, no_new_key, assignments}
-use Rattle.propedit_arguments.specs.Private.Edits.{AreWrong, is_sign}
+use Rattle.propedit_arguments.specs.Private.Edits.{Edit, Meant, set, remove, rename, set_comment, Form, plain, literal, WrittenEdit, MayBeWritten, IsAssignment}
+use Rattle.propedit_arguments.specs.Private.Edits.{asked_edit, asked_edits, in_characters, edit_words, words_of, IsMistakeAt, no_edit, no_key, no_value, no_new_key, no_text}
+use Rattle.propedit_arguments.specs.Private.Edits.{AreWrong, assignments, is_sign}
 use Rattle.propedit_arguments.proofs.Assignments.{has-sign}
 use Rattle.propedit_arguments.specs.declared.edits.AskedEdit.{AskedEdit}
 use Rattle.propedit_arguments.specs.declared.mistake.Mistake.{Mistake}
@@ -28,6 +28,10 @@ first-word (w ∷ ws) = w
 two-commands : codes "remove" ≡ codes "rename" → ⊥
 two-commands e = true≢false (ap (list_any (λ c. c == 0x76)) e)
 
+-- So do these.
+set-commands : codes "set" ≡ codes "set-comment" → ⊥
+set-commands e = true≢false (sym (ap (list_any (λ c. c == 0x2D)) e))
+
 -- what comes after the words of an edit, which only one edit has
 same-rest : (f g : Form) (e d : Edit) (a b : List (List ℕ)) → MayBeWritten f e → MayBeWritten g d → edit_words f e ++ a ≡ edit_words g d ++ b → a ≡ b
 unfolding first-word
@@ -37,18 +41,28 @@ same-rest literal plain (set k v) (set l w) a b p q e = absurd (q.0 (cc))
 same-rest literal literal (set k v) (set l w) a b p q e = cc
 same-rest f g (set k v) (remove l) a b p q e = absurd (cc)
 same-rest f g (set k v) (rename l w) a b p q e = absurd (cc)
+same-rest f g (set k v) (set_comment l w) a b p q e = absurd (set-commands (ap first-word e))
 same-rest f g (remove k) (set l w) a b p q e = absurd (cc)
 same-rest plain plain (remove k) (remove l) a b p q e = cc
 same-rest plain literal (remove k) (remove l) a b p q e = absurd (p (cc))
 same-rest literal plain (remove k) (remove l) a b p q e = absurd (q (cc))
 same-rest literal literal (remove k) (remove l) a b p q e = cc
 same-rest f g (remove k) (rename l w) a b p q e = absurd (two-commands (ap first-word e))
+same-rest f g (remove k) (set_comment l w) a b p q e = absurd (cc)
 same-rest f g (rename k v) (set l w) a b p q e = absurd (cc)
 same-rest f g (rename k v) (remove l) a b p q e = absurd (two-commands (sym (ap first-word e)))
 same-rest plain plain (rename k v) (rename l w) a b p q e = cc
 same-rest plain literal (rename k v) (rename l w) a b p q e = absurd (p (cc))
 same-rest literal plain (rename k v) (rename l w) a b p q e = absurd (q (cc))
 same-rest literal literal (rename k v) (rename l w) a b p q e = cc
+same-rest f g (rename k v) (set_comment l w) a b p q e = absurd (cc)
+same-rest f g (set_comment k v) (set l w) a b p q e = absurd (set-commands (sym (ap first-word e)))
+same-rest f g (set_comment k v) (remove l) a b p q e = absurd (cc)
+same-rest f g (set_comment k v) (rename l w) a b p q e = absurd (cc)
+same-rest plain plain (set_comment k v) (set_comment l w) a b p q e = cc
+same-rest plain literal (set_comment k v) (set_comment l w) a b p q e = absurd (p (cc))
+same-rest literal plain (set_comment k v) (set_comment l w) a b p q e = absurd (q (cc))
+same-rest literal literal (set_comment k v) (set_comment l w) a b p q e = cc
 
 -- some words begin the words of an edit
 no-none : (f : Form) (e : Edit) (a : List (List ℕ)) → edit_words f e ++ a ≢ []
@@ -140,9 +154,10 @@ no-dashes a = true≢false (sym (has-sign a.name a.value) ∙ ap (list_any is_si
 none-at : (words : List (List ℕ)) (mistake : Mistake) (f : Form) (e : Edit) (others : List (List ℕ)) → MayBeWritten f e → IsMistakeAt words mistake
     → words ≡ edit_words f e ++ others → ⊥
 unfolding first-word
-none-at words mistake f (set k v) others may (no_edit word rest is no-set no-removal no-renaming m) w = no-set (cc)
-none-at words mistake f (remove k) others may (no_edit word rest is no-set no-removal no-renaming m) w = no-removal (cc)
-none-at words mistake f (rename k v) others may (no_edit word rest is no-set no-removal no-renaming m) w = no-renaming (cc)
+none-at words mistake f (set k v) others may (no_edit word rest is no-set no-removal no-renaming no-comment m) w = no-set (cc)
+none-at words mistake f (remove k) others may (no_edit word rest is no-set no-removal no-renaming no-comment m) w = no-removal (cc)
+none-at words mistake f (rename k v) others may (no_edit word rest is no-set no-removal no-renaming no-comment m) w = no-renaming (cc)
+none-at words mistake f (set_comment k v) others may (no_edit word rest is no-set no-removal no-renaming no-comment m) w = no-comment (cc)
 none-at words mistake plain (set k v) others may (no_key command edit plain c is m) w = cc
 none-at words mistake plain (remove k) others may (no_key command edit plain c is m) w = cc
 none-at words mistake literal (set k v) others may (no_key command edit plain c is m) w = cc
@@ -155,18 +170,31 @@ none-at words mistake plain (rename k v) others may (no_key command edit plain c
 none-at words mistake literal (rename k v) others may (no_key command edit plain c is m) w = cc
 none-at words mistake plain (rename k v) others may (no_key command edit literal c is m) w = cc
 none-at words mistake literal (rename k v) others may (no_key command edit literal c is m) w = cc
+none-at words mistake plain (set_comment k v) others may (no_key command edit plain c is m) w = cc
+none-at words mistake literal (set_comment k v) others may (no_key command edit plain c is m) w = cc
+none-at words mistake plain (set_comment k v) others may (no_key command edit literal c is m) w = may (cc)
+none-at words mistake literal (set_comment k v) others may (no_key command edit literal c is m) w = cc
 none-at words mistake plain (set k v) others may (no_value key plain is first m) w = cc
 none-at words mistake literal (set k v) others may (no_value key plain is first m) w = cc
 none-at words mistake plain (set k v) others may (no_value key literal is first m) w = may.0 (cc)
 none-at words mistake literal (set k v) others may (no_value key literal is first m) w = cc
 none-at words mistake f (remove k) others may (no_value key g is first m) w = cc
 none-at words mistake f (rename k v) others may (no_value key g is first m) w = cc
+none-at words mistake f (set_comment k v) others may (no_value key g is first m) w = set-commands (ap first-word (sym is ∙ w))
 none-at words mistake f (set k v) others may (no_new_key key g is first m) w = cc
 none-at words mistake f (remove k) others may (no_new_key key g is first m) w = two-commands (ap first-word (sym w ∙ is))
 none-at words mistake plain (rename k v) others may (no_new_key key plain is first m) w = cc
 none-at words mistake literal (rename k v) others may (no_new_key key plain is first m) w = cc
 none-at words mistake plain (rename k v) others may (no_new_key key literal is first m) w = may (cc)
 none-at words mistake literal (rename k v) others may (no_new_key key literal is first m) w = cc
+none-at words mistake f (set_comment k v) others may (no_new_key key g is first m) w = cc
+none-at words mistake f (set k v) others may (no_text key g is first m) w = set-commands (ap first-word (sym w ∙ is))
+none-at words mistake f (remove k) others may (no_text key g is first m) w = cc
+none-at words mistake f (rename k v) others may (no_text key g is first m) w = cc
+none-at words mistake plain (set_comment k v) others may (no_text key plain is first m) w = cc
+none-at words mistake literal (set_comment k v) others may (no_text key plain is first m) w = cc
+none-at words mistake plain (set_comment k v) others may (no_text key literal is first m) w = may (cc)
+none-at words mistake literal (set_comment k v) others may (no_text key literal is first m) w = cc
 none-at words mistake plain (set k v) others may (assignments key value rest is a b m) w =
     let one : key.now ≡ k = cc in
     let other : value.now ≡ v = cc in
@@ -175,13 +203,15 @@ none-at words mistake literal (set k v) others may (assignments key value rest i
     let dashes : key.now ≡ codes "--" = cc in no-dashes (subst IsAssignment dashes a)
 none-at words mistake f (remove k) others may (assignments key value rest is a b m) w = cc
 none-at words mistake f (rename k v) others may (assignments key value rest is a b m) w = cc
+none-at words mistake f (set_comment k v) others may (assignments key value rest is a b m) w = set-commands (ap first-word (sym is ∙ w))
 
 -- Something is wrong with some words.
 some-wrong : (words : List (List ℕ)) (mistake : Mistake) → IsMistakeAt words mistake → words ≢ []
-some-wrong words mistake (no_edit word rest is no-set no-removal no-renaming m) e = cc
+some-wrong words mistake (no_edit word rest is no-set no-removal no-renaming no-comment m) e = cc
 some-wrong words mistake (no_key command edit form c is m) e = cc
 some-wrong words mistake (no_value key form is first m) e = cc
 some-wrong words mistake (no_new_key key form is first m) e = cc
+some-wrong words mistake (no_text key form is first m) e = cc
 some-wrong words mistake (assignments key value rest is a b m) e = cc
 
 -- Where something is wrong behind some edits, the words are those of no edits.

@@ -3,7 +3,7 @@
 use java_properties::Repertoire;
 use std::fmt;
 
-const VERSION: &str = "1.19.0";
+const VERSION: &str = "1.20.0";
 
 /// A command.
 #[derive(Clone, Copy, Debug, PartialEq, Eq)]
@@ -16,6 +16,7 @@ pub enum CommandName {
     Set,
     Remove,
     Rename,
+    SetComment,
     Merge,
     Convert,
     Help,
@@ -52,9 +53,11 @@ pub enum OptionName {
     Json,
     Ascii,
     Existing,
+    WithComment,
     Known,
     Base,
     Pairs,
+    Ignore,
     Quiet,
     Verbose,
     Readable,
@@ -129,6 +132,7 @@ pub const COMMANDS: &[CommandRow] = &[
             OptionName::Ascii,
             OptionName::Base,
             OptionName::Pairs,
+            OptionName::Ignore,
             OptionName::Quiet,
             OptionName::Json,
         ],
@@ -166,10 +170,10 @@ pub const COMMANDS: &[CommandRow] = &[
         help: "Removes a key; edits may follow",
         options: EDIT_OPTIONS,
         other_names: &["delete", "del", "rm", "unset"],
-        examples: "propedit remove -i app.properties port\n  \
+        examples: "propedit remove --with-comment -i app.properties port\n  \
             propedit remove port set server.port 8080 < app.properties",
         statuses: "0 done; 1 no pair has a KEY, and -x is given; 2 an error.\n\
-            The option -a requires a 'set' or a 'rename'",
+            The option -a requires a 'set', 'rename' or 'set-comment'",
     },
     CommandRow {
         command: CommandName::Rename,
@@ -181,6 +185,17 @@ pub const COMMANDS: &[CommandRow] = &[
         examples: "propedit rename -i app.properties login.user user.name\n  \
             propedit rename a b rename b c < app.properties",
         statuses: "0 done; 1 no pair has OLD, or one has NEW; 2 an error",
+    },
+    CommandRow {
+        command: CommandName::SetComment,
+        name: "set-comment",
+        words: "KEY TEXT",
+        help: "Sets the comment lines above a KEY; edits may follow",
+        options: EDIT_OPTIONS,
+        other_names: &["setcomment", "set_comment", "comment-set", "annotate"],
+        examples: "propedit set-comment -i app.properties port 'the front door'\n  \
+            propedit set-comment port '' set port 80 < app.properties",
+        statuses: "0 done; 1 no pair has KEY; 2 an error",
     },
     CommandRow {
         command: CommandName::Merge,
@@ -238,6 +253,7 @@ const EDIT_OPTIONS: &[OptionName] = &[
     OptionName::Encoding,
     OptionName::Ascii,
     OptionName::Existing,
+    OptionName::WithComment,
     OptionName::Verbose,
 ];
 
@@ -313,6 +329,13 @@ const OPTIONS: &[OptionRow] = &[
         help: "Refuses edits of a KEY that no pair has, with status 1",
     },
     OptionRow {
+        option: OptionName::WithComment,
+        short: None,
+        long: "with-comment",
+        value: "",
+        help: "Has remove take the comment lines above a pair too",
+    },
+    OptionRow {
         option: OptionName::Known,
         short: None,
         long: "known",
@@ -332,6 +355,13 @@ const OPTIONS: &[OptionRow] = &[
         long: "pairs",
         value: "",
         help: "Has check pass over bad escapes in comments",
+    },
+    OptionRow {
+        option: OptionName::Ignore,
+        short: None,
+        long: "ignore",
+        value: "KIND",
+        help: "Has check leave out findings of KIND[,KIND ..]",
     },
     OptionRow {
         option: OptionName::Quiet,
@@ -483,8 +513,8 @@ pub fn target_named(name: &str) -> Option<Repertoire> {
     None
 }
 
-// Returns whether one of the words begins with the other, and neither is empty.
-fn is_continued(name: &str, word: &str) -> bool {
+/// Returns whether one of the words begins with the other, and neither is empty.
+pub(crate) fn is_continued(name: &str, word: &str) -> bool {
     !word.is_empty() && (name.starts_with(word) || word.starts_with(name))
 }
 
@@ -504,7 +534,8 @@ impl CommandRow {
             | CommandName::Comment
             | CommandName::Set
             | CommandName::Remove
-            | CommandName::Rename => Some("key"),
+            | CommandName::Rename
+            | CommandName::SetComment => Some("key"),
             CommandName::List => Some("prefix"),
             CommandName::Check | CommandName::Diff | CommandName::Merge => Some("file"),
             CommandName::Convert | CommandName::Help => None,
@@ -526,7 +557,10 @@ impl CommandRow {
 
     /// Returns whether it is an edit of two texts.
     pub(crate) fn takes_two_texts(&self) -> bool {
-        self.command == CommandName::Set || self.command == CommandName::Rename
+        matches!(
+            self.command,
+            CommandName::Set | CommandName::Rename | CommandName::SetComment
+        )
     }
 }
 
@@ -631,7 +665,10 @@ fn show_usage<W: fmt::Write>(
     )
 }
 
-const MORE_EDITS: &str = " [set .. | remove .. | rename ..] ..";
+const MORE_EDITS: &str = " [EDIT ..]";
+
+const EDITS: &str =
+    "An EDIT is set KEY VALUE, remove KEY, rename OLD NEW or set-comment KEY TEXT.\n";
 
 /// What `--help` prints.
 #[derive(Clone, Copy)]
@@ -666,7 +703,11 @@ pub struct HelpOf(pub &'static CommandRow);
 impl fmt::Display for HelpOf {
     fn fmt<W: fmt::Write>(&self, f: &mut fmt::Formatter<W>) -> fmt::Result {
         let command = self.0;
-        write!(f, "{}\n\n{}\nOptions:\n", command.help, Usage::Of(command))?;
+        write!(f, "{}\n\n{}", command.help, Usage::Of(command))?;
+        if command.is_edit() {
+            f.write_str(EDITS)?;
+        }
+        f.write_str("\nOptions:\n")?;
         for row in OPTIONS {
             if command.takes(row.option) {
                 show_option(f, row)?;

@@ -17,6 +17,8 @@ pub enum AskedEdit {
     Edit(Edit),
     /// A key gets another name.
     Rename(String, String),
+    /// A key gets this comment.
+    SetComment(String, String),
 }
 
 /// Returns the edits that a command and the words after its options are, in order. If they are no edits, the mistake
@@ -45,6 +47,7 @@ enum BorrowedEdit<'a> {
     Set(&'a String, &'a String),
     Remove(&'a String),
     Rename(&'a String, &'a String),
+    SetComment(&'a String, &'a String),
 }
 
 impl BorrowedEdit<'_> {
@@ -57,6 +60,9 @@ impl BorrowedEdit<'_> {
             }
             BorrowedEdit::Remove(key) => Ok(AskedEdit::Edit(Edit::Remove(key.clone()?))),
             BorrowedEdit::Rename(old, new) => Ok(AskedEdit::Rename(old.clone()?, new.clone()?)),
+            BorrowedEdit::SetComment(key, text) => {
+                Ok(AskedEdit::SetComment(key.clone()?, text.clone()?))
+            }
         }
     }
 }
@@ -82,6 +88,7 @@ fn edit_of<'a>(
         "set" => next_set(words),
         "remove" => next_removal(words),
         "rename" => next_renaming(words),
+        "set-comment" => next_comment(words),
         other => Err(Mistake::NoEdit(other)),
     }
 }
@@ -116,6 +123,17 @@ fn next_renaming<'a>(words: &'a [String]) -> Result<(BorrowedEdit<'a>, &'a [Stri
         [old, new, others @ ..] => Ok((BorrowedEdit::Rename(old, new), others)),
         [old] => Err(Mistake::NoNewKey(old.as_str())),
         [] => Err(Mistake::NoKey("rename")),
+    }
+}
+
+// Returns the comment of a key, whose words are the first of these, and the words after it.
+fn next_comment<'a>(words: &'a [String]) -> Result<(BorrowedEdit<'a>, &'a [String]), Mistake<'a>>
+    ensures { TakesEdit (codes "set-comment" ∷ map string_bytes words.now) result }
+{
+    match after_dashes(words) {
+        [key, text, others @ ..] => Ok((BorrowedEdit::SetComment(key, text), others)),
+        [key] => Err(Mistake::NoText(key.as_str())),
+        [] => Err(Mistake::NoKey("set-comment")),
     }
 }
 

@@ -13,6 +13,7 @@
 
 mod command_line;
 mod edits;
+mod kinds;
 pub mod mistake;
 mod not_utf_8;
 mod options;

@@ -4,6 +4,7 @@ use crate::command_line::{
     CommandName, CommandRow, OptionName, TypedOption, Usage, allowed, command_meant, command_named,
     name_in, option_in, option_meant,
 };
+use crate::kinds::show_no_kind;
 use properties_tools::messages::Escaped;
 use std::alloc::{AllocError, AllocFailed};
 use std::fmt;
@@ -73,6 +74,8 @@ pub enum Mistake<'a> {
     NotWith(TypedOption, &'static CommandRow),
     /// No edit puts in a text, and this option has a use for nothing else.
     NothingToPut(TypedOption, &'static CommandRow),
+    /// No edit removes a key, and this option has a use for nothing else.
+    NothingToRemove(TypedOption, &'static CommandRow),
     /// These two options exclude each other.
     Both(TypedOption, TypedOption, &'static CommandRow),
     /// A file is given by this option, and others after this command.
@@ -85,6 +88,8 @@ pub enum Mistake<'a> {
     NoEncoding(&'a str, &'static CommandRow),
     /// This label, which is given for this command, means ASCII, which is read as windows-1252.
     AsciiEncoding(&'a str, &'static CommandRow),
+    /// No kind that this command can leave out has this name.
+    NoKind(&'a str, &'static CommandRow),
     /// No conversion is to this encoding.
     NoTarget(&'a str, &'static CommandRow),
     /// This command requires an encoding to convert to, or a file of pairs.
@@ -109,6 +114,10 @@ pub enum Mistake<'a> {
     NoValue(&'a str),
     /// The renaming of this key has no new key.
     NoNewKey(&'a str),
+    /// The comment of this key has no text.
+    NoText(&'a str),
+    /// These words begin with `set` and `comment`, and one command may be meant.
+    SetThenComment,
     /// This command has options and no key, which may be meant by an option.
     OptionForKey(&'static CommandRow),
     /// This edit has options and one text, where two are required: the key may be meant by an option.
@@ -135,12 +144,14 @@ impl Mistake<'_> {
             | Mistake::OptionForKeyOf(_, row)
             | Mistake::NotWith(_, row)
             | Mistake::NothingToPut(_, row)
+            | Mistake::NothingToRemove(_, row)
             | Mistake::Both(_, _, row)
             | Mistake::TwoFiles(_, row)
             | Mistake::NothingInPlace(_, row)
             | Mistake::NoFileInPlace(_, row)
             | Mistake::NoEncoding(_, row)
             | Mistake::AsciiEncoding(_, row)
+            | Mistake::NoKind(_, row)
             | Mistake::NoTarget(_, row)
             | Mistake::NoWord(row)
             | Mistake::InputTwice(row)
@@ -152,6 +163,7 @@ impl Mistake<'_> {
             Mistake::NoKey(name) => usage_of(name),
             Mistake::NoValue(_) | Mistake::TwoAssignments(_, _) => usage_of("set"),
             Mistake::NoNewKey(_) => usage_of("rename"),
+            Mistake::NoText(_) | Mistake::SetThenComment => usage_of("set-comment"),
             Mistake::FileAsKey(_) => usage_of("get"),
             Mistake::NoEdit(_) => Usage::Edits,
             _ => Usage::All,
@@ -240,7 +252,13 @@ impl fmt::Display for Mistake<'_> {
             Mistake::Twice(option, _) => write!(f, "the option '{option}' is given twice"),
             Mistake::NotWith(option, row) => show_not_with(f, option, row),
             Mistake::NothingToPut(option, _) => {
-                write!(f, "the option '{option}' requires a 'set' or a 'rename'")
+                write!(
+                    f,
+                    "the option '{option}' requires a 'set', 'rename' or 'set-comment'"
+                )
+            }
+            Mistake::NothingToRemove(option, _) => {
+                write!(f, "the option '{option}' requires a 'remove'")
             }
             Mistake::Both(one, other, _) => {
                 write!(f, "the option '{one}' cannot be used with '{other}'")
@@ -255,6 +273,7 @@ impl fmt::Display for Mistake<'_> {
             ),
             Mistake::NoEncoding(label, _) => show_unknown_encoding(f, label),
             Mistake::AsciiEncoding(label, _) => show_ascii_encoding(f, label),
+            Mistake::NoKind(name, _) => show_no_kind(f, name),
             Mistake::NoTarget(word, _) => show_no_target(f, word),
             Mistake::NoWord(row) => show_no_word(f, row),
             Mistake::InputTwice(row) => show_input_twice(f, row),
@@ -267,6 +286,8 @@ impl fmt::Display for Mistake<'_> {
             Mistake::NoKey(name) => write!(f, "'{name}' requires a KEY"),
             Mistake::NoValue(key) => show_no_value(f, key),
             Mistake::NoNewKey(key) => show_no_new_key(f, key),
+            Mistake::NoText(key) => show_no_text(f, key),
+            Mistake::SetThenComment => f.write_str("'set comment': did you mean 'set-comment'?"),
             Mistake::OptionForKey(row) => show_option_for_key(f, row),
             Mistake::OptionForKeyOf(key, row) => show_option_for_key_of(f, key, row),
             Mistake::FileAsKey(name) => show_file_as_key(f, name),
@@ -296,8 +317,12 @@ fn show_unknown_command<W: fmt::Write>(
     }
 }
 
-// Prints which name may be meant, after these dashes.
-fn show_meant<W: fmt::Write>(f: &mut fmt::Formatter<W>, dashes: &str, name: &str) -> fmt::Result {
+/// Prints which name may be meant, after these dashes.
+pub(crate) fn show_meant<W: fmt::Write>(
+    f: &mut fmt::Formatter<W>,
+    dashes: &str,
+    name: &str,
+) -> fmt::Result {
     write!(f, "; did you mean '{dashes}{name}'?")
 }
 
@@ -329,9 +354,13 @@ fn show_unknown_option<W: fmt::Write>(
             show_reading(f, option.option, row)?;
         }
     }
-    match option_meant(word, command) {
-        Some(row) => show_meant(f, "--", row.long),
-        None => Ok(()),
+    match (option_meant(word, command), command) {
+        (Some(row), _) => show_meant(f, "--", row.long),
+        // What sets a comment is a command of its own.
+        (None, Some(row)) if row.command == CommandName::Comment && name_in(word) == "--set" => {
+            show_meant(f, "", "set-comment")
+        }
+        _ => Ok(()),
     }
 }
 
@@ -458,7 +487,7 @@ fn show_no_edit<W: fmt::Write>(f: &mut fmt::Formatter<W>, word: &str) -> fmt::Re
         Some(row) if row.is_edit() => show_meant(f, "", row.name),
         _ => write!(
             f,
-            ": each edit begins with set, remove or rename, and {OPTIONS_FIRST}"
+            ": each edit begins with set, remove, rename or set-comment, and {OPTIONS_FIRST}"
         ),
     }
 }
@@ -480,6 +509,7 @@ fn show_option_for_key_of<W: fmt::Write>(
 ) -> fmt::Result {
     match row.command {
         CommandName::Rename => show_no_new_key(f, key)?,
+        CommandName::SetComment => show_no_text(f, key)?,
         _ => write!(f, "'set {}' requires a VALUE", Escaped(key))?,
     }
     show_dashes(f, row)
@@ -488,6 +518,11 @@ fn show_option_for_key_of<W: fmt::Write>(
 // Prints that the renaming of a key has no new key.
 fn show_no_new_key<W: fmt::Write>(f: &mut fmt::Formatter<W>, key: &str) -> fmt::Result {
     write!(f, "'rename {}' requires a new KEY", Escaped(key))
+}
+
+// Prints that the comment of a key has no text.
+fn show_no_text<W: fmt::Write>(f: &mut fmt::Formatter<W>, key: &str) -> fmt::Result {
+    write!(f, "'set-comment {}' requires a TEXT", Escaped(key))
 }
 
 // Prints that a key is the name of a file, and how to read that file.
@@ -638,8 +673,8 @@ fn label_meant(label: &str) -> Option<&'static str> {
         .copied()
 }
 
-// Returns whether two labels have the same letters and digits.
-fn have_same_letters(one: &str, other: &str) -> bool {
+/// Returns whether two names have the same letters and digits, in any case.
+pub(crate) fn have_same_letters(one: &str, other: &str) -> bool {
     let letters = one.bytes().filter(u8::is_ascii_alphanumeric);
     let others = other.bytes().filter(u8::is_ascii_alphanumeric);
     letters

@@ -142,7 +142,8 @@ impl<'a> Options<'a> {
         match option.row.option {
             OptionName::Help => return Err(NoRequest::Help(self.command)),
             OptionName::Version => return Err(NoRequest::Version),
-            OptionName::File | OptionName::InPlace | OptionName::Base if value.is_empty() => {
+            OptionName::File | OptionName::InPlace | OptionName::Base | OptionName::Ignore
+                if value.is_empty() => {
                 return Err(NoRequest::Wrong(Mistake::NoOptionValue(option, self.command)));
             }
             _ => {}
@@ -239,6 +240,14 @@ impl<'a> Options<'a> {
     pub fn refuse_for_text(&self, command: &'static CommandRow) -> Result<(), Mistake<'a>> {
         match self.find(OptionName::Ascii) {
             Some(given) => Err(Mistake::NothingToPut(given.option, command)),
+            None => Ok(()),
+        }
+    }
+
+    /// Fails if comments are to be removed with their pairs, for edits that remove none.
+    pub fn refuse_for_removal(&self, command: &'static CommandRow) -> Result<(), Mistake<'a>> {
+        match self.find(OptionName::WithComment) {
+            Some(given) => Err(Mistake::NothingToRemove(given.option, command)),
             None => Ok(()),
         }
     }

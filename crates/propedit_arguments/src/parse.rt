@@ -8,13 +8,15 @@ use crate::command_line::{
     option_in, target_named,
 };
 use crate::edits::{AskedEdit, edits_in};
+use crate::kinds::ignored_in;
 use crate::mistake::{Hint, Mistake, NoRequest};
 use crate::options::{Options, STANDARD_INPUT, options_in, source_named};
 use counted_io::CountedWrite;
 use java_properties::Edit;
+use properties_tools::propedit::kinds::Ignored;
 use properties_tools::propedit::request::{
     Allowed, Change, Check, CheckedFiles, Command, Comparison, Conversion, Destination, Edits,
-    FileChange, Job, Merge, Renaming, Request, Source, Step, Steps,
+    FileChange, Job, Merge, NewComment, Removal, Renaming, Request, Source, Step, Steps,
 };
 use properties_tools::propedit::{print_out_of_memory, print_text, print_usage_error};
 use std::alloc::{AllocError, Global};
@@ -52,7 +54,8 @@ pub fn asked_for<'a>(alloc: Global, words: &'a [String]) -> Result<Request, NoRe
         CommandName::Comment => Ok(comment(alloc, row, &options, rest)?),
         CommandName::Check => Ok(check(alloc, row, &options, rest)?),
         CommandName::Diff => Ok(diff(alloc, row, &options, rest)?),
-        CommandName::Set | CommandName::Remove | CommandName::Rename => {
+        CommandName::Set | CommandName::Remove | CommandName::Rename | CommandName::SetComment => {
+            refuse_split_name(row, rest)?;
             Ok(edit(alloc, row, &options, edits_in(alloc, row.name, rest)?)?)
         }
         CommandName::Merge => Ok(merge(alloc, row, &options, rest)?),
@@ -61,7 +64,7 @@ pub fn asked_for<'a>(alloc: Global, words: &'a [String]) -> Result<Request, NoRe
     }
 }
 
-// Fails if a command has options and no key, or `set` or `rename` one text after them: one of the options may be meant as the key.
+// Fails if a command has options and no key, or an edit of two texts one text after them: one of the options may be meant as the key.
 fn refuse_option_for_key<'a>(
     row: &'static CommandRow,
     words: &'a [String],
@@ -73,6 +76,18 @@ fn refuse_option_for_key<'a>(
         }
         _ => Ok(()),
     }
+}
+
+// Fails if `set comment` stands before two words that are no edit: `set-comment` may be meant.
+fn refuse_split_name<'a>(row: &'static CommandRow, words: &'a [String]) -> Result<(), Mistake<'a>> {
+    let [first, _, last] = words else {
+        return Ok(());
+    };
+    let is_split = row.command == CommandName::Set && first.as_str() == "comment";
+    if is_split && command_named(last.as_str()).is_none() {
+        return Err(Mistake::SetThenComment);
+    }
+    Ok(())
 }
 
 /// Prints why words ask for nothing, and returns the exit status: help and the version on `output`, and a mistake, with
@@ -268,7 +283,7 @@ fn check<'a>(
     let (before, after) = around_dashes(words);
     refuse_late(row, before)?;
     let mut paths = copies(alloc, before, after)?;
-    let check = check_with(options);
+    let check = check_with(row, options)?;
     let base = options.value(OptionName::Base);
     if !paths.is_empty() {
         options.refuse_file(row)?;
@@ -327,8 +342,12 @@ fn base_beside(
 }
 
 // Returns how the options have a source checked.
-fn check_with(options: &Options<'_>) -> Check {
-    Check {
+fn check_with<'a>(row: &'static CommandRow, options: &Options<'a>) -> Result<Check, Mistake<'a>> {
+    let ignored = match options.value(OptionName::Ignore) {
+        Some(names) => ignored_in(names, row)?,
+        None => Ignored::NONE,
+    };
+    Ok(Check {
         allowed: if options.has(OptionName::Ascii) {
             Allowed::Ascii
         } else if options.is_latin_1() {
@@ -336,10 +355,13 @@ fn check_with(options: &Options<'_>) -> Check {
         } else {
             Allowed::All
         },
-        pairs_only: options.has(OptionName::Pairs),
+        ignored: Ignored {
+            escape_in_comment: options.has(OptionName::Pairs),
+            ..ignored
+        },
         quiet: options.has(OptionName::Quiet),
         report: options.report(),
-    }
+    })
 }
 
 fn diff<'a>(
@@ -382,10 +404,13 @@ fn edit<'a>(
     if !list.iter().any(puts_text) {
         options.refuse_for_text(row)?;
     }
+    if !list.iter().any(removes_key) {
+        options.refuse_for_removal(row)?;
+    }
     change(alloc, row, options, change_by(alloc, options, list)?)
 }
 
-// Returns the change that edits are. Each renaming is a step, and so are all edits between two of them.
+// Returns the change that edits are. Some are steps of their own, and so are all edits between two of them.
 fn change_by(
     alloc: Global,
     options: &Options<'_>,
@@ -394,14 +419,14 @@ fn change_by(
     let mut steps = Vec::new(alloc);
     let mut edits = Vec::new(alloc);
     for asked in list {
-        match asked {
-            AskedEdit::Edit(edit) => edits.push(edit)?,
-            AskedEdit::Rename(old, new) => {
+        match part_for(options, asked) {
+            Part::Edit(edit) => edits.push(edit)?,
+            Part::Step(step) => {
                 if !edits.is_empty() {
                     steps.push(Step::Edits(edits_with(options, edits)))?;
                     edits = Vec::new(alloc);
                 }
-                steps.push(Step::Renaming(renaming_with(options, old, new)))?;
+                steps.push(step)?;
             }
         }
     }
@@ -417,6 +442,37 @@ fn change_by(
         first,
         others: steps,
     }))
+}
+
+// What an edit is of a change.
+#[derive(Drop)]
+enum Part {
+    // One of the edits of a step.
+    Edit(Edit),
+    // A step of its own.
+    Step(Step),
+}
+
+// Returns what an edit is of a change that is made as the options say.
+fn part_for(options: &Options<'_>, asked: AskedEdit) -> Part {
+    match asked {
+        AskedEdit::Edit(Edit::Remove(key)) if options.has(OptionName::WithComment) => {
+            Part::Step(Step::Removal(Removal {
+                key,
+                absent: options.absent(),
+            }))
+        }
+        AskedEdit::Edit(edit) => Part::Edit(edit),
+        AskedEdit::Rename(old, new) => {
+            Part::Step(Step::Renaming(renaming_with(options, old, new)))
+        }
+        AskedEdit::SetComment(key, text) => Part::Step(Step::NewComment(NewComment {
+            key,
+            text,
+            ascii_only: options.has(OptionName::Ascii),
+            latin_1: options.is_latin_1(),
+        })),
+    }
 }
 
 // Returns edits that are made as the options say.
@@ -440,10 +496,11 @@ fn renaming_with(options: &Options<'_>, old: String, new: String) -> Renaming {
 }
 
 fn puts_text(asked: &AskedEdit) -> bool {
-    match asked {
-        AskedEdit::Edit(Edit::Remove(_)) => false,
-        AskedEdit::Edit(Edit::Put(_, _) | Edit::SetValue(_, _)) | AskedEdit::Rename(_, _) => true,
-    }
+    !removes_key(asked)
+}
+
+fn removes_key(asked: &AskedEdit) -> bool {
+    matches!(asked, AskedEdit::Edit(Edit::Remove(_)))
 }
 
 fn merge<'a>(

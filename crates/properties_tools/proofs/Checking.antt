@@ -11,13 +11,13 @@ use Rattle.properties_format.specs.Windows1252.{windows_1252_table}
 use Rattle.java_properties.specs.Findings.{KeyPlace}
 use Rattle.properties_items.specs.declared.findings.MalformedEscape.{MalformedEscape}
 use Rattle.properties_tools.specs.Private.Checking.{escape_finding, finding_of, ill_formed_finding, misread_finding, otherwise_finding, place_at, row_findings, said_of, what_of, ArrangesFindings}
-use Rattle.properties_tools.specs.Propedit.Check.{escapes_of, first_of, has_replacement, ill_formed_of, is_ill_formed, is_malformed, is_misread, is_read_otherwise, other_bytes, repeats_key, repeats_of, said, words_after, AreOtherBytes, AreOtherwise, AreWithBytes, ArrangesByLine, Said}
+use Rattle.properties_tools.specs.Propedit.Check.{first_of, has_replacement, ill_formed_of, is_ill_formed, is_malformed, is_misread, is_read_otherwise, other_bytes, repeats_key, repeats_of, said, words_after, AreOtherBytes, AreOtherwise, AreWithBytes, ArrangesByLine, Said}
 use Rattle.properties_tools.specs.declared.propedit.check.FindingKind.{FindingKind}
 use Rattle.properties_tools.specs.declared.propedit.check.FindingKind.TheVariants.{NonAscii, ReadOtherwise}
 use Rattle.properties_tools.specs.declared.propedit.check.Finding.{Finding}
 use Rattle.properties_tools.specs.declared.propedit.check.Words.{Words}
 use Rattle.properties_format.specs.Lines.{lines_in, Line}
-use Rattle.properties_tools.specs.Propedit.Misread.{last_number, lines_of_pairs, misread_at, misread_end, misread_mark, misread_words, AreMisread, AreMisreadEnds}
+use Rattle.properties_tools.specs.Propedit.Misread.{last_number, lines_of_pairs, misread_at, misread_end, misread_mark, AreMisread, AreMisreadEnds}
 use Rattle.properties_tools.specs.declared.propedit.misread.Misread.{Misread}
 use Rattle.properties_tools.specs.declared.propedit.misread.Misread.TheVariants.{MarkInside}
 use Rattle.properties_tools.specs.declared.propedit.check.FindingKind.TheVariants.{Misread as MisreadKind}
@@ -49,20 +49,9 @@ module _ (P : List KeyPlace) where
   said-ill_formed words [] = refl
   said-ill_formed words (n ∷ ns) = ap (λ v. said (is_ill_formed words) n ∷ v) (said-ill_formed (words_after words) ns)
 
-  escape-said : (pairs_only : Bool) (escape : MalformedEscape)
-      → map (said_of P) (escapes_of escape_finding pairs_only escape) ≡ escapes_of escape_said pairs_only escape
-  escape-said pairs_only escape = elim (cases_Bool (pairs_only && escape.in_comment)) [
-    | inl left ↦ rw left refl
-    | inr stays ↦ rw stays refl
-  ]
-
-  pub said-escapes : (pairs_only : Bool) (es : List MalformedEscape)
-      → map (said_of P) (flat_map (escapes_of escape_finding pairs_only) es) ≡ flat_map (escapes_of escape_said pairs_only) es
-  said-escapes pairs_only [] = refl
-  said-escapes pairs_only (e ∷ es) =
-      map-append (said_of P) (escapes_of escape_finding pairs_only e) (flat_map (escapes_of escape_finding pairs_only) es)
-      ∙ ap (λ v. v ++ map (said_of P) (flat_map (escapes_of escape_finding pairs_only) es)) (escape-said pairs_only e)
-      ∙ ap (λ v. escapes_of escape_said pairs_only e ++ v) (said-escapes pairs_only es)
+  pub said-escapes : (es : List MalformedEscape) → map (said_of P) (map escape_finding es) ≡ map escape_said es
+  said-escapes [] = refl
+  said-escapes (e ∷ es) = ap (λ v. escape_said e ∷ v) (said-escapes es)
 
   with-bytes : (e : Encoding) (source bytes : List ℕ) (fs : List Finding) → AreWithBytes otherwise_finding e source bytes fs
       → AreWithBytes otherwise_said e source bytes (map (said_of P) fs)

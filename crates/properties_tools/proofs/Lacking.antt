@@ -18,8 +18,10 @@ use Rattle.properties_tools.specs.Private.Json.{AddsReport}
 use Rattle.properties_tools.specs.Private.Lacking.{is_among, is_lacking, lacking}
 use Rattle.properties_tools.specs.Private.Table.{places_of, FindsKey}
 use Rattle.properties_tools.specs.Propedit.Against.{is_compared, keys_at, missing_line, missing_value, surplus_line, surplus_value, AreKeyPlaces, AreLacking, IsBaseOf, IsReportAgainst, KnownBase, TellsWellFormed}
+use Rattle.properties_tools.specs.Propedit.Kinds.{reported}
 use Rattle.properties_tools.specs.Propedit.Table.{IsFirstLine}
 use Rattle.properties_tools.specs.declared.propedit.check.Reported.{Reported}
+use Rattle.properties_tools.specs.declared.propedit.kinds.Kind.TheVariants.{MissingKey, SurplusKey}
 use Rattle.properties_tools.specs.declared.propedit.request.Check.{Check}
 use Rattle.properties_tools.proofs.Differences.{no-value}
 use Rattle.properties_tools.proofs.Differing.{other-false}
@@ -170,8 +172,10 @@ module _ (name : List ℕ) (e : Encoding) (check : Check) (source : List ℕ) (r
 
   -- what is said beside a base
   pub said-against : (base : KnownBase) (w : Bool) (after all : String Global) → w ≡ (base.is_well_formed && r.is_well_formed)
-      → AddsReport check.report (missing_line name base.name) (missing_value name base.name) (lacking w (keys_at (places_of r.keys)) base.keys) r.text after
-      → AddsReport check.report (surplus_line name base.name) (surplus_value name base.name) (lacking w (keys_at base.keys) (places_of r.keys)) after all
+      → AddsReport check.report (missing_line name base.name) (missing_value name base.name)
+      (reported check.ignored (λ p. MissingKey) (lacking w (keys_at (places_of r.keys)) base.keys)) r.text after
+      → AddsReport check.report (surplus_line name base.name) (surplus_value name base.name)
+      (reported check.ignored (λ p. SurplusKey) (lacking w (keys_at base.keys) (places_of r.keys))) after all
       → IsReportAgainst base name e check source (string_bytes all)
   said-against base w after all both h1 h2 = record {
     report = string_bytes r.text;

@@ -17,6 +17,7 @@ pub mod Json
 pub mod KeyPlaces
 pub mod KeyTables
 pub mod Lacking
+pub mod LeftOut
 pub mod LineFindings
 pub mod ListedKeys
 pub mod LookedUp

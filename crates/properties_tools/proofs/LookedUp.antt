@@ -12,7 +12,7 @@ use Rattle.properties_format.specs.Edits.{AreInComments, HasPairValue}
 use Rattle.properties_format.specs.Found.{MalformedEscape}
 use Rattle.properties_format.proofs.MalformedEscapes.{malformed_escapes_of-only}
 use Rattle.java_properties.specs.Maps.{characters}
-use Rattle.properties_tools.specs.Propedit.Change.{HasKeys, IsFirstAbsent}
+use Rattle.properties_tools.specs.Propedit.Keys.{HasKeys, IsFirstAbsent}
 use Rattle.properties_tools.specs.Propedit.Failures.{LacksMemory}
 use Rattle.properties_tools.specs.Propedit.Get.{HaveValues}
 use Rattle.properties_tools.specs.Propedit.Sources.{HasSoundBytes, IsSound, IsUnsound}

@@ -5,6 +5,7 @@ pub mod BaseRun
 pub mod Change
 pub mod Check
 pub mod Comment
+pub mod Commenting
 pub mod Counts
 pub mod Diff
 pub mod Differences
@@ -13,10 +14,13 @@ pub mod Get
 pub mod Hints
 pub mod InPlace
 pub mod Json
+pub mod Keys
+pub mod Kinds
 pub mod Lines
 pub mod Listing
 pub mod Merge
 pub mod Misread
+pub mod Removing
 pub mod Renaming
 pub mod Sources
 pub mod Table

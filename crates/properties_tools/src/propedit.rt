@@ -18,6 +18,7 @@ pub mod hint;
 pub mod ill_formed;
 pub mod in_place;
 mod key_table;
+pub mod kinds;
 mod line_findings;
 pub mod list;
 pub mod list_json;
@@ -26,9 +27,11 @@ mod misread;
 mod objects;
 mod open_lines;
 pub mod pairs;
+mod remove;
 mod rename;
 pub mod request;
 pub mod same_file;
+mod set_comment;
 pub mod sound;
 mod sound_pairs;
 mod table;
@@ -176,7 +179,7 @@ pub fn exit_status<E: CountedWrite>(
 ///
 /// ```text
 /// let mut output = Counted::new(Vec::new(alloc));
-/// propedit::print_text(alloc, "propedit 1.19.0\n", &mut output, &mut errors); // 0, and the output holds the text
+/// propedit::print_text(alloc, "propedit 1.20.0\n", &mut output, &mut errors); // 0, and the output holds the text
 /// ```
 pub fn print_text<W: CountedWrite, E: CountedWrite>(
     alloc: Global,

@@ -13,27 +13,31 @@ use Rattle.propedit_arguments.specs.declared.edits.AskedEdit.TheVariants as Aske
 use Rattle.propedit_arguments.specs.declared.edits.BorrowedEdit.{BorrowedEdit}
 use Rattle.propedit_arguments.specs.declared.edits.BorrowedEdit.TheVariants as Borrowed
 use Rattle.propedit_arguments.specs.declared.mistake.Mistake.{Mistake}
-use Rattle.propedit_arguments.specs.declared.mistake.Mistake.TheVariants.{Memory, NoEdit, NoKey, NoNewKey, NoValue, TwoAssignments}
+use Rattle.propedit_arguments.specs.declared.mistake.Mistake.TheVariants.{Memory, NoEdit, NoKey, NoNewKey, NoText, NoValue, TwoAssignments}
 
 -- Words and texts are their UTF-8.
 
 -- ---- the words of an edit
 
--- an edit that words ask for: a key to set and its value, a key to remove, or a key to rename and its new name
+-- an edit that words ask for: a key to set and its value, a key to remove, a key to rename and its new name, or a key whose
+-- comment is set and the text of it
 pub data Edit : Type 0 where
   set : List ℕ → List ℕ → Edit
   remove : List ℕ → Edit
   rename : List ℕ → List ℕ → Edit
+  set_comment : List ℕ → List ℕ → Edit
 
 abbrev pub command_of : Edit → List ℕ
 command_of (set key value) = codes "set"
 command_of (remove key) = codes "remove"
 command_of (rename old new) = codes "rename"
+command_of (set_comment key text) = codes "set-comment"
 
 abbrev pub texts_of : Edit → List (List ℕ)
 texts_of (set key value) = key ∷ (value ∷ [])
 texts_of (remove key) = key ∷ []
 texts_of (rename old new) = old ∷ (new ∷ [])
+texts_of (set_comment key text) = key ∷ (text ∷ [])
 
 -- how its texts are written: plainly, or after a `--`, which has them taken as they are
 pub data Form : Type 0 where
@@ -72,6 +76,7 @@ abbrev pub MayBeWritten : Form → Edit → Type 0
 MayBeWritten literal edit = Unit {0}
 MayBeWritten plain (remove key) = key ≢ codes "--"
 MayBeWritten plain (rename old new) = old ≢ codes "--"
+MayBeWritten plain (set_comment key text) = key ≢ codes "--"
 MayBeWritten plain (set key value) = (key ≢ codes "--") × (IsAssignment key → IsAssignment value → ⊥)
 
 -- an edit as it is written
@@ -85,20 +90,23 @@ abbrev pub words_of : List WrittenEdit → List (List ℕ)
 words_of [] = []
 words_of (w ∷ ws) = edit_words w.form w.edit ++ words_of ws
 
--- what is made: an edit of the format, or a key's new name, in characters
+-- what is made: an edit of the format, or a key's new name or comment, in characters
 pub data Meant : Type 0 where
   edited : format.Edit → Meant
   renamed : List ℕ → List ℕ → Meant
+  commented : List ℕ → List ℕ → Meant
 
 -- What is made of it. Setting a key keeps the layout of its line.
 abbrev pub in_characters : Edit → Meant
 in_characters (set key value) = edited (format.set_value (chars key) (chars value))
 in_characters (remove key) = edited (format.remove (chars key))
 in_characters (rename old new) = renamed (chars old) (chars new)
+in_characters (set_comment key text) = commented (chars key) (chars text)
 
 abbrev pub asked_edit : AskedEdit → Meant
 asked_edit (Asked.Edit edit) = edited (edit_in edit)
 asked_edit (Asked.Rename old new) = renamed (chars (string_bytes old)) (chars (string_bytes new))
+asked_edit (Asked.SetComment key text) = commented (chars (string_bytes key)) (chars (string_bytes text))
 
 abbrev pub asked_edits : List AskedEdit → List Meant
 asked_edits edits = map asked_edit edits
@@ -112,16 +120,18 @@ pub record AreWordsOfEdits (words : List (List ℕ)) (edits : List Meant) : Type
 -- ---- words that ask for no edit
 
 -- This is what is wrong at the front of words that begin with no edit: the first is no command that edits; a key, a
--- value or a new key is missing; or a key and a value both look like NAME=TEXT.
+-- value, a new key or a text is missing; or a key and a value both look like NAME=TEXT.
 pub data IsMistakeAt (words : List (List ℕ)) (mistake : Mistake) : Type 0 where
   no_edit : (word : Bor (List ℕ)) (others : List (List ℕ)) → words ≡ word.now ∷ others → word.now ≢ codes "set" → word.now ≢ codes "remove"
-      → word.now ≢ codes "rename" → mistake ≡ NoEdit word → IsMistakeAt words mistake
+      → word.now ≢ codes "rename" → word.now ≢ codes "set-comment" → mistake ≡ NoEdit word → IsMistakeAt words mistake
   no_key : (command : Bor (List ℕ)) (edit : Edit) (form : Form) → command.now ≡ command_of edit → words ≡ command_of edit ∷ text_words form []
       → mistake ≡ NoKey command → IsMistakeAt words mistake
   no_value : (key : Bor (List ℕ)) (form : Form) → words ≡ codes "set" ∷ text_words form (key.now ∷ []) → MayBegin form (key.now ∷ [])
       → mistake ≡ NoValue key → IsMistakeAt words mistake
   no_new_key : (key : Bor (List ℕ)) (form : Form) → words ≡ codes "rename" ∷ text_words form (key.now ∷ []) → MayBegin form (key.now ∷ [])
       → mistake ≡ NoNewKey key → IsMistakeAt words mistake
+  no_text : (key : Bor (List ℕ)) (form : Form) → words ≡ codes "set-comment" ∷ text_words form (key.now ∷ []) → MayBegin form (key.now ∷ [])
+      → mistake ≡ NoText key → IsMistakeAt words mistake
   assignments : (key value : Bor (List ℕ)) (others : List (List ℕ)) → words ≡ codes "set" ∷ (key.now ∷ (value.now ∷ others))
       → IsAssignment key.now → IsAssignment value.now → mistake ≡ TwoAssignments key value → IsMistakeAt words mistake
 
@@ -146,6 +156,7 @@ abbrev pub borrowed_edit : BorrowedEdit → Edit
 borrowed_edit (Borrowed.Set key value) = set (string_bytes key.now) (string_bytes value.now)
 borrowed_edit (Borrowed.Remove key) = remove (string_bytes key.now)
 borrowed_edit (Borrowed.Rename old new) = rename (string_bytes old.now) (string_bytes new.now)
+borrowed_edit (Borrowed.SetComment key text) = set_comment (string_bytes key.now) (string_bytes text.now)
 
 -- the edit that begins the words and the words after it; or what is wrong with their front, if there are words
 abbrev pub TakesEdit : {Z : Type 0} → List (List ℕ) → Result (BorrowedEdit × Bor (List (String Z))) Mistake → Type 0

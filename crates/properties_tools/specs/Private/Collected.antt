@@ -14,7 +14,8 @@ use Rattle.java_properties.specs.Maps.{characters}
 use Rattle.properties_format.specs.Edits.{Edit}
 use Rattle.properties_editing.specs.declared.edit.Edit as editor
 use Rattle.java_properties.specs.Editing.{edits_in, ArePairsMade}
-use Rattle.properties_tools.specs.Propedit.Change.{put_in, AreKnown, HasKeys, IsFirstAbsent, RefusesEdits}
+use Rattle.properties_tools.specs.Propedit.Change.{put_in, AreKnown, RefusesEdits}
+use Rattle.properties_tools.specs.Propedit.Keys.{HasKeys, IsFirstAbsent}
 use Rattle.properties_tools.specs.declared.propedit.request.Edits.{Edits}
 use Rattle.properties_tools.specs.Propedit.Failures.{LacksMemory}
 use Rattle.properties_tools.specs.Propedit.Get.{HaveValues}

@@ -6,7 +6,7 @@ use Rattle.std.specs.Str.{chars}
 use Rattle.std.specs.declared.string.String.{String}
 use Rattle.properties_format.specs.Encoding.{Encoding}
 use Rattle.properties_tools.specs.Propedit.{Answers}
-use Rattle.properties_tools.specs.Propedit.Change.{HasKeys, IsFirstAbsent}
+use Rattle.properties_tools.specs.Propedit.Keys.{HasKeys, IsFirstAbsent}
 use Rattle.properties_tools.specs.Propedit.Failures.{LacksMemory}
 use Rattle.properties_tools.specs.Propedit.Hints.{hint_bytes, IsFileHint, IsHint}
 use Rattle.properties_tools.specs.Propedit.Sources.{IsSound}

@@ -4,7 +4,9 @@ use Rattle.java_properties.specs.Findings.{KeyPlace}
 use Rattle.properties_tools.specs.Private.Table.{place_keys, places_of, IsKeyTable}
 use Rattle.properties_tools.specs.Propedit.Against.{is_compared, missing_line, missing_value, surplus_line, surplus_value, KnownBase}
 use Rattle.properties_tools.specs.Private.Json.{AddsReport}
+use Rattle.properties_tools.specs.Propedit.Kinds.{reported}
 use Rattle.properties_tools.specs.declared.propedit.against.Sides.{Sides}
+use Rattle.properties_tools.specs.declared.propedit.kinds.Kind.TheVariants.{MissingKey, SurplusKey}
 use Rattle.std.specs.Global.{Global}
 use Rattle.std.specs.declared.string.String.{String}
 use Rattle.properties_tools.specs.declared.propedit.against.Base.TheInside.{Inside}
@@ -39,10 +41,10 @@ pub record HaveTables (s : Sides) : Type 0 where
   pub base_keys : IsKeyTable s.base_keys.now
 
 abbrev pub missing_places : Sides → List KeyPlace
-missing_places s = lacking s.are_well_formed (place_keys (places_of s.keys.now)) (places_of s.base_keys.now)
+missing_places s = reported s.heading.ignored (λ p. MissingKey) (lacking s.are_well_formed (place_keys (places_of s.keys.now)) (places_of s.base_keys.now))
 
 abbrev pub surplus_places : Sides → List KeyPlace
-surplus_places s = lacking s.are_well_formed (place_keys (places_of s.base_keys.now)) (places_of s.keys.now)
+surplus_places s = reported s.heading.ignored (λ p. SurplusKey) (lacking s.are_well_formed (place_keys (places_of s.base_keys.now)) (places_of s.keys.now))
 
 -- What is said of these keys of a base that are missing was added, and of these of a source that are surplus.
 abbrev pub AddsMissing : Sides → List KeyPlace → String Global → String Global → Type 0

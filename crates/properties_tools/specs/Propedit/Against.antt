@@ -12,9 +12,11 @@ use Rattle.java_properties.specs.Findings.{KeyPlace}
 use Rattle.properties_tools.specs.Messages.{all_shown, escaped}
 use Rattle.properties_tools.specs.Propedit.Check.{has_replacement, IsReport}
 use Rattle.properties_tools.specs.Propedit.Json.{text_value, IsReportText}
+use Rattle.properties_tools.specs.Propedit.Kinds.{kind_name, reported}
 use Rattle.properties_tools.specs.Propedit.Lines.{AreFlawedLines}
 use Rattle.properties_tools.specs.Propedit.Table.{IsFirstLine}
 use Rattle.properties_tools.specs.declared.propedit.ill_formed.Flaw.TheVariants.{IllFormed}
+use Rattle.properties_tools.specs.declared.propedit.kinds.Kind.TheVariants.{MissingKey, SurplusKey}
 use Rattle.properties_tools.specs.declared.propedit.request.Check.{Check}
 
 -- ---- keys that are lacking
@@ -82,7 +84,7 @@ surplus_line name base p = escaped name ++ (codes ":" ++ (decimal p.number ++ (c
 abbrev pub missing_value : List ℕ → List ℕ → KeyPlace → Json
 missing_value name base p = object (
     member (codes "file") (string name) (
-    member (codes "kind") (string (codes "missing-key")) (
+    member (codes "kind") (string (kind_name MissingKey)) (
     member (codes "key") (text_value p.key) (
     member (codes "base") (string base) (
     member (codes "base_line") (number (decimal p.number)) (
@@ -92,7 +94,7 @@ abbrev pub surplus_value : List ℕ → List ℕ → KeyPlace → Json
 surplus_value name base p = object (
     member (codes "file") (string name) (
     member (codes "line") (number (decimal p.number)) (
-    member (codes "kind") (string (codes "surplus-key")) (
+    member (codes "kind") (string (kind_name SurplusKey)) (
     member (codes "key") (text_value p.key) (
     member (codes "base") (string base) (
     member (codes "message") (string (surplus_words base p.key)) no_members))))))
@@ -100,7 +102,8 @@ surplus_value name base p = object (
 -- ---- a report
 
 -- The text is what a check reports of a source, then a line or an object for each key of the base that the source lacks, in
--- the order of the base, and then one for each key of the source that the base lacks, in the order of the source.
+-- the order of the base, and then one for each key of the source that the base lacks, in the order of the source, unless these
+-- kinds are ignored.
 pub record IsReportAgainst (base : KnownBase) (name : List ℕ) (e : Encoding) (check : Check) (source text : List ℕ) : Type 0 where
   pub report : List ℕ
   pub is_report : IsReport name e check source report
@@ -115,7 +118,9 @@ pub record IsReportAgainst (base : KnownBase) (name : List ℕ) (e : Encoding) (
   pub are_surplus : (base_pairs : List Entry) → AreKeyPlaces base_pairs base.keys
       → AreLacking (base.is_well_formed && is_well_formed) pairs base_pairs surplus
   pub missing_text : List ℕ
-  pub tells_missing : IsReportText check.report (missing_line name base.name) (missing_value name base.name) missing missing_text
+  pub tells_missing : IsReportText check.report (missing_line name base.name) (missing_value name base.name)
+      (reported check.ignored (λ p. MissingKey) missing) missing_text
   pub surplus_text : List ℕ
-  pub tells_surplus : IsReportText check.report (surplus_line name base.name) (surplus_value name base.name) surplus surplus_text
+  pub tells_surplus : IsReportText check.report (surplus_line name base.name) (surplus_value name base.name)
+      (reported check.ignored (λ p. SurplusKey) surplus) surplus_text
   pub is : text ≡ report ++ (missing_text ++ surplus_text)

@@ -1,9 +1,9 @@
 -- What a change gives: the bytes of a source after it.
-use Rattle.std.specs.Prelude.{◌≡◌, ◌⊎◌, ℕ, List, [], ◌∷◌, ◌++◌, Some, None, Result, Ok, Err, map}
+use Rattle.std.specs.Prelude.{◌≡◌, ◌⊎◌, ℕ, List, [], ◌∷◌, ◌++◌, Result, Ok, Err, map}
 use Rattle.std.specs.Global.{Global, Vec}
 use Rattle.std.specs.declared.string.String.{String}
 use Rattle.properties_format.specs.Converting.{IsConverted}
-use Rattle.properties_format.specs.Edits.{HasPairValue, IsEditPairsResult, put, remove, set_value}
+use Rattle.properties_format.specs.Edits.{IsEditPairsResult, put, remove, set_value}
 use Rattle.properties_format.specs.Edits as format
 use Rattle.properties_format.specs.Encoding.{Encoding, Repertoire, characters_for}
 use Rattle.properties_text.specs.Converted.{is_readable}
@@ -11,7 +11,10 @@ use Rattle.properties_text.specs.Printing.{in_format}
 use Rattle.java_properties.specs.Editing.{ArePairsMade, IsRefusal, edits_in}
 use Rattle.java_properties.specs.Maps.{characters}
 use Rattle.properties_items.specs.declared.error.PropertiesError.{PropertiesError}
+use Rattle.properties_tools.specs.Propedit.Commenting.{SetsComment}
 use Rattle.properties_tools.specs.Propedit.Failures.{LacksMemory}
+use Rattle.properties_tools.specs.Propedit.Keys.{HasKey, HasKeys, HasNoKey, IsFirstAbsent}
+use Rattle.properties_tools.specs.Propedit.Removing.{Removes}
 use Rattle.properties_tools.specs.Propedit.Renaming.{Renames}
 use Rattle.properties_tools.specs.Propedit.Sources.{HasSoundBytes, HasUnsoundBytes, IsSound, IsUnsound}
 use Rattle.properties_tools.specs.declared.propedit.request.AbsentKeys.{AbsentKeys}
@@ -37,27 +40,6 @@ edited_key (set_value key value) = key
 -- the keys of edits, in order
 abbrev pub edited_keys : List format.Edit → List (List ℕ)
 edited_keys edits = map edited_key edits
-
--- A pair of the source has the key.
-abbrev pub HasKey : Encoding → List ℕ → List ℕ → Type 0
-HasKey e source key = (value : List ℕ) × HasPairValue e source key (Some value)
-
--- No pair of it does.
-abbrev pub HasNoKey : Encoding → List ℕ → List ℕ → Type 0
-HasNoKey e source key = HasPairValue e source key None
-
--- A pair of it has each of these keys.
-abbrev pub HasKeys : Encoding → List ℕ → List (List ℕ) → Type 0
-HasKeys e source [] = Unit {0}
-HasKeys e source (key ∷ keys) = HasKey e source key × HasKeys e source keys
-
--- This is the first of the keys that no pair of the source has.
-pub record IsFirstAbsent (e : Encoding) (source : List ℕ) (keys : List (List ℕ)) (key : List ℕ) : Type 0 where
-  pub before : List (List ℕ)
-  pub after : List (List ℕ)
-  pub division : keys ≡ before ++ key ∷ after
-  pub passed : HasKeys e source before
-  pub absent : HasNoKey e source key
 
 -- ---- edits
 
@@ -116,7 +98,9 @@ ChangesByEdits e source edits (Err failure) = IsUnsound e source failure ⊎ (Re
 -- What a step returns.
 abbrev pub ChangesByStep : Encoding → List ℕ → Step → Result (Vec ℕ) Failure → Type 0
 ChangesByStep e source (step.Edits edits) result = ChangesByEdits e source edits result
+ChangesByStep e source (step.Removal removal) result = Removes e source removal result
 ChangesByStep e source (step.Renaming renaming) result = Renames e source renaming result
+ChangesByStep e source (step.NewComment comment) result = SetsComment e source comment result
 
 abbrev pub in_order : Steps → List Step
 in_order steps = steps.first ∷ steps.others.items

@@ -24,11 +24,14 @@ use Rattle.properties_tools.specs.Messages.{all_shown, escaped}
 use Rattle.properties_tools.specs.Propedit.Failures.{ill_formed_words, ill_formed_by_mark_words, not_utf_16_words, zero_words}
 use Rattle.properties_tools.specs.Propedit.Lines.{starts_with_bom, AreFlawedLines, IsFirstFlawed, IsFirstUtf8}
 use Rattle.properties_tools.specs.Propedit.Json.{text_value, IsReportText}
-use Rattle.properties_tools.specs.Propedit.Misread.{misread_name, misread_words, AreMisread}
+use Rattle.properties_tools.specs.Propedit.Kinds.{kind_name, reported}
+use Rattle.properties_tools.specs.Propedit.Misread.{misread_kind, misread_words, AreMisread}
 use Rattle.properties_tools.specs.Propedit.Sources.{is_in_utf_16}
 use Rattle.properties_tools.specs.declared.propedit.check.Words.{Words}
 use Rattle.properties_tools.specs.declared.propedit.check.Words.TheVariants.{WithEncoding, WithByteOrderMark, NotUtf8, NotUtf16}
 use Rattle.properties_tools.specs.declared.propedit.ill_formed.Flaw.TheVariants as flaw
+use Rattle.properties_tools.specs.declared.propedit.kinds.Kind.{Kind}
+use Rattle.properties_tools.specs.declared.propedit.kinds.Kind.TheVariants.{Zero, IllFormed, LooksLikeUtf8, NonAscii, ReadOtherwise, EscapeInPair, EscapeInComment, RepeatedKey}
 use Rattle.properties_tools.specs.declared.propedit.misread.Misread.{Misread}
 use Rattle.properties_tools.specs.declared.propedit.request.Allowed.{Allowed}
 use Rattle.properties_tools.specs.declared.propedit.request.Allowed.TheVariants.{All, Latin1, Ascii}
@@ -76,10 +79,6 @@ words_after other = NotUtf8
 abbrev pub ill_formed_of : {X : Type 0} → (Words → ℕ → X) → Words → List ℕ → List X
 ill_formed_of of words [] = []
 ill_formed_of of words (number ∷ numbers) = of words number ∷ ill_formed_of of (words_after words) numbers
-
--- of a malformed escape, which is left out where it is in a comment and only pairs are asked for
-abbrev pub escapes_of : {X : Type 0} → (MalformedEscape → X) → Bool → MalformedEscape → List X
-escapes_of of pairs_only escape = if pairs_only && escape.in_comment then [] else of escape ∷ []
 
 -- whether a text has U+FFFD, as which ill-formed bytes are read
 abbrev pub has_replacement : List ℕ → Bool
@@ -132,6 +131,17 @@ words_of (is_misread m) = misread_words m
 words_of (is_malformed kind in_comment) = escape_words kind in_comment
 words_of (repeats_key key first) = repeat_words key first
 
+abbrev pub kind_of : What → Kind
+kind_of holds_zero = Zero
+kind_of (is_ill_formed words) = IllFormed
+kind_of looks_like_utf_8 = LooksLikeUtf8
+kind_of is_non_ascii = NonAscii
+kind_of (is_read_otherwise byte) = ReadOtherwise
+kind_of (is_misread m) = misread_kind m
+kind_of (is_malformed kind true) = EscapeInComment
+kind_of (is_malformed kind false) = EscapeInPair
+kind_of (repeats_key key first) = RepeatedKey
+
 -- ---- findings
 
 -- Of a key: that a pair in an earlier line has it. Where a line is ill-formed, a key with U+FFFD repeats no other.
@@ -143,14 +153,14 @@ repeats_of is_well_formed k =
 
 -- what is said of this line with U+0000, these ill-formed lines, this line that looks like UTF-8, these lines that aren't
 -- ASCII, bytes that are read otherwise, escapes and keys, one kind after another
-abbrev pub all_said : Bool → Words → Option ℕ → List ℕ → Option ℕ → List ℕ → List Said → List MalformedEscape → List KeyEntry → List Said
-all_said pairs_only words zero numbers utf_8 refused otherwise escapes keys =
+abbrev pub all_said : Words → Option ℕ → List ℕ → Option ℕ → List ℕ → List Said → List MalformedEscape → List KeyEntry → List Said
+all_said words zero numbers utf_8 refused otherwise escapes keys =
     first_of (said holds_zero) zero
     ++ (ill_formed_of (λ w. said (is_ill_formed w)) words numbers
     ++ (first_of (said looks_like_utf_8) utf_8
     ++ (map (said is_non_ascii) refused
     ++ (otherwise
-    ++ (flat_map (escapes_of (λ escape. said (is_malformed escape.kind escape.in_comment) escape.line_number) pairs_only) escapes
+    ++ (map (λ escape. said (is_malformed escape.kind escape.in_comment) escape.line_number) escapes
     ++ flat_map (repeats_of (length numbers == 0)) keys)))))
 
 -- They are in the order of their lines, and those of one line in the order that they have in the others.
@@ -164,16 +174,6 @@ said_line name s = escaped name ++ (codes ":" ++ (decimal s.line ++ (codes ": " 
 
 -- ---- in JSON
 
-abbrev pub kind_name : What → List ℕ
-kind_name holds_zero = codes "zero"
-kind_name (is_ill_formed words) = codes "ill-formed"
-kind_name looks_like_utf_8 = codes "looks-like-utf-8"
-kind_name is_non_ascii = codes "non-ascii"
-kind_name (is_read_otherwise byte) = codes "read-otherwise"
-kind_name (is_misread m) = misread_name m
-kind_name (is_malformed kind in_comment) = codes "malformed-escape"
-kind_name (repeats_key key first) = codes "repeated-key"
-
 -- what an object says more, before these members
 abbrev pub detailed : What → Members → Members
 detailed (is_malformed kind in_comment) rest = member (codes "in_comment") (boolean in_comment) rest
@@ -185,7 +185,7 @@ abbrev pub said_value : List ℕ → Said → Json
 said_value name s = object (
     member (codes "file") (string name) (
     member (codes "line") (json.number (decimal s.line)) (
-    member (codes "kind") (string (kind_name s.what)) (
+    member (codes "kind") (string (kind_name (kind_of s.what))) (
     detailed s.what (
     member (codes "message") (string (words_of s.what)) no_members)))))
 
@@ -224,10 +224,10 @@ pub record AreOtherwise {X : Type 0} (of : Misread → ℕ → X) (of_byte : ℕ
   pub are_bytes : AreOtherBytes of_byte allowed e source bytes
   pub is : findings ≡ misread ++ bytes
 
--- The text has, in the form that is asked for, the first line of a source with U+0000, its ill-formed lines, its first non-ASCII line if it is UTF-8 that
--- is read as windows-1252, its well-formed lines with a character that isn't allowed, what Java
--- reads otherwise, its malformed escapes, those in comments unless only pairs are asked for, and its repeated keys, in the order
--- of the lines.
+-- The text has, in the form that is asked for, the first line of a source with U+0000, its ill-formed lines, its first
+-- non-ASCII line if it is UTF-8 that is read as windows-1252, its well-formed lines with a character that isn't allowed, what
+-- Java reads otherwise, its malformed escapes and its repeated keys, in the order of the lines, but for those of kinds that are
+-- ignored.
 pub record IsReport (name : List ℕ) (e : Encoding) (check : Check) (source text : List ℕ) : Type 0 where
   pub zero : Option ℕ
   pub is_zero : IsFirstFlawed flaw.Zero e source zero
@@ -245,8 +245,8 @@ pub record IsReport (name : List ℕ) (e : Encoding) (check : Check) (source tex
   pub are_keys : AreKeyLines e source keys
   pub all : List Said
   pub arranged : ArrangesByLine
-      (all_said check.pairs_only (first_words e source (is_some zero)) zero numbers utf_8 refused otherwise (escape_records escapes) keys) all
-  pub is : IsReportText check.report (said_line name) (said_value name) all text
+      (all_said (first_words e source (is_some zero)) zero numbers utf_8 refused otherwise (escape_records escapes) keys) all
+  pub is : IsReportText check.report (said_line name) (said_value name) (reported check.ignored (λ s. kind_of s.what) all) text
 
 -- What reporting returns. It fails only if memory runs out.
 abbrev pub Reports : {Z : Type 0} → Encoding → Check → List ℕ → List ℕ → Result (String Z) PropertiesError → Type 0

@@ -7,6 +7,8 @@ use Rattle.properties_format.specs.Lines.{end, is_comment_line, is_open, lines_i
 use Rattle.properties_format.specs.Encoding.{Encoding}
 use Rattle.properties_tools.specs.Propedit.Lines.{starts_with_bom, AreFlawedLines}
 use Rattle.properties_tools.specs.declared.propedit.ill_formed.Flaw.TheVariants as flaw
+use Rattle.properties_tools.specs.declared.propedit.kinds.Kind.{Kind}
+use Rattle.properties_tools.specs.declared.propedit.kinds.Kind.TheVariants as kind
 use Rattle.properties_tools.specs.declared.propedit.misread.Misread.{Misread}
 use Rattle.properties_tools.specs.declared.propedit.misread.Misread.TheVariants.{Mark, Utf32Mark, MarkInside, BlankAfterBackslash, OpenAtEnd}
 
@@ -19,13 +21,12 @@ misread_words MarkInside = codes "has U+FEFF, a byte order mark that is not at t
 misread_words BlankAfterBackslash = codes "ends in a backslash and a blank, so the next line does not continue it"
 misread_words OpenAtEnd = codes "ends in a backslash that continues nothing"
 
--- the name in JSON
-abbrev pub misread_name : Misread → List ℕ
-misread_name Mark = codes "byte-order-mark"
-misread_name Utf32Mark = codes "utf-32-mark"
-misread_name MarkInside = codes "u-feff"
-misread_name BlankAfterBackslash = codes "blank-after-backslash"
-misread_name OpenAtEnd = codes "backslash-at-end"
+abbrev pub misread_kind : Misread → Kind
+misread_kind Mark = kind.ByteOrderMark
+misread_kind Utf32Mark = kind.Utf32Mark
+misread_kind MarkInside = kind.MarkInside
+misread_kind BlankAfterBackslash = kind.BlankAfterBackslash
+misread_kind OpenAtEnd = kind.BackslashAtEnd
 
 -- ---- at the front
 

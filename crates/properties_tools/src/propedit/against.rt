@@ -13,6 +13,7 @@ use crate::propedit::answer::{Answer, reported};
 use crate::propedit::check::{Heading, Reported, checked};
 use crate::propedit::error::Failure;
 use crate::propedit::key_table::KeyTable;
+use crate::propedit::kinds::Kind;
 use crate::propedit::line_findings::may_stand_for_bytes;
 use crate::propedit::objects::{Member, push_object};
 use crate::propedit::request::{Check, Report};
@@ -71,7 +72,8 @@ pub fn base_of(
 }
 
 /// Returns what is wrong in a source, as the command `check` gives it, and then which of the keys of a base no pair of
-/// the source has, and which keys of the source no pair of the base has. Fails only if memory runs out.
+/// the source has, and which keys of the source no pair of the base has, unless these kinds are ignored. Fails only if
+/// memory runs out.
 ///
 /// Keys of malformed pairs don't count. If a line of either is ill-formed, keys with U+FFFD aren't compared, since that
 /// character may stand for any bytes.
@@ -101,6 +103,7 @@ pub fn check_against<'a>(
         heading: Heading {
             name,
             report: asked.report,
+            ignored: asked.ignored,
         },
         keys: &keys,
         base_name: base.name.as_str(),
@@ -130,11 +133,14 @@ struct Sides<'a> {
     are_well_formed: bool,
 }
 
-// Appends what is said of each key of a base that is lacking in a source.
+// Appends what is said of each key of a base that is lacking in a source, unless that is ignored.
 fn push_missing(alloc: Global, text: &mut String, sides: &Sides<'_>) -> Result<(), AllocError>
     requires { HaveTables sides.now }
     ensures { OnOk result (AddsMissing sides.now (missing_places sides.now) text.old text.new) }
 {
+    if sides.heading.ignored.contains(Kind::MissingKey) {
+        return Ok(());
+    }
     for row in 0..sides.base_keys.len() {
         if is_lacking(sides.base_keys.key(row), sides.keys, sides.are_well_formed) {
             push_missing_row(alloc, text, sides, row)?;
@@ -143,11 +149,14 @@ fn push_missing(alloc: Global, text: &mut String, sides: &Sides<'_>) -> Result<(
     Ok(())
 }
 
-// Appends what is said of each key of a source that is lacking in a base.
+// Appends what is said of each key of a source that is lacking in a base, unless that is ignored.
 fn push_surplus(alloc: Global, text: &mut String, sides: &Sides<'_>) -> Result<(), AllocError>
     requires { HaveTables sides.now }
     ensures { OnOk result (AddsSurplus sides.now (surplus_places sides.now) text.old text.new) }
 {
+    if sides.heading.ignored.contains(Kind::SurplusKey) {
+        return Ok(());
+    }
     for row in 0..sides.keys.len() {
         if is_lacking(sides.keys.key(row), sides.base_keys, sides.are_well_formed) {
             push_surplus_row(alloc, text, sides, row)?;
@@ -191,7 +200,7 @@ fn push_missing_row(
             let words = format!(in alloc; "{words}")?;
             let members = [
                 Member::Text("file", sides.heading.name),
-                Member::Text("kind", "missing-key"),
+                Member::Text("kind", Kind::MissingKey.name()),
                 Member::Text("key", key),
                 Member::Text("base", sides.base_name),
                 Member::Number("base_line", base_line),
@@ -229,7 +238,7 @@ fn push_surplus_row(
             let members = [
                 Member::Text("file", sides.heading.name),
                 Member::Number("line", line),
-                Member::Text("kind", "surplus-key"),
+                Member::Text("kind", Kind::SurplusKey.name()),
                 Member::Text("key", key),
                 Member::Text("base", sides.base_name),
                 Member::Text("message", words.as_str()),

@@ -10,7 +10,7 @@ use crate::propedit::change::change;
 use crate::propedit::check::report;
 use crate::propedit::comment::comment;
 use crate::propedit::error::Failure;
-use crate::propedit::get::get;
+use crate::propedit::get::{Shown, get};
 use crate::propedit::list::list;
 use crate::propedit::list_json::list_json;
 use crate::propedit::pairs::list_values;
@@ -49,7 +49,8 @@ pub fn answer_to(alloc: Global, job: &Job, source: &[u8]) -> Result<Answer, Fail
                 Some(text) => Some(text.as_str()),
                 None => None,
             };
-            get(alloc, source, job.encoding, keys, default, *end)
+            let shown = Shown { default, end: *end };
+            get(alloc, source, job.encoding, keys, shown)
         }
         Command::List(prefix, end) => list(alloc, source, job.encoding, prefix.as_str(), *end),
         Command::ListValues(prefix, end) => {

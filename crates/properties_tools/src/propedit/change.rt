@@ -12,8 +12,10 @@ ghost use Rattle.properties_tools.specs.Propedit.Sources.{HasSoundBytes};
 ghost use Rattle.properties_tools.specs.Propedit.Texts.{borrowed_characters};
 
 use crate::propedit::error::Failure;
+use crate::propedit::remove::remove;
 use crate::propedit::rename::rename;
 use crate::propedit::request::{AbsentKeys, Change, Conversion, Edits, Step, Steps};
+use crate::propedit::set_comment::set_comment;
 use crate::propedit::sound::{refuse_bytes, refuse_unsound};
 use crate::propedit::values::values_of;
 use java_properties::{Comments, Edit, Encoding, SourceOptions, convert, edit_with};
@@ -27,7 +29,7 @@ use std::alloc::{AllocError, Global};
 /// edits of other keys are made. A conversion keeps what is malformed.
 ///
 /// Of steps, each is made to what the one before it left, and the first that is refused refuses the change. A step reads
-/// the source once, or twice if it renames a key.
+/// the source once, or twice if it renames a key, removes it with its comments or sets its comment.
 ///
 /// ```text
 /// let edits = Change::Edits(Edits {
@@ -88,7 +90,9 @@ fn changed_by(
 {
     match step {
         Step::Edits(edits) => edited(alloc, source, encoding, edits),
+        Step::Removal(removal) => remove(alloc, source, encoding, removal),
         Step::Renaming(renaming) => rename(alloc, source, encoding, renaming),
+        Step::NewComment(comment) => set_comment(alloc, source, encoding, comment),
     }
 }
 
@@ -106,7 +110,8 @@ fn edited(
         AbsentKeys::Added => made(alloc, source, encoding, edits, &edits.list),
         AbsentKeys::Refused => {
             let bytes = made(alloc, source, encoding, edits, &edits.list)?;
-            refuse_absent(alloc, source, encoding, &edits.list)?;
+            let keys = keys_of(alloc, &edits.list)?;
+            refuse_absent(alloc, source, encoding, &keys)?;
             Ok(bytes)
         }
         AbsentKeys::LeftOut => {
@@ -176,17 +181,16 @@ fn with_values(
     Ok(some)
 }
 
-// Refuses edits of a key that no pair of a sound source has. The failure has the first such key.
-fn refuse_absent(
+/// Refuses keys that no pair of a sound source has. The failure has the first of them.
+pub(crate) fn refuse_absent(
     alloc: Global,
     source: &[u8],
     encoding: Encoding,
-    edits: &[Edit],
+    keys: &[String],
 ) -> Result<(), Failure>
-    ensures { RefusesIfAbsent (encoding_of encoding) source.now (edited_keys (edits_in edits.now)) result }
+    ensures { RefusesIfAbsent (encoding_of encoding) source.now (map characters keys.now) result }
 {
-    let keys = keys_of(alloc, edits)?;
-    match first_absent(alloc, source, encoding, &keys)? {
+    match first_absent(alloc, source, encoding, keys)? {
         Some(key) => Err(Failure::Absent(String::from_str(alloc, key)?)),
         None => Ok(()),
     }

@@ -1,12 +1,13 @@
 // What is wrong in a source, as lines.
 
-ghost use Rattle.std.specs.Prelude.{◌≡◌, ◌++◌, ◌∷◌, [], encode_utf8_all, map, OnOk};
-ghost use Rattle.std.specs.List.{flat_map};
+ghost use Rattle.std.specs.Prelude.{◌≡◌, ◌++◌, ◌∷◌, [], encode_utf8_all, map, List, OnOk};
 ghost use Rattle.std.specs.Str.{chars};
 ghost use Rattle.std.specs.String.{string_bytes};
 ghost use Rattle.properties_format.specs.Windows1252.{windows_1252_character};
+ghost use Rattle.java_properties.specs.Findings.{KeyPlace};
 ghost use Rattle.properties_text.specs.Encoding.{encoding_of};
-ghost use Rattle.properties_tools.specs.Propedit.Check.{comment_words, escapes_of, first_of, first_words, ill_formed_of, ill_formed_text, said_line, said_value, words_after, words_of, Reports};
+ghost use Rattle.properties_tools.specs.Propedit.Check.{comment_words, first_of, first_words, ill_formed_of, ill_formed_text, kind_of, said_line, said_value, words_after, words_of, Reports};
+ghost use Rattle.properties_tools.specs.Propedit.Kinds.{reported};
 ghost use Rattle.properties_tools.specs.Private.Checking.{escape_finding, finding_of, ill_formed_finding, place_at, said_of, what_of, ArrangesFindings, ChecksKeys};
 ghost use Rattle.properties_tools.specs.Private.Flawed.{FindsBytes, FindsOtherBytes, FindsOtherwise, FindsRefused};
 ghost use Rattle.properties_tools.specs.Private.Json.{AddsReport};
@@ -19,6 +20,7 @@ use crate::propedit::ill_formed::{
     Flaw, first_flawed_line, first_utf_8_line, flawed_lines, has_byte_order_mark, ill_formed_lines,
 };
 use crate::propedit::key_table::KeyTable;
+use crate::propedit::kinds::{Ignored, Kind};
 use crate::propedit::line_findings::line_findings;
 use crate::propedit::misread::{Misread, find_misread};
 use crate::propedit::request::{Allowed, Check, Report};
@@ -75,9 +77,9 @@ pub(crate) enum Words {
 /// well-formed UTF-8; the well-formed lines with a non-ASCII character, if only ASCII is allowed; a byte order mark of
 /// UTF-8 or UTF-32 at the front, and in UTF-8 and UTF-16 each line with U+FEFF; the lines, but for comment lines, that
 /// end in a backslash and blanks, and the last line if it ends in a backslash; each byte of a line that ISO 8859-1
-/// reads as another character, if that isn't allowed and windows-1252 is in force; malformed escapes, but those in
-/// comments if only pairs are asked for; and pairs that repeat a key. The text is empty if nothing is wrong. Fails only
-/// if memory runs out. Whether the check is quiet is the caller's concern.
+/// reads as another character, if that isn't allowed and windows-1252 is in force; malformed escapes; and pairs that
+/// repeat a key. Findings of kinds that are ignored are left out. The text is empty if nothing is left. Fails only if
+/// memory runs out. Whether the check is quiet is the caller's concern.
 ///
 /// If a line is ill-formed, a key with U+FFFD repeats no other, since that character may stand for any bytes.
 ///
@@ -85,7 +87,7 @@ pub(crate) enum Words {
 /// let source = b"# C:\\users\na=1\na=\xe9";
 /// let asked = Check {
 ///     allowed: Allowed::All,
-///     pairs_only: false,
+///     ignored: Ignored::NONE,
 ///     quiet: false,
 ///     report: Report::Lines,
 /// };
@@ -138,13 +140,14 @@ pub(crate) fn checked(
     let otherwise = read_otherwise(alloc, source, encoding, asked.allowed)?;
     findings.extend_from_slice(&otherwise)?;
     let in_lines = line_findings(alloc, source, encoding, numbers.is_empty())?;
-    push_escapes(&mut findings, &in_lines.escapes, asked.pairs_only)?;
+    push_escapes(&mut findings, &in_lines.escapes)?;
     findings.extend_from_slice(&in_lines.repeats)?;
     sort(&mut findings)?;
     let mut text = String::new(alloc);
     let heading = Heading {
         name,
         report: asked.report,
+        ignored: asked.ignored,
     };
     push_findings(alloc, &mut text, heading, &in_lines.keys, &findings)?;
     Ok(Reported {
@@ -292,18 +295,10 @@ pub(crate) fn push_all(
     Ok(())
 }
 
-// Adds the malformed escapes, or only those of pairs.
-fn push_escapes(
-    findings: &mut Vec<Finding>,
-    escapes: &[MalformedEscape],
-    pairs_only: bool,
-) -> Result<(), AllocError>
-    ensures { OnOk result (findings.new.items ≡ findings.old.items ++ flat_map (escapes_of escape_finding pairs_only) escapes.now) }
+fn push_escapes(findings: &mut Vec<Finding>, escapes: &[MalformedEscape]) -> Result<(), AllocError>
+    ensures { OnOk result (findings.new.items ≡ findings.old.items ++ map escape_finding escapes.now) }
 {
     for escape in escapes {
-        if pairs_only && escape.in_comment {
-            continue;
-        }
         findings.push(Finding {
             line_number: escape.line_number,
             kind: FindingKind::Escape(*escape),
@@ -320,11 +315,12 @@ fn sort(findings: &mut Vec<Finding>) -> Result<(), AllocError>
     Ok(())
 }
 
-// How findings are printed: under this name, and in this form.
+// How findings are printed: under this name, in this form, and but for these kinds.
 #[derive(Clone, Copy)]
 pub(crate) struct Heading<'a> {
     pub name: &'a str,
     pub report: Report,
+    pub ignored: Ignored,
 }
 
 fn push_findings<'a>(
@@ -335,13 +331,37 @@ fn push_findings<'a>(
     findings: &[Finding],
 ) -> Result<(), AllocError>
     requires { IsKeyTable keys.now }
-    ensures { let said = map (said_of (places_of keys.now)) findings.now in
+    ensures { let said = reported heading.entry.ignored (λ s. kind_of s.what) (map (said_of (places_of keys.now)) findings.now) in
         OnOk result (AddsReport heading.entry.report (said_line heading.entry.name.now) (said_value heading.entry.name.now) said text.old text.new) }
 {
     for finding in findings {
-        push_finding(alloc, text, heading, keys, finding)?;
+        if !heading.ignored.contains(kind_of(finding.kind)) {
+            push_finding(alloc, text, heading, keys, finding)?;
+        }
     }
     Ok(())
+}
+
+// Returns the kind of a finding.
+pub(crate) fn kind_of(kind: FindingKind) -> Kind
+    ensures { (places : List KeyPlace) → result ≡ kind_of (what_of places kind) }
+{
+    match kind {
+        FindingKind::HoldsZero => Kind::Zero,
+        FindingKind::IllFormedLine(_) => Kind::IllFormed,
+        FindingKind::LooksUtf8 => Kind::LooksLikeUtf8,
+        FindingKind::NonAscii => Kind::NonAscii,
+        FindingKind::ReadOtherwise(_) => Kind::ReadOtherwise,
+        FindingKind::Misread(misread) => misread.kind(),
+        FindingKind::Escape(escape) => {
+            if escape.in_comment {
+                Kind::EscapeInComment
+            } else {
+                Kind::EscapeInPair
+            }
+        }
+        FindingKind::Repeats(_) => Kind::RepeatedKey,
+    }
 }
 
 #[inline(always)]

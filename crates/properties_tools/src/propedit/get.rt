@@ -16,6 +16,15 @@ use crate::propedit::values::values_of;
 use java_properties::Encoding;
 use std::alloc::{AllocError, Global};
 
+/// How values are printed.
+#[derive(Clone, Copy)]
+pub struct Shown<'a> {
+    /// What is printed for a key that no pair has.
+    pub default: Option<&'a str>,
+    /// What ends each text.
+    pub end: Terminator,
+}
+
 /// Returns the last value of each key, or the default if no pair has the key, and the byte that ends it. For a key with
 /// neither there is no text, and the status is 1.
 ///
@@ -24,7 +33,8 @@ use std::alloc::{AllocError, Global};
 ///
 /// ```text
 /// // If `keys` are `b` and `a`:
-/// let answer = get(alloc, b"b = 1\na = 2\nb = 3", Encoding::UTF_8, &keys, None, Terminator::LineFeed)?;
+/// let shown = Shown { default: None, end: Terminator::LineFeed };
+/// let answer = get(alloc, b"b = 1\na = 2\nb = 3", Encoding::UTF_8, &keys, shown)?;
 /// // The text is `3` and `2`, each ended by a line feed, and the status is 0.
 /// ```
 pub fn get(
@@ -32,31 +42,30 @@ pub fn get(
     source: &[u8],
     encoding: Encoding,
     keys: &[String],
-    default: Option<&str>,
-    end: Terminator,
+    shown: Shown<'_>,
 ) -> Result<Answer, Failure>
-    ensures { let e = encoding_of encoding in
-        Gets e source.now (map characters keys.now) (option_map borrowed_characters default.entry) end result }
+    ensures { let default = option_map borrowed_characters shown.entry.default in
+        Gets (encoding_of encoding) source.now (map characters keys.now) default shown.entry.end result }
 {
     refuse_bytes(source, encoding)?;
     let values = values_of(alloc, source, encoding, keys)?;
-    Ok(answer_of(alloc, &values, default, end)?)
+    Ok(answer_of(alloc, &values, shown)?)
 }
 
 // Returns each value with the byte that ends it, or else the default. The status is 1 if there is neither for one.
 fn answer_of(
     alloc: Global,
     values: &[Option<String>],
-    default: Option<&str>,
-    end: Terminator,
+    shown: Shown<'_>,
 ) -> Result<Answer, AllocError>
-    ensures { IfOk result (Prints end (map (value_or (option_map borrowed_characters default.entry)) (value_texts values.now))) }
+    ensures { let default = option_map borrowed_characters shown.entry.default in
+        IfOk result (Prints shown.entry.end (map (value_or default) (value_texts values.now))) }
 {
     let mut text = Vec::new(alloc);
     let mut status = 0;
     for value in values {
-        match value_or(value, default) {
-            Some(word) => push_ended(&mut text, word, end)?,
+        match value_or(value, shown.default) {
+            Some(word) => push_ended(&mut text, word, shown.end)?,
             None => status = 1,
         }
     }

@@ -2,11 +2,12 @@
 
 ghost use Rattle.std.specs.Prelude.{◌≡◌, ◌++◌, OnOk};
 ghost use Rattle.properties_text.specs.Encoding.{encoding_of};
-ghost use Rattle.properties_tools.specs.Propedit.Misread.{misread_at, misread_mark, misread_name, misread_words, starts_with_utf_32_mark};
+ghost use Rattle.properties_tools.specs.Propedit.Misread.{misread_at, misread_kind, misread_mark, misread_words, starts_with_utf_32_mark};
 ghost use Rattle.properties_tools.specs.Private.Checking.{misread_finding, FindsMisread};
 
 use crate::propedit::check::{Finding, FindingKind, push_all};
 use crate::propedit::ill_formed::{Flaw, flawed_lines, has_byte_order_mark};
+use crate::propedit::kinds::Kind;
 use crate::propedit::open_lines::push_ends;
 use java_properties::{Encoding, PropertiesError};
 use std::alloc::{AllocError, Global};
@@ -100,16 +101,15 @@ impl Misread {
         }
     }
 
-    // Returns its name in JSON.
-    pub(crate) fn name(self) -> &'static str
-        ensures { result.now ≡ misread_name self }
+    pub(crate) fn kind(self) -> Kind
+        ensures { result ≡ misread_kind self }
     {
         match self {
-            Misread::Mark => "byte-order-mark",
-            Misread::Utf32Mark => "utf-32-mark",
-            Misread::MarkInside => "u-feff",
-            Misread::BlankAfterBackslash => "blank-after-backslash",
-            Misread::OpenAtEnd => "backslash-at-end",
+            Misread::Mark => Kind::ByteOrderMark,
+            Misread::Utf32Mark => Kind::Utf32Mark,
+            Misread::MarkInside => Kind::MarkInside,
+            Misread::BlankAfterBackslash => Kind::BlankAfterBackslash,
+            Misread::OpenAtEnd => Kind::BackslashAtEnd,
         }
     }
 }

@@ -1,6 +1,7 @@
 // What the arguments of `propedit` ask for.
 
 use crate::propedit::against::Base;
+use crate::propedit::kinds::Ignored;
 use java_properties::{Edit, Encoding, Repertoire, Spelling};
 
 /// What the arguments ask for.
@@ -136,8 +137,20 @@ pub struct Steps {
 pub enum Step {
     /// Make these edits.
     Edits(Edits),
+    /// Remove a key with its comments.
+    Removal(Removal),
     /// Rename a key.
     Renaming(Renaming),
+    /// Set the comment of a key.
+    NewComment(NewComment),
+}
+
+/// A key that is removed, with the comment lines directly above each of its pairs.
+#[derive(Drop)]
+pub struct Removal {
+    pub key: String,
+    /// What is done if no pair of the source has it. Unless that is refused, nothing is removed.
+    pub absent: AbsentKeys,
 }
 
 /// A key that is renamed where it stands, and how it is written then.
@@ -146,6 +159,18 @@ pub struct Renaming {
     pub old: String,
     pub new: String,
     /// Whether the new key is ASCII-only.
+    pub ascii_only: bool,
+    /// Whether it has only characters whose bytes ISO 8859-1 reads alike.
+    pub latin_1: bool,
+}
+
+/// A key whose comment is set, and how the comment is written.
+#[derive(Drop)]
+pub struct NewComment {
+    pub key: String,
+    /// Each of its lines becomes a comment line. The empty text has none.
+    pub text: String,
+    /// Whether what is put in is ASCII-only.
     pub ascii_only: bool,
     /// Whether it has only characters whose bytes ISO 8859-1 reads alike.
     pub latin_1: bool,
@@ -229,8 +254,8 @@ pub enum Command {
 #[derive(Clone, Copy, Debug, PartialEq, Eq)]
 pub struct Check {
     pub allowed: Allowed,
-    /// Whether malformed escapes in comments are left out: no command but this one looks at them.
-    pub pairs_only: bool,
+    /// The kinds of findings that are left out.
+    pub ignored: Ignored,
     /// Whether nothing is printed: the status alone tells whether anything is wrong.
     pub quiet: bool,
     pub report: Report,

@@ -37,7 +37,7 @@ pub(crate) fn values_of(
 fn seek(alloc: Global, keys: &[String]) -> Result<Sought, AllocError>
     ensures { IfOk result (Seeks (map characters keys.now)) }
 {
-    let marks = keys.len().saturating_mul(8).saturating_add(64);
+    let marks = keys.len().saturating_mul(16).saturating_add(64);
     let mut sought = Sought {
         values: BTreeMap::new(alloc),
         marks: vec![in alloc; false; marks]?,

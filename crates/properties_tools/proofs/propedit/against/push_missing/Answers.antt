@@ -1,12 +1,14 @@
-use Rattle.std.proofs.Common.{◌≡◌, ◌<◌, ◌≤◌, ◌∙◌, ap, arith, length, sym, take}
+use Rattle.std.proofs.Common.{◌≡◌, ◌<◌, ◌≤◌, ◌∙◌, ap, arith, length, subst, sym, take}
 use Rattle.std.specs.Prelude.{get_or}
 use Rattle.std.proofs.lemmas.List.{get_or_default, take_all}
-use Rattle.properties_tools.specs.Private.Lacking.{is_lacking}
+use Rattle.properties_tools.specs.Private.Lacking.{is_lacking, lacking, AddsMissing}
 use Rattle.properties_tools.specs.Private.Table.{place_keys, places_of}
 use Rattle.properties_tools.specs.Propedit.Against.{missing_line, missing_value}
 use Rattle.properties_tools.specs.declared.propedit.against.Sides.{Sides}
-use Rattle.properties_tools.proofs.Json.{adds-both}
+use Rattle.properties_tools.specs.declared.propedit.kinds.Kind.TheVariants.{MissingKey}
+use Rattle.properties_tools.proofs.Json.{adds-both, adds-none}
 use Rattle.properties_tools.proofs.KeyTables.{none}
+use Rattle.properties_tools.proofs.LeftOut.{all-reported, none-reported}
 use Rattle.properties_tools.proofs.Printed.{kept, left_out}
 use Rattle.properties_tools.proofs.propedit.against.push_missing.Goals as goal
 use Rattle.properties_tools.proofs.propedit.against.push_missing.Goals.{then-is_lacking+in_ok-push_missing_row, else-is_lacking}
@@ -33,11 +35,23 @@ loop-row-preserved c =
           rw (w.text-is, left_out (λ p. lacks p.key) places row place within is (told ∙ w.if-is_lacking.false)) c.loop-row.invariant
     ]
 
+pub returns-then-contains : goal.returns-then-contains
+returns-then-contains c =
+    let s : Sides = c.args.sides.now in
+    let told = sym c.contains.ensures ∙ c.if-contains.true in
+    subst (λ v. AddsMissing s v c.args.text.now c.args.text.now)
+    (sym (none-reported s.heading.ignored MissingKey (lacking s.are_well_formed (place_keys (places_of s.keys.now)) (places_of s.base_keys.now)) told))
+    (adds-none (missing_line s.heading.name.now s.base_name.now) (missing_value s.heading.name.now s.base_name.now) s.heading.report c.args.text.now)
+
 pub returns : goal.returns
 returns c =
-    let places = places_of c.args.sides.now.base_keys.now in
+    let s : Sides = c.args.sides.now in
+    let places = places_of s.base_keys.now in
     let size = c.len-row-end.ensures in
     let test = c.loop-row-test.false in
     let past : length places ≤ c.loop-row.row = omega arith in
     let whole : take c.loop-row.row places ≡ places = take_all c.loop-row.row places past in
-    rw whole at c.loop-row.invariant
+    let told = sym c.contains.ensures ∙ c.if-contains.false in
+    subst (λ v. AddsMissing s v c.args.text.now c.loop-row.text)
+    (sym (all-reported s.heading.ignored MissingKey (lacking s.are_well_formed (place_keys (places_of s.keys.now)) places) told))
+    (rw whole at c.loop-row.invariant)

@@ -4,16 +4,18 @@ use Rattle.std.proofs.lemmas.Str.{encodes-chars}
 use Rattle.json.specs.Json.{member, no_members, number, object, string}
 use Rattle.java_properties.specs.Findings.{KeyPlace}
 use Rattle.properties_tools.specs.Propedit.Against.{missing_line, missing_value, missing_words}
+use Rattle.properties_tools.specs.Propedit.Kinds.{kind_name}
+use Rattle.properties_tools.specs.declared.propedit.kinds.Kind.TheVariants.{MissingKey}
 use Rattle.properties_tools.specs.Private.Json.{AddsJsonLine}
 use Rattle.properties_tools.specs.Private.Table.{places_of}
 use Rattle.properties_tools.specs.declared.propedit.against.Sides.{Sides}
 use Rattle.properties_tools.proofs.Json.{adds-object}
 use Rattle.properties_tools.proofs.propedit.against.push_missing_row.Goals as goal
 
-members : (name base : List ℕ) (p : KeyPlace) {k m : List ℕ} {n : ℕ} → k ≡ encode_utf8_all p.key → n ≡ p.number → m ≡ missing_words base p
-    → object (member (codes "file") (string name) (member (codes "kind") (string (codes "missing-key")) (member (codes "key") (string k) (member (codes "base") (string base)
+members : (name base : List ℕ) (p : KeyPlace) {kind k m : List ℕ} {n : ℕ} → kind ≡ kind_name MissingKey → k ≡ encode_utf8_all p.key → n ≡ p.number → m ≡ missing_words base p
+    → object (member (codes "file") (string name) (member (codes "kind") (string kind) (member (codes "key") (string k) (member (codes "base") (string base)
     (member (codes "base_line") (number (decimal n)) (member (codes "message") (string m) no_members)))))) ≡ missing_value name base p
-members name base p key line words = rw (key, line, words) refl
+members name base p is key line words = rw (is, key, line, words) refl
 
 pub returns-in_ok-push_object-in-Json : goal.returns-in_ok-push_object-in-Json
 returns-in_ok-push_object-in-Json c =
@@ -22,6 +24,6 @@ returns-in_ok-push_object-in-Json c =
     let p : KeyPlace = get_or (places_of s.base_keys.now) c.args.row d in
     let key = sym (encodes-chars c.key-key.result.now c.key-key.utf8) ∙ ap encode_utf8_all (c.key-key.ensures d) in
     let words = c.as_str.ensures.value ∙ c.in_ok-words-in-Json.ensures.ok ∙ ap₂ (λ k n. missing_words s.base_name.now (record { key = k; number = n })) (c.key-key.ensures d) (c.first_line-base_line.ensures d) in
-    let value = members s.heading.name.now s.base_name.now p key (c.first_line-base_line.ensures d) words in
+    let value = members s.heading.name.now s.base_name.now p c.name.ensures key (c.first_line-base_line.ensures d) words in
     rw c.in-Json.is (adds-object (missing_line s.heading.name.now s.base_name.now) (missing_value s.heading.name.now s.base_name.now) p
     (subst (λ v. AddsJsonLine v c.args.text.now c.push_object.new.text) value c.in_ok-push_object-in-Json.ensures))

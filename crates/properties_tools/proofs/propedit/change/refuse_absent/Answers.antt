@@ -3,21 +3,19 @@ use Rattle.std.specs.Prelude.{map, Ok}
 use Rattle.std.specs.Str.{chars}
 use Rattle.properties_text.specs.Encoding.{encoding_of}
 use Rattle.java_properties.specs.Maps.{characters}
-use Rattle.properties_tools.specs.Propedit.Change.{IsFirstAbsent}
+use Rattle.properties_tools.specs.Propedit.Keys.{IsFirstAbsent}
 use Rattle.properties_tools.specs.Private.Hinting.{FindsAbsent}
 use Rattle.properties_tools.proofs.propedit.change.refuse_absent.Goals as goal
 
-pub returns-in-Some : goal.returns-in-Some
-returns-in-Some c =
+pub returns-in_ok-from_str-in-Some : goal.returns-in_ok-from_str-in-Some
+returns-in_ok-from_str-in-Some c =
     let e = encoding_of c.args.encoding in
     let source = c.args.source.now in
-    let keys = map characters c.in_ok-keys.keys.items in
-    let found = subst (λ k. FindsAbsent e source (map characters k) (Ok c.in_ok-key.field-0)) c.deref.ensures.value c.in_ok-key.ensures in
-    let one = subst (λ f. FindsAbsent e source keys (Ok f)) c.in-Some.is found in
+    let keys = map characters c.args.keys.now in
+    let one = subst (λ f. FindsAbsent e source keys (Ok f)) c.in-Some.is c.in_ok-key.ensures in
     let name = ap chars (sym c.in_ok-from_str-in-Some.ensures.ok) in
     inl (record {
       key = c.in_ok-from_str-in-Some.field-0;
-      first = subst (λ k. IsFirstAbsent e source k (characters c.in_ok-from_str-in-Some.field-0)) c.in_ok-keys.ensures
-          (subst (λ k. IsFirstAbsent e source keys k) name one);
+      first = subst (λ k. IsFirstAbsent e source keys k) name one;
       is = refl;
     })

@@ -1,12 +1,12 @@
 use Rattle.std.proofs.Common.{◌≡◌, ℕ, List, [], ◌++◌, ◌∙◌, rules, map, refl, ap, append_assoc, subst, sym}
-use Rattle.std.specs.List.{flat_map}
 use Rattle.properties_text.specs.Encoding.{encoding_of}
 use Rattle.java_properties.specs.Findings.{KeyPlace, escape_records}
 use Rattle.properties_items.specs.declared.findings.MalformedEscape.{MalformedEscape}
 use Rattle.properties_tools.specs.Private.Checking.{escape_finding, finding_of, ill_formed_finding, said_of}
 use Rattle.properties_tools.specs.Private.Table.{places_of}
-use Rattle.properties_tools.specs.Propedit.Check.{escapes_of, first_of, ill_formed_of, said_line, said_value, ArrangesByLine}
+use Rattle.properties_tools.specs.Propedit.Check.{first_of, ill_formed_of, kind_of, said_line, said_value, ArrangesByLine}
 use Rattle.properties_tools.specs.Propedit.Json.{IsReportText}
+use Rattle.properties_tools.specs.Propedit.Kinds.{reported}
 use Rattle.properties_tools.specs.declared.propedit.check.Finding.{Finding}
 use Rattle.properties_tools.specs.declared.propedit.check.FindingKind.TheVariants.{HoldsZero, LooksUtf8, NonAscii}
 use Rattle.properties_tools.specs.declared.propedit.check.Words.{Words}
@@ -32,7 +32,7 @@ returns c =
     let found : List Finding = c.in_ok-in_lines.in_lines.repeats.items in
     let words : Words = c.words_for-words.result in
     let all = added (first_of (finding_of HoldsZero) zero) (ill_formed_of ill_formed_finding words numbers) (first_of (finding_of LooksUtf8) utf_8)
-    (map (finding_of NonAscii) refused) otherwise (flat_map (escapes_of escape_finding c.args.asked.pairs_only) escapes) found
+    (map (finding_of NonAscii) refused) otherwise (map escape_finding escapes) found
     c.new-findings.ensures.items c.in_ok-push_first.ensures
     (rw c.deref.ensures.value at c.in_ok-push_ill_formed.ensures)
     c.in_ok-push_first-2.ensures
@@ -42,9 +42,9 @@ returns c =
     (rw c.deref-5.ensures.value at c.in_ok-extend_from_slice-2.ensures.items) in
     let repeats = rw (c.is_empty.ensures, c.in_ok-numbers.numbers.ok.0) at c.in_ok-in_lines.ensures.repeats in
     let said = said-parts P (first_of (finding_of HoldsZero) zero) (ill_formed_of ill_formed_finding words numbers) (first_of (finding_of LooksUtf8) utf_8)
-    (map (finding_of NonAscii) refused) otherwise (flat_map (escapes_of escape_finding c.args.asked.pairs_only) escapes) found _ _ _ _ _ _ _
+    (map (finding_of NonAscii) refused) otherwise (map escape_finding escapes) found _ _ _ _ _ _ _
     (said-first P HoldsZero zero) (said-ill_formed P words numbers) (said-first P LooksUtf8 utf_8) (said-all P NonAscii refused) refl
-    (said-escapes P c.args.asked.pairs_only escapes) repeats in
+    (said-escapes P escapes) repeats in
     let printed = rw c.deref-6.ensures.value at c.in_ok-push_findings.ensures in
     record {
       report = record {
@@ -66,7 +66,8 @@ returns c =
         arranged = subst (λ v. ArrangesByLine v (map (said_of P) c.sort.new.findings.items))
             (rw (c.words_for-words.ensures, c.is_some.ensures) at (ap (map (said_of P)) all ∙ said))
             (said-arranged P _ _ c.in_ok-sort.ensures);
-        is = subst (IsReportText c.args.asked.report (said_line c.args.name.now) (said_value c.args.name.now) (map (said_of P) c.sort.new.findings.items))
+        is = subst (IsReportText c.args.asked.report (said_line c.args.name.now) (said_value c.args.name.now)
+            (reported c.args.asked.ignored (λ s. kind_of s.what) (map (said_of P) c.sort.new.findings.items)))
             (sym (printed.is ∙ ap (λ v. v ++ printed.text) c.new-text.ensures.bytes)) printed.is_text;
       };
       table = c.in_ok-in_lines.ensures.table;

@@ -2,10 +2,12 @@ use Rattle.std.proofs.Common.{map, take}
 use Rattle.properties_tools.specs.Private.Checking.{said_of}
 use Rattle.properties_tools.specs.Private.Json.{AddsReport}
 use Rattle.properties_tools.specs.Private.Table.{places_of}
-use Rattle.properties_tools.specs.Propedit.Check.{said_line, said_value}
+use Rattle.properties_tools.specs.Propedit.Check.{kind_of, said_line, said_value}
+use Rattle.properties_tools.specs.Propedit.Kinds.{reported}
 use Rattle.properties_tools.proofs.propedit.check.push_findings.Given as goal
 
 abbrev pub invariant-loop-finding : goal.invariant-loop-finding
 invariant-loop-finding l =
     let name = l.heading.name.now in
-    AddsReport l.heading.report (said_line name) (said_value name) (map (said_of (places_of l.keys)) (take l.finding-index l.findings)) l.fn.text l.text
+    AddsReport l.heading.report (said_line name) (said_value name)
+    (reported l.heading.ignored (λ s. kind_of s.what) (map (said_of (places_of l.keys)) (take l.finding-index l.findings))) l.fn.text l.text

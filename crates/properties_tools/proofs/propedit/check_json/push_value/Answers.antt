@@ -7,7 +7,8 @@ use Rattle.json.specs.Json as json
 use Rattle.json.specs.Json.{boolean, member, no_members, object, string, Members}
 use Rattle.java_properties.specs.Findings.{KeyPlace}
 use Rattle.properties_items.specs.declared.findings.MalformedEscape.{MalformedEscape}
-use Rattle.properties_tools.specs.Propedit.Check.{detailed, kind_name, said_value, words_of, Said}
+use Rattle.properties_tools.specs.Propedit.Check.{detailed, kind_of, said_value, words_of, Said}
+use Rattle.properties_tools.specs.Propedit.Kinds.{kind_name}
 use Rattle.properties_tools.specs.Private.Checking.{said_of, what_of}
 use Rattle.properties_tools.specs.Private.Json.{AddsJsonLine}
 use Rattle.properties_tools.specs.Private.Table.{places_of}
@@ -17,7 +18,7 @@ use Rattle.properties_tools.specs.declared.propedit.check.FindingKind.TheVariant
 use Rattle.properties_tools.proofs.propedit.check_json.push_value.Goals as goal
 
 -- An object with these details was added.
-told : (name : List ℕ) (s : Said) (old new : String Global) {k m : List ℕ} (details : Members → Members) → k ≡ kind_name s.what → m ≡ words_of s.what
+told : (name : List ℕ) (s : Said) (old new : String Global) {k m : List ℕ} (details : Members → Members) → k ≡ kind_name (kind_of s.what) → m ≡ words_of s.what
     → ((rest : Members) → details rest ≡ detailed s.what rest)
     → AddsJsonLine (object (member (codes "file") (string name) (member (codes "line") (json.number (decimal s.line)) (member (codes "kind") (string k)
     (details (member (codes "message") (string m) no_members)))))) old new
@@ -47,7 +48,7 @@ returns-in-Escape c =
     let words = c.as_str.ensures.value ∙ c.in_ok-push_words.ensures ∙ ap (λ v. v ++ words_of (what_of P f.kind)) c.new-words.ensures.bytes in
     on_ok_weaker c.push_object.result
     (told c.args.name.now (said_of P f) c.args.text.now c.push_object.new.text (λ rest. member (codes "in_comment") (boolean c.in-Escape.escape.in_comment) rest)
-    (c.name_of_kind-kind.ensures P) words (λ rest. ap (λ k. detailed (what_of P k) rest) (sym c.in-Escape.is)))
+    (c.name-kind.ensures ∙ ap kind_name (c.kind_of.ensures P)) words (λ rest. ap (λ k. detailed (what_of P k) rest) (sym c.in-Escape.is)))
     c.push_object.ensures
 
 pub returns-in-Repeats : goal.returns-in-Repeats
@@ -60,7 +61,7 @@ returns-in-Repeats c =
     λ k n rest. member (codes "key") (string k) (member (codes "first") (json.number (decimal n)) rest) in
     on_ok_weaker c.push_object-in-Repeats.result
     (told c.args.name.now (said_of P f) c.args.text.now c.push_object-in-Repeats.new.text (both c.key_at-first.result.0.now c.key_at-first.result.1)
-    (c.name_of_kind-kind.ensures P) words
+    (c.name-kind.ensures ∙ ap kind_name (c.kind_of.ensures P)) words
     (λ rest. ap₂ (λ k n. both k n rest) c.key_at-first.ensures.text c.key_at-first.ensures.line ∙ ap (λ k. detailed (what_of P k) rest) (sym c.in-Repeats.is)))
     c.push_object-in-Repeats.ensures
 
@@ -72,5 +73,5 @@ returns c =
     ∙ ap (λ v. v ++ words_of (what_of P f.kind)) c.new-words.ensures.bytes in
     on_ok_weaker c.push_object-in_default.result
     (told c.args.name.now (said_of P f) c.args.text.now c.push_object-in_default.new.text (λ rest. rest)
-    (c.name_of_kind-kind.ensures P) words (none P f.kind c.in_default.not-Escape c.in_default.not-Repeats))
+    (c.name-kind.ensures ∙ ap kind_name (c.kind_of.ensures P)) words (none P f.kind c.in_default.not-Escape c.in_default.not-Repeats))
     c.push_object-in_default.ensures

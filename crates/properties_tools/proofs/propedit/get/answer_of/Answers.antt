@@ -32,7 +32,7 @@ pub loop-value-preserved : goal.loop-value-preserved
 loop-value-preserved c =
     let values = c.args.values.now in
     let i = c.loop-value.value-index in
-    let default = option_map borrowed_characters c.args.default in
+    let default = option_map borrowed_characters c.args.shown.default in
     let below : i < length values = omega arith in
     let found = value_texts (take i values) in
     let texts = map (value_or default) found in
@@ -44,19 +44,19 @@ loop-value-preserved c =
           let is = sym (ap (option_map borrowed_characters) w.in-Some.is) ∙ c.value_or.ensures in
           let with = ap (λ v. texts ++ v ∷ []) is ∙ sym more in
           record {
-            text = printed c.args.end texts (Some (borrowed_characters w.in-Some.word)) c.loop-value.text.items c.match-value_or.text.items
+            text = printed c.args.shown.end texts (Some (borrowed_characters w.in-Some.word)) c.loop-value.text.items c.match-value_or.text.items
                 c.loop-value.invariant.text
                 (ap (λ v. v.items) w.text-is ∙ w.in_ok-push_ended-in-Some.ensures)
-                ∙ ap (flat_map (ended_if c.args.end)) with;
+                ∙ ap (flat_map (ended_if c.args.shown.end)) with;
             status = w.status-is ∙ c.loop-value.invariant.status ∙ sym (status-some texts (borrowed_characters w.in-Some.word)) ∙ ap found_status with;
           }
       | in-None w ↦
           let is = sym (ap (option_map borrowed_characters) w.in-None.is) ∙ c.value_or.ensures in
           let with = ap (λ v. texts ++ v ∷ []) is ∙ sym more in
           record {
-            text = printed c.args.end texts None c.loop-value.text.items c.match-value_or.text.items c.loop-value.invariant.text
+            text = printed c.args.shown.end texts None c.loop-value.text.items c.match-value_or.text.items c.loop-value.invariant.text
                 (ap (λ v. v.items) w.text-is ∙ sym (append-nil c.loop-value.text.items))
-                ∙ ap (flat_map (ended_if c.args.end)) with;
+                ∙ ap (flat_map (ended_if c.args.shown.end)) with;
             status = w.status-is ∙ sym (status-none texts) ∙ ap found_status with;
           }
     ]

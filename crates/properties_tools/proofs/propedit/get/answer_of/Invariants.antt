@@ -9,6 +9,6 @@ use Rattle.properties_tools.proofs.propedit.get.answer_of.Given as goal
 
 abbrev pub invariant-loop-value : goal.invariant-loop-value
 invariant-loop-value l = record {
-  text : l.text.items ≡ flat_map (ended_if l.end) (map (value_or (option_map borrowed_characters l.fn.default)) (value_texts (take l.value-index l.values)));
-  status : l.status ≡ found_status (map (value_or (option_map borrowed_characters l.fn.default)) (value_texts (take l.value-index l.values)));
+  text : l.text.items ≡ flat_map (ended_if l.shown.end) (map (value_or (option_map borrowed_characters l.shown.default)) (value_texts (take l.value-index l.values)));
+  status : l.status ≡ found_status (map (value_or (option_map borrowed_characters l.shown.default)) (value_texts (take l.value-index l.values)));
 }
