@@ -1,22 +1,24 @@
-//! How one reads a properties file in Rust by hand, with std alone: windows-1252, in memory, and all pairs owned. It
-//! knows no other encoding, no byte order marks, and keeps no comments. Its argument is `copy`, which only reads standard
-//! input, `pairs`, which makes a vector of the pairs, or `map`, which makes a map of them; it prints how many there are.
-//! `rustc -O bench/by_hand.rs` builds it.
+//! How one reads and writes a properties file in Rust by hand, with std alone: windows-1252, in memory, and all pairs
+//! owned. It knows no other encoding, no byte order marks, and keeps no comments. Its argument is `copy`, which only reads
+//! standard input, `pairs`, which makes a vector of the pairs, or `map`, which makes a map of them; it prints how many
+//! there are. Or it is `filter`, which prints the pairs. `rustc -O bench/by_hand.rs` builds it.
 
 use std::collections::HashMap;
-use std::io::{self, Read};
+use std::io::{self, Read, Write};
 
 fn main() -> io::Result<()> {
     let how = std::env::args().nth(1).unwrap_or_default();
     let mut source = Vec::new();
     io::stdin().lock().read_to_end(&mut source)?;
-    let (mut pairs, mut map) = (vec![], HashMap::new());
+    let (mut pairs, mut map, mut printed) = (vec![], HashMap::new(), vec![]);
     let done = match how.as_str() {
         "pairs" => each_pair(&source, |key, value| pairs.push((key, value))),
         "map" => each_pair(&source, |key, value| drop(map.insert(key, value))),
+        "filter" => each_pair(&source, |key, value| print_pair(&key, &value, &mut printed)),
         _ => Ok(()),
     };
     match done {
+        Ok(()) if how == "filter" => io::stdout().write_all(&printed)?,
         Ok(()) => println!("{}", pairs.len() + map.len()),
         Err(Malformed(line)) => println!("line {line}: a malformed escape"),
     }
@@ -162,15 +164,50 @@ fn decode(bytes: &[u8], out: &mut String) {
     }
 }
 
+const FROM_80: [char; 32] = [
+    '€', '\u{81}', '‚', 'ƒ', '„', '…', '†', '‡', 'ˆ', '‰', 'Š', '‹', 'Œ', '\u{8d}', 'Ž', '\u{8f}',
+    '\u{90}', '‘', '’', '“', '”', '•', '–', '—', '˜', '™', 'š', '›', 'œ', '\u{9d}', 'ž', 'Ÿ',
+];
+
 /// A character of windows-1252.
 fn character(byte: u8) -> char {
-    const FROM_80: [char; 32] = [
-        '€', '\u{81}', '‚', 'ƒ', '„', '…', '†', '‡', 'ˆ', '‰', 'Š', '‹', 'Œ', '\u{8d}', 'Ž',
-        '\u{8f}', '\u{90}', '‘', '’', '“', '”', '•', '–', '—', '˜', '™', 'š', '›', 'œ', '\u{9d}',
-        'ž', 'Ÿ',
-    ];
     match byte {
         0x80..=0x9f => FROM_80[usize::from(byte - 0x80)],
         _ => char::from(byte),
+    }
+}
+
+/// A pair as a line, with its escapes.
+fn print_pair(key: &str, value: &str, out: &mut Vec<u8>) {
+    print_text(key, out);
+    out.push(b'=');
+    print_text(value, out);
+    out.push(b'\n');
+}
+
+fn print_text(text: &str, out: &mut Vec<u8>) {
+    for it in text.chars() {
+        match it {
+            '\t' => out.extend_from_slice(b"\\t"),
+            '\n' => out.extend_from_slice(b"\\n"),
+            '\x0c' => out.extend_from_slice(b"\\f"),
+            '\r' => out.extend_from_slice(b"\\r"),
+            ' ' | '=' | ':' | '#' | '!' | '\\' => out.extend_from_slice(&[b'\\', it as u8]),
+            ' '..='\x7f' => out.push(it as u8),
+            _ => print_other(it, out),
+        }
+    }
+}
+
+/// A character that isn't ASCII, or that controls: its byte in windows-1252, or escapes.
+fn print_other(it: char, out: &mut Vec<u8>) {
+    if let '\u{a0}'..='\u{ff}' = it {
+        out.push(it as u8);
+    } else if let Some(at) = FROM_80.iter().position(|&other| other == it) {
+        out.push(0x80 + at as u8);
+    } else {
+        for unit in it.encode_utf16(&mut [0; 2]) {
+            write!(out, "\\u{unit:04x}").expect("a vector takes all bytes");
+        }
     }
 }

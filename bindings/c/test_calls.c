@@ -118,13 +118,17 @@ static struct text text_of_list(struct packed const *list) {
     return text;
 }
 
-enum call { GET, ITEMS, FINDINGS, SET_VALUE, SET_KEY, REMOVE_KEY, EDIT, WRITE, CONVERT, CALLS };
-
-static char const *const names[] = {
-    "get", "items", "findings", "set_value", "set_key", "remove_key", "edit", "write", "convert",
+enum call {
+    GET, ITEMS, FINDINGS, SET_VALUE, SET_KEY, REMOVE_KEY, EDIT, RENAME_KEY, REMOVE_WITH_COMMENT, COMMENT, WRITE, CONVERT,
+    CALLS
 };
 
-/* What is passed to a call; each call takes of it what it has. */
+static char const *const names[] = {
+    "get", "items", "findings", "set_value", "set_key", "remove_key", "edit", "rename_key", "remove_with_comment",
+    "comment", "write", "convert",
+};
+
+/* What is passed to a call; each call takes of it what it has. The value is the new name of a key that is renamed. */
 struct request {
     enum call call;
     struct text source;
@@ -188,6 +192,15 @@ static int make_call(struct request const *r, uint8_t *out, size_t room, size_t 
     case EDIT:
         return todrenval_edit(r->source.bytes, r->source.length, r->encoding, r->flags, r->list.bytes,
                                r->list.length, out, room, length, line);
+    case RENAME_KEY:
+        return todrenval_rename_key(r->source.bytes, r->source.length, r->encoding, r->flags, r->key.bytes,
+                                    r->key.length, r->value.bytes, r->value.length, out, room, length, line);
+    case REMOVE_WITH_COMMENT:
+        return todrenval_remove_with_comment(r->source.bytes, r->source.length, r->encoding, r->flags, r->key.bytes,
+                                             r->key.length, out, room, length, line);
+    case COMMENT:
+        return todrenval_comment(r->source.bytes, r->source.length, r->encoding, r->flags, r->key.bytes,
+                                 r->key.length, out, room, length, line);
     case CONVERT:
         return todrenval_convert(r->source.bytes, r->source.length, r->encoding, r->target, r->flags, out, room,
                                   length, line);
@@ -232,6 +245,15 @@ static struct todrenval_result make_new(struct request const *r) {
     case EDIT:
         return todrenval_edit_new(r->source.bytes, r->source.length, r->encoding, r->flags, r->list.bytes,
                                   r->list.length);
+    case RENAME_KEY:
+        return todrenval_rename_key_new(r->source.bytes, r->source.length, r->encoding, r->flags, r->key.bytes,
+                                        r->key.length, r->value.bytes, r->value.length);
+    case REMOVE_WITH_COMMENT:
+        return todrenval_remove_with_comment_new(r->source.bytes, r->source.length, r->encoding, r->flags,
+                                                 r->key.bytes, r->key.length);
+    case COMMENT:
+        return todrenval_comment_new(r->source.bytes, r->source.length, r->encoding, r->flags, r->key.bytes,
+                                     r->key.length);
     case CONVERT:
         return todrenval_convert_new(r->source.bytes, r->source.length, r->encoding, r->target, r->flags);
     default:
@@ -551,6 +573,61 @@ static void try_edits(void) {
     check("edit, Latin-1", request, TODRENVAL_OK, 0, T("a : 3\nc=\xe9\n"));
 }
 
+static void try_renaming(void) {
+    struct request request = request_of(RENAME_KEY, T("# k\n  k\t= 1\\\n  k\n\\u006b: 2"), TODRENVAL_UTF_8);
+    check("rename_key", request, TODRENVAL_OK, 0, T("# k\n  v\t= 1\\\n  k\nv: 2"));
+    request.value = T("k");
+    check("rename_key to what it is", request, TODRENVAL_OK, 0, request.source);
+    request.value = T("");
+    check("rename_key to nothing", request, TODRENVAL_OK, 0, T("# k\n  \t= 1\\\n  k\n: 2"));
+    request.key = T("v");
+    refuses("rename_key of none", request, TODRENVAL_NO_KEY, 0);
+    request = request_of(RENAME_KEY, T("\nk=1\na\\\n\nv\\\n\nv=2"), TODRENVAL_UTF_8);
+    refuses("rename_key to one that is there", request, TODRENVAL_KEY_TAKEN, 5);
+    request.key = T("b");
+    refuses("rename_key of none to one that is there", request, TODRENVAL_NO_KEY, 0);
+    request = request_of(RENAME_KEY, T("k 1\nk"), TODRENVAL_UTF_8);
+    request.value = T("");
+    check("rename_key to a sign", request, TODRENVAL_OK, 0, T("= 1\n="));
+
+    /* What may stand unescaped, and what would begin like a byte order mark. */
+    request = request_of(RENAME_KEY, T("k=\xe9\n"), TODRENVAL_WINDOWS_1252);
+    request.value = T("\xc3\xa9 \xe2\x82\xac");
+    check("rename_key, windows-1252", request, TODRENVAL_OK, 0, T("\xe9\\ \x80=\xe9\n"));
+    request.flags = TODRENVAL_LATIN_1;
+    check("rename_key, Latin-1", request, TODRENVAL_OK, 0, T("\xe9\\ \\u20ac=\xe9\n"));
+    request.flags = TODRENVAL_ASCII_ONLY | TODRENVAL_STRICT;
+    check("rename_key, ASCII", request, TODRENVAL_OK, 0, T("\\u00e9\\ \\u20ac=\xe9\n"));
+    request = request_of(RENAME_KEY, T("k=1\nk=2"), TODRENVAL_UTF_8);
+    request.value = T("\xef\xbb\xbf");
+    check("rename_key like a byte order mark", request, TODRENVAL_OK, 0, T("\\ufeff=1\n\xef\xbb\xbf=2"));
+}
+
+static void try_key_comments(void) {
+    struct request request = request_of(COMMENT, T("# k\nk=1\n# of\n\n # the\n#\n!  last\\u00e9\r\n\\u006b"), TODRENVAL_UTF_8);
+    check("comment", request, TODRENVAL_OK, 0, T("the\n\n last\\u00e9\n"));
+    request.key = T("the");
+    refuses("comment of none", request, TODRENVAL_NO_KEY, 0);
+    request = request_of(REMOVE_WITH_COMMENT, request.source, TODRENVAL_UTF_8);
+    check("remove_with_comment", request, TODRENVAL_OK, 0, T("# of\n\n"));
+    request.key = T("the");
+    check("remove_with_comment of none", request, TODRENVAL_OK, 0, request.source);
+    request.source = T("#\nthe\n\xef\xbb\xbf=1");
+    check("remove_with_comment before a byte order mark", request, TODRENVAL_OK, 0, T("\n\xef\xbb\xbf=1"));
+    request.source = T("\xef\xbb\xbf#\nthe");
+    check("remove_with_comment after a byte order mark", request, TODRENVAL_OK, 0, T("\xef\xbb\xbf"));
+
+    /* A comment is raw: no escape of it is read. One of another pair is. */
+    request = request_of(COMMENT, T("# C:\\users \xe9\nk"), TODRENVAL_WINDOWS_1252);
+    check("comment, raw", request, TODRENVAL_OK, 0, T("C:\\users \xc3\xa9\n"));
+    request.encoding = TODRENVAL_UTF_8;
+    check("comment, replaced", request, TODRENVAL_OK, 0, T("C:\\users \xef\xbf\xbd\n"));
+    request.flags = TODRENVAL_STRICT;
+    refuses("comment, strict", request, TODRENVAL_NOT_TEXT, 1);
+    request = request_of(COMMENT, T("#C:\\users\nk\n\nb\\ud83d"), TODRENVAL_UTF_8);
+    refuses("comment before an escape", request, TODRENVAL_INVALID_CHARACTER, 4);
+}
+
 static void try_write(void) {
     struct packed list = {{0}, 0};
     struct request request = request_of(WRITE, T(""), TODRENVAL_UTF_8);
@@ -747,13 +824,12 @@ static void try_convert(void) {
 
 /* Sources that aren't text are refused where a call is strict, before malformed escapes, and read where it isn't. */
 static void try_strict(void) {
-    static enum call const calls[] = {GET, EDIT, CONVERT};
+    static enum call const calls[] = {GET, EDIT, RENAME_KEY, REMOVE_WITH_COMMENT, COMMENT, CONVERT};
     static size_t const lines[] = {2, 1, 1, 3, 2, 2, 1, 2};
     static uint32_t const encodings[] = {
         TODRENVAL_UTF_8,    TODRENVAL_UTF_8,    TODRENVAL_UTF_16LE, TODRENVAL_UTF_8,
         TODRENVAL_UTF_16LE, TODRENVAL_UTF_16BE, TODRENVAL_UTF_8,    TODRENVAL_WINDOWS_1252,
     };
-    static int const others[] = {TODRENVAL_BAD_LIST, TODRENVAL_NOT_UTF_8};
     struct text sources[8], sound[5];
     size_t number, place;
     sources[0] = T("k=1\n\xff=\\u12\n\xff");
@@ -764,7 +840,7 @@ static void try_strict(void) {
     sources[5] = T("\0k\0\n\0");
     sources[6] = T("\xff\xfe\0\xdc");
     sources[7] = T("\xef\xbb\xbf\n\x80");
-    for (number = 0; number < 3; number++) {
+    for (number = 0; number < sizeof calls / sizeof *calls; number++) {
         for (place = 0; place < 8; place++) {
             struct request request = request_of(calls[number], sources[place], encodings[place]);
             request.flags = TODRENVAL_STRICT;
@@ -772,7 +848,8 @@ static void try_strict(void) {
             if (calls[number] != CONVERT) {
                 request.key = T("\xff");
                 request.list = T("x");
-                refuses("before strict", request, others[calls[number] == GET], 0);
+                refuses("before strict", request,
+                        calls[number] == EDIT ? TODRENVAL_BAD_LIST : TODRENVAL_NOT_UTF_8, 0);
             }
         }
     }
@@ -1254,8 +1331,10 @@ static void try_encodings(void) {
 
 /* Flags that there are not, and those that a call has no use for, before a key and a list that are no good. */
 static void try_flags(void) {
-    static enum call const calls[] = {GET, SET_VALUE, SET_KEY, REMOVE_KEY, EDIT, WRITE, CONVERT};
-    static uint32_t const taken[] = {36, 8229, 8229, 8229, 8229, 4123, 34};
+    static enum call const calls[] = {
+        GET, SET_VALUE, SET_KEY, REMOVE_KEY, EDIT, RENAME_KEY, REMOVE_WITH_COMMENT, COMMENT, WRITE, CONVERT,
+    };
+    static uint32_t const taken[] = {36, 8229, 8229, 8229, 8229, 8229, 36, 32, 4123, 34};
     static uint32_t const flags[] = {
         0,    1,    2,    3,    4,    5,    6,     7,     8,     12,         16,         32,         33,         34,
         36,   37,   38,   64,   128,  255,  256,   512,   1024,  2048,       4096,       4097,       4128,       4160,
@@ -1286,10 +1365,12 @@ static void try_flags(void) {
 
 /* Malformed escapes in comments: passed over, and errors where comments are read. */
 static void try_comments(void) {
-    static enum call const calls[] = {GET, SET_VALUE, SET_KEY, REMOVE_KEY, EDIT, EDIT, EDIT};
+    static enum call const calls[] = {
+        GET, SET_VALUE, SET_KEY, REMOVE_KEY, EDIT, EDIT, EDIT, RENAME_KEY, REMOVE_WITH_COMMENT,
+    };
     static size_t const lines[] = {1, 2, 3};
-    struct text sources[3], results[7][3];
-    struct packed lists[7];
+    struct text sources[3], results[9][3];
+    struct packed lists[9];
     size_t number, place, line;
     uint32_t ascii;
     memset(lists, 0, sizeof lists);
@@ -1314,14 +1395,20 @@ static void try_comments(void) {
     for (place = 0; place < 3; place++) {
         results[4][place] = results[5][place] = results[1][place];
         results[6][place] = sources[place];
+        results[8][place] = results[3][place];
     }
-    for (number = 0; number < 7; number++) {
+    results[7][0] = T("# C:\\users\nv : 1\n");
+    results[7][1] = T("v : 1\n!\\u12\nb=2\n");
+    results[7][2] = T("\nv : 1\n  #\\ud83d\\u0041");
+    results[8][0] = T("");
+    for (number = 0; number < 9; number++) {
         for (place = 0; place < 3; place++) {
             static int const statuses[] = {
                 TODRENVAL_NOT_HEX, TODRENVAL_NOT_ENOUGH_DIGITS, TODRENVAL_INVALID_CHARACTER,
             };
             struct request request = request_of(calls[number], sources[place], TODRENVAL_UTF_8);
-            bool puts_text = calls[number] != GET && calls[number] != REMOVE_KEY;
+            bool puts_text =
+                calls[number] != GET && calls[number] != REMOVE_KEY && calls[number] != REMOVE_WITH_COMMENT;
             request.list = text_of_list(&lists[number]);
             for (ascii = 0; ascii <= (puts_text ? 1u : 0u); ascii++) {
                 request.flags = ascii;
@@ -1354,7 +1441,9 @@ static void try_comments(void) {
 static void try_texts(void) {
     /* Bytes that no character has, characters that are cut or too long, a surrogate, and one past the last. */
     struct text texts[8];
-    static enum call const calls[] = {GET, SET_VALUE, SET_KEY, REMOVE_KEY};
+    static enum call const calls[] = {
+        SET_VALUE, SET_KEY, RENAME_KEY, GET, REMOVE_KEY, REMOVE_WITH_COMMENT, COMMENT,
+    };
     size_t place, number;
     texts[0] = T("\xff");
     texts[1] = T("a\x80");
@@ -1365,11 +1454,11 @@ static void try_texts(void) {
     texts[6] = T("\xf4\x90\x80\x80");
     texts[7] = T("\xe3\x81z");
     for (place = 0; place < 8; place++) {
-        for (number = 0; number < 4; number++) {
+        for (number = 0; number < sizeof calls / sizeof *calls; number++) {
             struct request request = request_of(calls[number], T("k=\\u1\n"), TODRENVAL_UTF_16LE);
             request.key = texts[place];
             refuses(names[calls[number]], request, TODRENVAL_NOT_UTF_8, 0);
-            if (number == 1 || number == 2) {
+            if (number < 3) {
                 request.key = T("k");
                 request.value = texts[place];
                 refuses(names[calls[number]], request, TODRENVAL_NOT_UTF_8, 0);
@@ -1453,7 +1542,7 @@ static void try_lists(void) {
 
 static void try_escapes(void) {
     static int const statuses[] = {TODRENVAL_NOT_ENOUGH_DIGITS, TODRENVAL_NOT_HEX, TODRENVAL_INVALID_CHARACTER};
-    static enum call const calls[] = {GET, SET_VALUE, SET_KEY, REMOVE_KEY, EDIT};
+    static enum call const calls[] = {GET, SET_VALUE, SET_KEY, REMOVE_KEY, EDIT, RENAME_KEY, REMOVE_WITH_COMMENT};
     struct text sources[3];
     size_t number, place;
     sources[0] = T("# c\nk=1\n\nb=\\\n  \\u12\nk=2\\uxxxx");
@@ -1466,7 +1555,7 @@ static void try_escapes(void) {
         put_item(&list, TODRENVAL_PAIR, 2, T("k"), T("1"));
         put_item(&edits, TODRENVAL_EDIT_SET_KEY, 0, T("a"), T("1"));
         check("items before an escape", items_of(sources[number]), statuses[number], 4, text_of_list(&list));
-        for (place = 0; place < 5; place++) {
+        for (place = 0; place < sizeof calls / sizeof *calls; place++) {
             struct request request = request_of(calls[place], sources[number], TODRENVAL_WINDOWS_1252);
             request.list = text_of_list(&edits);
             request.flags = TODRENVAL_READ_COMMENTS;
@@ -1480,7 +1569,7 @@ static void try_escapes(void) {
 static void try_unsupported(void) {
     struct text little = T("\xff\xfek\0"), big = T("\xfe\xff\0k");
     int call;
-    for (call = SET_VALUE; call <= EDIT; call++) {
+    for (call = SET_VALUE; call <= COMMENT; call++) {
         enum call edit = (enum call)call;
         refuses(names[call], request_of(edit, T(""), TODRENVAL_UTF_16LE), TODRENVAL_UNSUPPORTED, 0);
         refuses(names[call], request_of(edit, T("\0k"), TODRENVAL_UTF_16BE), TODRENVAL_UNSUPPORTED, 0);
@@ -1543,7 +1632,7 @@ static void try_memory(void) {
     struct packed pairs = {{0}, 0};
     struct packed first, before;
     struct text results[CALLS][2];
-    static uint32_t const all_flags[] = {36, 36, 0, 37, 37, 37, 37, 4099, 34};
+    static uint32_t const all_flags[] = {36, 36, 0, 37, 37, 37, 37, 37, 36, 32, 4099, 34};
     int call, flagged;
     put_item(&edits, TODRENVAL_EDIT_SET_KEY, 0, T("a"), T("\xc3\xa9"));
     put_item(&edits, TODRENVAL_EDIT_SET_VALUE, 0, T("k"), T("12"));
@@ -1568,6 +1657,10 @@ static void try_memory(void) {
     results[REMOVE_KEY][0] = results[REMOVE_KEY][1] = T("# c\n");
     results[EDIT][0] = T("# c\nk : \\u0031\nk=12\nb=\xc3\xa9\n");
     results[EDIT][1] = T("# c\nk : \\u0031\nk=12\nb=\\u00e9\n");
+    results[RENAME_KEY][0] = T("# c\n\xc3\xa9 : \\u0031\n\xc3\xa9=2\n");
+    results[RENAME_KEY][1] = T("# c\n\\u00e9 : \\u0031\n\\u00e9=2\n");
+    results[REMOVE_WITH_COMMENT][0] = results[REMOVE_WITH_COMMENT][1] = T("");
+    results[COMMENT][0] = results[COMMENT][1] = T("");
     results[WRITE][0] = T("# c\nk=\xc3\xa9\n");
     results[WRITE][1] = T("# c\nk=\\u00e9\n");
     results[CONVERT][0] = results[CONVERT][1] = T("# c\nk : \\u0031\nk=2\n");
@@ -1608,6 +1701,14 @@ static void try_memory_converting(void) {
     refuse_each("convert of UTF-16", request, TODRENVAL_OK, 0, T("\\ufeffk=\xc3\xa9"));
     request.source = T("\xef\xbb\xbf\xef\xbb\xbfk=\xff");
     refuse_each("convert of what isn't UTF-8", request, TODRENVAL_OK, 0, T("\\ufeffk=\xef\xbf\xbd"));
+}
+
+/* The same of a comment of some lines, and of a key that is taken. */
+static void try_memory_keys(void) {
+    struct request request = request_of(COMMENT, T("# c\n# d\nk\n"), TODRENVAL_UTF_8);
+    refuse_each("comment", request, TODRENVAL_OK, 0, T("c\nd\n"));
+    request = request_of(RENAME_KEY, T("k\nv\n"), TODRENVAL_UTF_8);
+    refuse_each("rename_key", request, TODRENVAL_KEY_TAKEN, 2, T(""));
 }
 
 static void try_memory_parts(void) {
@@ -1656,12 +1757,13 @@ static void try_words(void) {
         "Empty key with a blank key/value separator.",
         "Unknown flags.",
         "The source isn't text in its encoding.",
+        "A pair has the new key already.",
     };
-    static int const unknown[] = {-2147483647 - 1, -1, TODRENVAL_NOT_TEXT + 1, 2147483647};
+    static int const unknown[] = {-2147483647 - 1, -1, TODRENVAL_KEY_TAKEN + 1, 2147483647};
     int const known = (int)(sizeof texts / sizeof *texts);
     char reason[TODRENVAL_REASON_ROOM];
     int each;
-    count(known == TODRENVAL_NOT_TEXT + 1, "each status", "status_text", known);
+    count(known == TODRENVAL_KEY_TAKEN + 1, "each status", "status_text", known);
     for (each = 0; each < known + 4; each++) {
         int status = each < known ? each : unknown[each - known];
         char const *text = each < known ? texts[each] : "Unknown status.";
@@ -1684,6 +1786,8 @@ int main(void) {
     try_find();
     try_findings();
     try_edits();
+    try_renaming();
+    try_key_comments();
     try_write();
     try_settings();
     try_convert();
@@ -1701,6 +1805,7 @@ int main(void) {
     try_unsupported();
     try_memory();
     try_memory_converting();
+    try_memory_keys();
     try_memory_parts();
     try_words();
     printf("%ld passed, %ld failed\n", passed, failed);

@@ -65,7 +65,7 @@ extern "C" {
 enum todrenval_status {
     TODRENVAL_OK = 0,
     TODRENVAL_NO_ROOM = 1,           /* *length bytes are needed in `out` */
-    TODRENVAL_NO_KEY = 2,            /* todrenval_get: no pair has the key */
+    TODRENVAL_NO_KEY = 2,            /* todrenval_get, _rename_key, _comment: no pair has the key */
     TODRENVAL_NO_MEMORY = 3,         /* malloc or realloc returned null */
     TODRENVAL_UNKNOWN_ENCODING = 4,  /* no number of enum todrenval_encoding or todrenval_target */
     TODRENVAL_NOT_UTF_8 = 5,         /* a key, a value, a prefix, a separator or a text of a list isn't UTF-8 */
@@ -74,12 +74,13 @@ enum todrenval_status {
     TODRENVAL_NOT_HEX = 8,           /* one of the four characters after a \u isn't a hexadecimal digit */
     TODRENVAL_INVALID_CHARACTER = 9, /* an escape is a surrogate without its partner */
     TODRENVAL_TOO_MANY_LINES = 10,   /* never comes: no source in memory has so many lines */
-    TODRENVAL_UNSUPPORTED = 11,      /* a source in UTF-16 can't be edited, and its items have no spans */
+    TODRENVAL_UNSUPPORTED = 11,      /* a source in UTF-16 can't be edited, nor gives it spans or comments of keys */
     TODRENVAL_BAD_PREFIX = 12,       /* todrenval_write: a comment can't begin so */
     TODRENVAL_BAD_SEPARATOR = 13,    /* todrenval_write: a key and a value can't be separated so */
     TODRENVAL_EMPTY_KEY = 14,        /* todrenval_write: an empty key, and blanks alone as the separator */
     TODRENVAL_UNKNOWN_FLAGS = 15,    /* flags that the call doesn't take, or not together */
-    TODRENVAL_NOT_TEXT = 16          /* with TODRENVAL_STRICT: the bytes of a line aren't text of the encoding */
+    TODRENVAL_NOT_TEXT = 16,         /* with TODRENVAL_STRICT: the bytes of a line aren't text of the encoding */
+    TODRENVAL_KEY_TAKEN = 17         /* todrenval_rename_key: a pair has the new key, the first one in *line */
 };
 
 /* How the bytes of a source are read, and an edit or a list is written. A byte order mark at the front of a source
@@ -103,20 +104,20 @@ enum todrenval_target {
 /* Flags: 0, one of these, or several, as in TODRENVAL_ASCII_ONLY | TODRENVAL_READABLE. A call refuses a flag that it
  * has no use for, and any other bit. */
 enum todrenval_flag {
-    /* Each non-ASCII character that is put in is an escape: todrenval_edit, _write. */
+    /* Each non-ASCII character that is put in is an escape: todrenval_edit, _rename_key, _write. */
     TODRENVAL_ASCII_ONLY = 1,
     /* todrenval_write: values are written as people write them. todrenval_convert: an escape of a non-ASCII character
      * that the target has becomes that character. */
     TODRENVAL_READABLE = 2,
-    /* Comments are read: their escapes are resolved, and a malformed one is an error. todrenval_get, _items, _edit.
-     * Without this flag, and without the two for todrenval_items that give comments as they stand, comments are passed
-     * over, as in Java, so one may be `# C:\users`. */
+    /* Comments are read: their escapes are resolved, and a malformed one is an error. todrenval_get, _items, _edit,
+     * _rename_key, _remove_with_comment. Without this flag, and without the two for todrenval_items that give comments
+     * as they stand, comments are passed over, as in Java, so one may be `# C:\users`. */
     TODRENVAL_READ_COMMENTS = 4,
     /* Lines end in CR LF, or in CR, and not in LF: todrenval_write. It takes one of the two at most. */
     TODRENVAL_CRLF = 8,
     TODRENVAL_CR = 16,
-    /* A source whose bytes aren't text of the encoding is refused as TODRENVAL_NOT_TEXT: todrenval_get, _items, _edit,
-     * _convert. A byte 0 isn't text in UTF-8 without a byte order mark: that is how UTF-16 looks when its mark is
+    /* A source whose bytes aren't text of the encoding is refused as TODRENVAL_NOT_TEXT: by all calls with flags but
+     * todrenval_write. A byte 0 isn't text in UTF-8 without a byte order mark: that is how UTF-16 looks when its mark is
      * missing. *line is the first line with such a byte; or, if there is none, the first one that isn't text. In
      * windows-1252 every byte is text. */
     TODRENVAL_STRICT = 32,
@@ -132,8 +133,8 @@ enum todrenval_flag {
     /* Lines were written before those of the list, so none begins a file: todrenval_write. */
     TODRENVAL_GOES_ON = 4096,
     /* Each character that is put in is an escape, unless it is U+0000 to U+007F or U+00A0 to U+00FF, which ISO 8859-1
-     * and windows-1252 write alike: todrenval_edit. In UTF-8 it is TODRENVAL_ASCII_ONLY. With that flag it changes
-     * nothing. */
+     * and windows-1252 write alike: todrenval_edit, _rename_key. In UTF-8 it is TODRENVAL_ASCII_ONLY. With that flag it
+     * changes nothing. */
     TODRENVAL_LATIN_1 = 8192
 };
 
@@ -330,6 +331,35 @@ int todrenval_findings(uint8_t const *source, size_t source_length, uint32_t enc
  * item, or removes a key and has a value. */
 int todrenval_edit(uint8_t const *source, size_t source_length, uint32_t encoding, uint32_t flags, uint8_t const *edits,
                    size_t edits_length, uint8_t *out, size_t room, size_t *length, size_t *line);
+
+/* Writes the source with a key renamed where it stands: in each pair with the old key, the new key replaces its bytes,
+ * written as todrenval_edit writes a key with these flags. Every other byte stays: the indent, the separator, the value
+ * and the line endings. If the new key is empty, and blanks alone or nothing follow it, `=` comes in its place. If the
+ * new key is the old one, nothing changes.
+ *
+ * Returns what todrenval_edit returns, but for _BAD_LIST. If that would be TODRENVAL_OK, it returns _NO_KEY if no pair
+ * has the old key; and then _KEY_TAKEN if a pair has the new key, and *line is where the first such pair begins. */
+int todrenval_rename_key(uint8_t const *source, size_t source_length, uint32_t encoding, uint32_t flags,
+                         uint8_t const *old_key, size_t old_length, uint8_t const *new_key, size_t new_length,
+                         uint8_t *out, size_t room, size_t *length, size_t *line);
+
+/* Writes the source without the pairs that have a key, and without the comment lines directly above each of them: no
+ * blank line and no other pair is between. Every other byte stays. If no pair has the key, nothing changes. If what is
+ * left would begin like a byte order mark, a line feed comes first.
+ *
+ * Returns what todrenval_edit returns, but for _BAD_LIST. */
+int todrenval_remove_with_comment(uint8_t const *source, size_t source_length, uint32_t encoding, uint32_t flags,
+                                  uint8_t const *key, size_t key_length, uint8_t *out, size_t room, size_t *length,
+                                  size_t *line);
+
+/* Writes the comment of a key: the text of each comment line directly above the last pair with it, in UTF-8, and a line
+ * feed after each. A text is what follows the sign and one blank, as it stands, and has no line feed. If there is no
+ * such line, *length is 0. Malformed escapes in comments are no error. Of the flags it takes TODRENVAL_STRICT.
+ *
+ * Returns TODRENVAL_OK, _NO_ROOM, _NO_KEY, _NO_MEMORY, _UNKNOWN_ENCODING, _UNKNOWN_FLAGS, _NOT_UTF_8 (of the key),
+ * _NOT_TEXT, _UNSUPPORTED, or _NOT_ENOUGH_DIGITS, _NOT_HEX or _INVALID_CHARACTER of a pair. */
+int todrenval_comment(uint8_t const *source, size_t source_length, uint32_t encoding, uint32_t flags,
+                      uint8_t const *key, size_t key_length, uint8_t *out, size_t room, size_t *length, size_t *line);
 
 /* Writes the source in another encoding. All else stays as it is: comments, blank lines, layout, line endings, and what
  * each key, value and comment means.
@@ -767,6 +797,50 @@ static inline struct todrenval_result todrenval_remove_key_new(void const *sourc
                                                                size_t key_length) {
     return todrenval_edit_one(source, source_length, encoding, flags, TODRENVAL_EDIT_REMOVE_KEY, key, key_length, NULL,
                               0);
+}
+
+static inline struct todrenval_result todrenval_rename_key_new(void const *source, size_t source_length,
+                                                               uint32_t encoding, uint32_t flags, void const *old_key,
+                                                               size_t old_length, void const *new_key,
+                                                               size_t new_length) {
+    size_t room;
+    struct todrenval_result result = todrenval_try_room(source_length + new_length);
+    while (todrenval_make_room(&result, &room)) {
+        result.status = todrenval_rename_key(todrenval_in(source), source_length, encoding, flags,
+                                             todrenval_in(old_key), old_length, todrenval_in(new_key), new_length,
+                                             todrenval_out(&result), room, &result.length, &result.line);
+    }
+    if (flags & TODRENVAL_READ_COMMENTS) {
+        todrenval_see_comment(&result, source, source_length, encoding);
+    }
+    return result;
+}
+
+static inline struct todrenval_result todrenval_remove_with_comment_new(void const *source, size_t source_length,
+                                                                        uint32_t encoding, uint32_t flags,
+                                                                        void const *key, size_t key_length) {
+    size_t room;
+    struct todrenval_result result = todrenval_try_room(source_length + 1);
+    while (todrenval_make_room(&result, &room)) {
+        result.status = todrenval_remove_with_comment(todrenval_in(source), source_length, encoding, flags,
+                                                      todrenval_in(key), key_length, todrenval_out(&result), room,
+                                                      &result.length, &result.line);
+    }
+    if (flags & TODRENVAL_READ_COMMENTS) {
+        todrenval_see_comment(&result, source, source_length, encoding);
+    }
+    return result;
+}
+
+static inline struct todrenval_result todrenval_comment_new(void const *source, size_t source_length, uint32_t encoding,
+                                                            uint32_t flags, void const *key, size_t key_length) {
+    size_t room;
+    struct todrenval_result result = todrenval_try_room(1024);
+    while (todrenval_make_room(&result, &room)) {
+        result.status = todrenval_comment(todrenval_in(source), source_length, encoding, flags, todrenval_in(key),
+                                          key_length, todrenval_out(&result), room, &result.length, &result.line);
+    }
+    return result;
 }
 
 static inline struct todrenval_result todrenval_convert_new(void const *source, size_t source_length, uint32_t encoding,

@@ -552,6 +552,7 @@ def try_arguments(count):
         (todrenval.set_value, ["a", "b"]),
         (todrenval.set_key, ["a", "b"]),
         (todrenval.remove_key, ["a"]),
+        (todrenval.remove_with_comment, ["a"]),
         (todrenval.edit, [[]]),
         (todrenval.convert, ["ascii"]),
         (todrenval.Document, []),
@@ -569,7 +570,8 @@ def try_arguments(count):
             place = f"{call.__name__} of {data!r}: {error!r}"
             count.check(type(error) is PropertiesError and (error.status, error.line) == (Status.NOT_TEXT, line), place)
             count.check(error.reason == f"Not text of {decoded}.", place)
-            unsupported = decoded != "utf-8" and call.__name__ in ("set_value", "set_key", "remove_key", "edit", "groups")
+            edits = ("set_value", "set_key", "remove_key", "remove_with_comment", "edit")
+            unsupported = decoded != "utf-8" and call.__name__ in (*edits, "groups")
             error = raised(call, data, *more, encoding=encoding, errors="replace")
             count.check(error is None or unsupported and error.status == Status.UNSUPPORTED, f"{place}, replaced")
     for label, name in (("US-ASCII", "ascii"), ("windows-1252", "cp1252"), ("UTF8", "utf-8"), ("L1", "iso-8859-1")):
@@ -596,6 +598,7 @@ def try_arguments(count):
         (todrenval.dumps, [{"": None}], "the value of '' has to be a str, not NoneType"),
         (todrenval.dumps, [[Comment(3)]], "a comment has to be a str, not int"),
         (todrenval.remove_key, [b"", None], "the key None has to be a str, not NoneType"),
+        (todrenval.rename_key, [b"", "a", None], "the new key None has to be a str, not NoneType"),
         (todrenval.edit, [b"", {"port": 8080}], "the value of 'port' has to be a str, not int"),
         (todrenval.set_value, [b"", "port", 8080], "the value of 'port' has to be a str, not int"),
         (todrenval.set_key, [b"", "port", 8080], "the value of 'port' has to be a str, not int"),
@@ -1140,6 +1143,9 @@ def try_comments(count):
         (todrenval.set_value, ["port", "81"], b"# C:\\users\nport = 81\nhost = a\n"),
         (todrenval.set_key, ["port", "81"], b"# C:\\users\nport=81\nhost = a\n"),
         (todrenval.remove_key, ["host"], b"# C:\\users\nport = 80\n"),
+        (todrenval.remove_with_comment, ["host"], b"# C:\\users\nport = 80\n"),
+        (todrenval.remove_with_comment, ["port"], b"host = a\n"),
+        (todrenval.rename_key, ["port", "user"], b"# C:\\users\nuser = 80\nhost = a\n"),
         (todrenval.edit, [edits], b"# C:\\users\nport = 81\n"),
         (todrenval.edit, [edits[:1]], b"# C:\\users\nport = 81\nhost = a\n"),
         (todrenval.edit, [[]], source),
@@ -1190,6 +1196,41 @@ def try_comments(count):
         count.check(todrenval.loads(name.encode("cp1252"), encoding="cp1252") == {"C\xe9": "1"}, f"loads of {name!r}")
         count.check(dict(todrenval.Document(name.encode())) == {"C\xe9": "1"}, f"a document of {name!r}")
     count.check(todrenval.get("#\\u12\nk=v".encode("utf-16-le"), "k", encoding="utf-16-le") == "v", "get in UTF-16")
+
+
+def try_keys(count):
+    """A key is renamed where it stands, removed with its comment, or its comment is told."""
+    source = b"# of C:\\users\n#\n  port\t= 8\\\n  0\n\n! host\n\\u0070ort"
+    renamed = todrenval.rename_key(source, "port", "caf\xe9")
+    count.check(renamed == source.replace(b"port\t", b"caf\\u00e9\t").replace(b"\\u0070ort", b"caf\\u00e9"), f"renamed: {renamed}")
+    renamed = todrenval.rename_key(source, "port", "caf\xe9", ascii_only=False)
+    count.check(renamed.count("caf\xe9".encode()) == 2, f"renamed: {renamed}")
+    renamed = todrenval.rename_key(b"a=\x80", "a", "\xe9\u20ac", encoding="iso-8859-1", ascii_only=False)
+    count.check(renamed == b"\xe9\\u20ac=\x80", f"renamed in iso-8859-1: {renamed}")
+    count.check(todrenval.rename_key(source, "port", "port") == source, "renamed to what it is")
+    count.check(todrenval.rename_key(b"a 1", "a", "") == b"= 1", "renamed to nothing")
+    removed = todrenval.remove_with_comment(source, "port")
+    count.check(removed == b"\n", f"removed: {removed}")
+    count.check(todrenval.remove_with_comment(source, "host") == source, "nothing to remove")
+    count.check(todrenval.comment(source, "port") == ["host"], "the comment of the last pair")
+    count.check(todrenval.comment(source[:40], "port") == ["of C:\\users", ""], "a comment of two lines")
+    count.check(todrenval.comment(b"a", "a") == [] and todrenval.comment(b"#\na", "a") == [""], "no comment, and an empty one")
+    count.check(todrenval.comment(b"#\t\x85\xa0\na", "a", encoding="cp1252") == ["\u2026\xa0"], "a comment of other characters")
+    long = [str(number) for number in range(5000)]
+    count.check(todrenval.comment("".join(f"# {line}\n" for line in long).encode() + b"a", "a") == long, "a long comment")
+    for call, more in ((todrenval.rename_key, ["a", "b"]), (todrenval.comment, ["a"])):
+        error = raised(call, b"c=1\n# a", *more)
+        count.check(type(error) is KeyError and error.args == ("a",), f"{call.__name__} of none: {error!r}")
+        for data, status, line in ((b"\n\\u12", Status.NOT_ENOUGH_DIGITS, 2), (b"\xff\xfe", Status.UNSUPPORTED, None), (b"a=\xff", Status.NOT_TEXT, 1)):
+            error = raised(call, data, *more)
+            count.check((error.status, error.line) == (status, line), f"{call.__name__} of {data!r}: {error!r}")
+        count.check(isinstance(raised(call, b"a", "\ud83d", *more[1:]), PropertiesError), f"{call.__name__} of a surrogate")
+        for wrong in ("a=1", 3, None):
+            count.check(isinstance(raised(call, wrong, *more), TypeError), f"{call.__name__} of {wrong!r}")
+    error = raised(todrenval.rename_key, b"\na=1\nc\\\n\nb=2\nb=3", "a", "b")
+    count.check(type(error) is PropertiesError and (error.status, error.line) == (Status.KEY_TAKEN, 5), f"a key that is taken: {error!r}")
+    error = raised(todrenval.rename_key, b"", "a", "\ud83d")
+    count.check(str(error) == r"The new key '\ud83d' has a surrogate without its partner.", f"a surrogate: {error!r}")
 
 
 def try_groups(count):
@@ -1494,7 +1535,7 @@ def main():
     run_tables(count)
     for test in (
         try_arguments, try_files, try_special_files, try_file_errors, try_documents, try_operators, try_created, try_shared_documents,
-        try_zeros, try_types, try_errors, try_lists, try_newer, try_room, try_findings, try_comments, try_groups, try_short_files,
+        try_zeros, try_types, try_errors, try_lists, try_newer, try_room, try_findings, try_comments, try_keys, try_groups, try_short_files,
         try_round_trips, try_random, try_conversions, try_latin_1, try_threads, try_header, try_examples, try_pages,
     ):
         try:

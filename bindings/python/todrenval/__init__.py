@@ -74,6 +74,7 @@ __all__ = [
     "SetValue",
     "Spans",
     "Status",
+    "comment",
     "convert",
     "dump",
     "dumps",
@@ -86,6 +87,8 @@ __all__ = [
     "loads",
     "open",
     "remove_key",
+    "remove_with_comment",
+    "rename_key",
     "set_key",
     "set_value",
 ]
@@ -118,6 +121,7 @@ class Status(enum.IntEnum):
     EMPTY_KEY = 14
     UNKNOWN_FLAGS = 15
     NOT_TEXT = 16
+    KEY_TAKEN = 17
 
 
 class Comment(NamedTuple):
@@ -316,6 +320,9 @@ _ARGUMENTS: Dict[str, List[Any]] = {
     "todrenval_items": [*_IN, _NUMBER, _NUMBER, *_OUT],
     "todrenval_findings": [*_IN, _NUMBER, *_OUT],
     "todrenval_edit": [*_IN, _NUMBER, _NUMBER, *_IN, *_OUT],
+    "todrenval_rename_key": [*_IN, _NUMBER, _NUMBER, *_IN, *_IN, *_OUT],
+    "todrenval_remove_with_comment": [*_IN, _NUMBER, _NUMBER, *_IN, *_OUT],
+    "todrenval_comment": [*_IN, _NUMBER, _NUMBER, *_IN, *_OUT],
     "todrenval_convert": [*_IN, _NUMBER, _NUMBER, _NUMBER, *_OUT],
     "todrenval_write": [*_IN, _NUMBER, _NUMBER, *_IN, *_IN, *_OUT],
     "todrenval_status_text": [ctypes.c_int, *_OUT],
@@ -690,6 +697,75 @@ def remove_key(
     b'# one\nb = 2\n'
     """
     return _edited(data, _record(3, key, ""), encoding, errors, comments)
+
+
+def rename_key(
+    data: Bytes,
+    key: str,
+    new_key: str,
+    *,
+    encoding: str = "utf-8",
+    errors: str = "strict",
+    ascii_only: bool = True,
+    comments: str = "skip",
+) -> bytes:
+    r"""Returns the file with a key renamed where it stands: in each pair with the key, only the bytes of the key change. If
+    the new key is empty, and blanks alone or nothing follow it, `=` comes in its place.
+
+    Raises what `set_value` raises; then KeyError if no pair has the key; and then PropertiesError with the status KEY_TAKEN if
+    a pair has the new key, with the line of the first such pair.
+
+    >>> rename_key(b"  port\t: 80\n", "port", "http.port")
+    b'  http.port\t: 80\n'
+    >>> rename_key(b"port = 80\nhost = a\n", "port", "host")
+    Traceback (most recent call last):
+    ...
+    todrenval.PropertiesError: line 2: A pair has the new key already.
+    """
+    source, number, flags = _source(data, encoding, errors)
+    flags += _flags(comments, ascii_only) + _is_latin_1(encoding) * _LATIN_1
+    keys = _utf_8(key), _utf_8(new_key, "the new key")
+    status, result, line = _answer("todrenval_rename_key", len(source) + len(keys[1]), source, number, flags, *keys)
+    if status == Status.NO_KEY:
+        raise KeyError(key)
+    if status != Status.OK:
+        raise _error_in(source, number, flags, status, line)
+    return result
+
+
+def remove_with_comment(
+    data: Bytes, key: str, *, encoding: str = "utf-8", errors: str = "strict", comments: str = "skip"
+) -> bytes:
+    r"""Returns the file without the pairs that have a key, and without the comment lines directly above each of them. Every
+    other line stays as it is.
+
+    >>> remove_with_comment(b"# one\na = 1\n\n# two\nb = 2\n", "a")
+    b'\n# two\nb = 2\n'
+    """
+    source, number, flags = _source(data, encoding, errors)
+    flags += _flags(comments)
+    status, result, line = _answer("todrenval_remove_with_comment", len(source) + 1, source, number, flags, _utf_8(key))
+    if status != Status.OK:
+        raise _error_in(source, number, flags, status, line)
+    return result
+
+
+def comment(data: Bytes, key: str, *, encoding: str = "utf-8", errors: str = "strict") -> List[str]:
+    r"""Returns the comment of a key: the texts of the comment lines directly above the last pair with it, each what follows
+    the sign and one blank, as it stands. No blank line and no other pair is between.
+
+    Raises KeyError if no pair has the key, MalformedEscape for one in a pair, and PropertiesError if the file is UTF-16.
+
+    >>> comment(b"# the web server\n#   on C:\\users\nport = 80\n", "port")
+    ['the web server', '  on C:\\users']
+    """
+    source, number, flags = _source(data, encoding, errors)
+    status, lines, line = _answer("todrenval_comment", 4096, source, number, flags, _utf_8(key))
+    if status == Status.NO_KEY:
+        raise KeyError(key)
+    if status != Status.OK:
+        raise _error_in(source, number, flags, status, line)
+    return lines.decode("utf-8").split("\n")[:-1]
 
 
 def edit(

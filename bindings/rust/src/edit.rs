@@ -46,6 +46,110 @@ pub fn edit(source: &[u8], options: impl Into<Options>, edits: &[Edit<'_>]) -> R
     Ok(edited)
 }
 
+/// Renames a key where it stands in the bytes of a file: in each pair with the key, only the bytes of the key change. If the
+/// new key is empty, and blanks alone or nothing follow it, `=` comes in its place.
+///
+/// ```
+/// use todrenval::{rename_key, ErrorKind, UTF_8};
+///
+/// let file = b"# the web server\n  port\t: 80\nhost = a\n";
+/// assert_eq!(rename_key(file, UTF_8, "port", "http.port")?, b"# the web server\n  http.port\t: 80\nhost = a\n");
+///
+/// let taken = rename_key(file, UTF_8, "port", "host").unwrap_err();
+/// assert_eq!((taken.kind(), taken.line_number()), (ErrorKind::KeyTaken, Some(3)));
+/// # Ok::<(), todrenval::PropertiesError>(())
+/// ```
+///
+/// # Errors
+///
+/// Those of [`edit`]; then [`NoKey`](crate::ErrorKind::NoKey) if no pair has the old key; and then
+/// [`KeyTaken`](crate::ErrorKind::KeyTaken) if a pair has the new key and it is another one, with the line of the first.
+pub fn rename_key(
+    source: &[u8],
+    options: impl Into<Options>,
+    old_key: &str,
+    new_key: &str,
+) -> Result<Vec<u8>, PropertiesError> {
+    let options = options.into();
+    let flags = options.strict_flag() | options.comments_flag() | options.putting_flags();
+    let keys = (old_key.as_bytes(), new_key.as_bytes());
+    let mut renamed = Vec::new();
+    given(sys::rename_key(
+        &mut renamed,
+        source,
+        options.encoding.number(),
+        flags,
+        keys,
+    ))?;
+    Ok(renamed)
+}
+
+/// Removes the pairs with a key from the bytes of a file, and the comment lines directly above each of them: no blank line and
+/// no other pair is between. Every other byte stays. If no pair has the key, nothing changes.
+///
+/// ```
+/// use todrenval::{remove_with_comment, UTF_8};
+///
+/// let file = b"# the web server\nport = 80\n\n# where it is\nhost = a\n";
+/// assert_eq!(remove_with_comment(file, UTF_8, "port")?, b"\n# where it is\nhost = a\n");
+/// # Ok::<(), todrenval::PropertiesError>(())
+/// ```
+///
+/// # Errors
+///
+/// Those of [`edit`].
+pub fn remove_with_comment(source: &[u8], options: impl Into<Options>, key: &str) -> Result<Vec<u8>, PropertiesError> {
+    let options = options.into();
+    let flags = options.strict_flag() | options.comments_flag();
+    let mut rest = Vec::new();
+    given(sys::remove_with_comment(
+        &mut rest,
+        source,
+        options.encoding.number(),
+        flags,
+        key.as_bytes(),
+    ))?;
+    Ok(rest)
+}
+
+/// Returns the comment of a key in the bytes of a file, or `None` if no pair has the key: the texts of the comment lines
+/// directly above the last pair with it, each what follows the sign and one blank, as it stands.
+///
+/// ```
+/// use todrenval::{comment_of, UTF_8};
+///
+/// let file = b"# the web server\n#   on C:\\users\nport = 80\n";
+/// assert_eq!(comment_of(file, UTF_8, "port")?.unwrap(), ["the web server", "  on C:\\users"]);
+/// assert_eq!(comment_of(file, UTF_8, "host")?, None);
+/// # Ok::<(), todrenval::PropertiesError>(())
+/// ```
+///
+/// # Errors
+///
+/// A malformed escape in a pair; a file in UTF-16; and bytes that aren't text, if the options are strict.
+pub fn comment_of(
+    source: &[u8],
+    options: impl Into<Options>,
+    key: &str,
+) -> Result<Option<Vec<String>>, PropertiesError> {
+    let options = options.into();
+    let mut lines = Vec::new();
+    let answer = sys::comment(
+        &mut lines,
+        source,
+        options.encoding.number(),
+        options.strict_flag(),
+        key.as_bytes(),
+    );
+    if answer.status == sys::NO_KEY {
+        return Ok(None);
+    }
+    given(answer)?;
+    Ok(Some(
+        sys::text(&lines).split_terminator('\n').map(str::to_owned).collect(),
+    ))
+}
+
 /// Returns the value of a key in the bytes of a file: that of the last pair with it. Each call reads the whole file; for
 /// several keys, read a map.
 ///

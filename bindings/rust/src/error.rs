@@ -17,7 +17,7 @@ pub enum ErrorKind {
     InvalidCharacter,
     /// The bytes of the line aren't text of the encoding. Only what is asked to be strict says so.
     NotText,
-    /// A file in UTF-16 can't be edited, nor has it [`groups`](crate::groups).
+    /// A file in UTF-16 can't be edited, nor has it [`groups`](crate::groups) or comments of keys.
     Unsupported,
     /// A comment can't begin so.
     BadCommentPrefix,
@@ -25,6 +25,10 @@ pub enum ErrorKind {
     BadKvSeparator,
     /// The key is empty and the separator is blanks alone, so the value would be read as the key.
     EmptyKey,
+    /// No pair has the key that is to be renamed.
+    NoKey,
+    /// A pair has the new key already: the first one begins in the line.
+    KeyTaken,
     /// An earlier write of this writer failed.
     Failed,
     /// The library got no memory.
@@ -44,6 +48,8 @@ impl ErrorKind {
             sys::BAD_PREFIX => ErrorKind::BadCommentPrefix,
             sys::BAD_SEPARATOR => ErrorKind::BadKvSeparator,
             sys::EMPTY_KEY => ErrorKind::EmptyKey,
+            sys::NO_KEY => ErrorKind::NoKey,
+            sys::KEY_TAKEN => ErrorKind::KeyTaken,
             sys::NO_MEMORY => ErrorKind::Memory,
             _ => ErrorKind::Other,
         }
@@ -59,6 +65,8 @@ impl ErrorKind {
             ErrorKind::BadCommentPrefix => sys::BAD_PREFIX,
             ErrorKind::BadKvSeparator => sys::BAD_SEPARATOR,
             ErrorKind::EmptyKey => sys::EMPTY_KEY,
+            ErrorKind::NoKey => sys::NO_KEY,
+            ErrorKind::KeyTaken => sys::KEY_TAKEN,
             ErrorKind::Memory => sys::NO_MEMORY,
             ErrorKind::Io | ErrorKind::Failed | ErrorKind::Other => -1,
         }

@@ -85,6 +85,19 @@
 //! # Ok::<(), todrenval::PropertiesError>(())
 //! ```
 //!
+//! Rename a key where it stands, by [`rename_key`], tell its comment, by [`comment_of`], or remove both, by
+//! [`remove_with_comment`]:
+//!
+//! ```
+//! use todrenval::{comment_of, remove_with_comment, rename_key, UTF_8};
+//!
+//! let file = b"# the web server\nport    = 80\n";
+//! assert_eq!(comment_of(file, UTF_8, "port")?.unwrap(), ["the web server"]);
+//! assert_eq!(rename_key(file, UTF_8, "port", "http.port")?, b"# the web server\nhttp.port    = 80\n");
+//! assert_eq!(remove_with_comment(file, UTF_8, "port")?, b"");
+//! # Ok::<(), todrenval::PropertiesError>(())
+//! ```
+//!
 //! Change the encoding of a file and nothing else, by [`convert`]. Any Java reads ASCII as it is meant:
 //!
 //! ```
@@ -170,8 +183,9 @@
 //! | no memory | ends the program | ends the program; [`ErrorKind::Memory`] if the library ran out |
 //!
 //! Beyond it are [`PropertiesIter::comments`], [`strict`](PropertiesIter::strict) and
-//! [`next_ref`](PropertiesIter::next_ref), [`PropertiesWriter::set_ascii_only`] and [`set_readable`](PropertiesWriter::set_readable), [`get`], [`edit`], [`convert`]
-//! and [`groups`] with their [`Options`], and [`runs_here`].
+//! [`next_ref`](PropertiesIter::next_ref), [`PropertiesWriter::set_ascii_only`] and [`set_readable`](PropertiesWriter::set_readable), [`get`], [`edit`],
+//! [`rename_key`], [`remove_with_comment`], [`comment_of`], [`convert`] and [`groups`] with their [`Options`], and
+//! [`runs_here`].
 //!
 //! # Where it runs
 //!
@@ -191,7 +205,7 @@ mod reader;
 mod sys;
 mod writer;
 
-pub use edit::{convert, edit, get, Edit, Spelling, Target};
+pub use edit::{comment_of, convert, edit, get, remove_with_comment, rename_key, Edit, Spelling, Target};
 pub use encoding::{Encoding, ISO_8859_1, UTF_16BE, UTF_16LE, UTF_8, WINDOWS_1252};
 pub use error::{ErrorKind, PropertiesError};
 pub use groups::{groups, Flaw, Group, GroupKind};

@@ -2,8 +2,8 @@ use crate::encoding::Encoding;
 use crate::reader::Comments;
 use crate::sys;
 
-/// How the bytes of a file are read by [`get`](crate::get), [`edit`](crate::edit), [`convert`](crate::convert) and
-/// [`groups`](crate::groups). An [`Encoding`] alone can be passed in its place.
+/// How the bytes of a file are read by [`get`](crate::get), [`edit`](crate::edit), [`convert`](crate::convert),
+/// [`groups`](crate::groups) and the calls for [keys](crate::rename_key). An [`Encoding`] alone can be passed in its place.
 ///
 /// ```
 /// use todrenval::{edit, Edit, Options, UTF_8};
@@ -34,8 +34,8 @@ impl Options {
         }
     }
 
-    /// Says what of comments is read. With [`Comments::Resolve`], `get` and `edit` refuse a malformed escape in a comment,
-    /// and `groups` resolves its texts. Otherwise `groups` gives them as they stand.
+    /// Says what of comments is read. With [`Comments::Resolve`], `get`, `edit`, `rename_key` and `remove_with_comment`
+    /// refuse a malformed escape in a comment, and `groups` resolves its texts. Otherwise `groups` gives them as they stand.
     #[must_use]
     pub fn comments(mut self, comments: Comments) -> Self {
         self.comments = comments;
@@ -50,7 +50,7 @@ impl Options {
         self
     }
 
-    /// Says whether `edit` writes each character past U+007F as an escape. Such a line reads the same in ISO 8859-1,
+    /// Says whether `edit` and `rename_key` write each character past U+007F as an escape. Such a line reads the same in ISO 8859-1,
     /// windows-1252 and UTF-8.
     #[must_use]
     pub fn ascii_only(mut self, is_ascii_only: bool) -> Self {

@@ -19,6 +19,7 @@ pub const BAD_PREFIX: i32 = 12;
 pub const BAD_SEPARATOR: i32 = 13;
 pub const EMPTY_KEY: i32 = 14;
 pub const NOT_TEXT: i32 = 16;
+pub const KEY_TAKEN: i32 = 17;
 
 pub const ASCII_ONLY: u32 = 1;
 pub const READABLE: u32 = 2;
@@ -84,6 +85,44 @@ mod exports {
             flags: u32,
             edits: *const u8,
             edits_length: usize,
+            out: *mut u8,
+            room: usize,
+            length: *mut usize,
+            line: *mut usize,
+        ) -> i32;
+        pub fn todrenval_rename_key(
+            source: *const u8,
+            source_length: usize,
+            encoding: u32,
+            flags: u32,
+            old_key: *const u8,
+            old_length: usize,
+            new_key: *const u8,
+            new_length: usize,
+            out: *mut u8,
+            room: usize,
+            length: *mut usize,
+            line: *mut usize,
+        ) -> i32;
+        pub fn todrenval_remove_with_comment(
+            source: *const u8,
+            source_length: usize,
+            encoding: u32,
+            flags: u32,
+            key: *const u8,
+            key_length: usize,
+            out: *mut u8,
+            room: usize,
+            length: *mut usize,
+            line: *mut usize,
+        ) -> i32;
+        pub fn todrenval_comment(
+            source: *const u8,
+            source_length: usize,
+            encoding: u32,
+            flags: u32,
+            key: *const u8,
+            key_length: usize,
             out: *mut u8,
             room: usize,
             length: *mut usize,
@@ -263,6 +302,64 @@ pub fn edit(edited: &mut Vec<u8>, source: &[u8], encoding: u32, flags: u32, edit
             flags,
             front(edits),
             edits.len(),
+            out.at,
+            out.room,
+            out.length,
+            out.line,
+        )
+    })
+}
+
+/// Renames the first of these keys to the second one.
+pub fn rename_key(renamed: &mut Vec<u8>, source: &[u8], encoding: u32, flags: u32, keys: (&[u8], &[u8])) -> Answer {
+    let (old, new) = keys;
+    // SAFETY: see above.
+    call(renamed, source.len() + new.len(), |out| unsafe {
+        exports::todrenval_rename_key(
+            front(source),
+            source.len(),
+            encoding,
+            flags,
+            front(old),
+            old.len(),
+            front(new),
+            new.len(),
+            out.at,
+            out.room,
+            out.length,
+            out.line,
+        )
+    })
+}
+
+pub fn remove_with_comment(rest: &mut Vec<u8>, source: &[u8], encoding: u32, flags: u32, key: &[u8]) -> Answer {
+    // SAFETY: see above.
+    call(rest, source.len() + 1, |out| unsafe {
+        exports::todrenval_remove_with_comment(
+            front(source),
+            source.len(),
+            encoding,
+            flags,
+            front(key),
+            key.len(),
+            out.at,
+            out.room,
+            out.length,
+            out.line,
+        )
+    })
+}
+
+pub fn comment(lines: &mut Vec<u8>, source: &[u8], encoding: u32, flags: u32, key: &[u8]) -> Answer {
+    // SAFETY: see above.
+    call(lines, 256, |out| unsafe {
+        exports::todrenval_comment(
+            front(source),
+            source.len(),
+            encoding,
+            flags,
+            front(key),
+            key.len(),
             out.at,
             out.room,
             out.length,

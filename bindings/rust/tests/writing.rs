@@ -6,9 +6,9 @@ use std::error::Error;
 use std::io::{self, Write};
 use streams::{cases, Chance, Sink};
 use todrenval::{
-    convert, edit, get, groups, read, write, Comments, Edit, Encoding, ErrorKind, GroupKind, LineContent, LineEnding,
-    Options, PropertiesError, PropertiesIter, PropertiesWriter, Spelling, Target, ISO_8859_1, UTF_16LE, UTF_8,
-    WINDOWS_1252,
+    comment_of, convert, edit, get, groups, read, remove_with_comment, rename_key, write, Comments, Edit, Encoding,
+    ErrorKind, GroupKind, LineContent, LineEnding, Options, PropertiesError, PropertiesIter, PropertiesWriter,
+    Spelling, Target, ISO_8859_1, UTF_16LE, UTF_8, WINDOWS_1252,
 };
 
 const TEXTS: [&str; 14] = [
@@ -577,4 +577,103 @@ fn edits_change_nothing_else() {
             }
         }
     }
+}
+
+/// A key is renamed in all of its pairs, and all other bytes stay: those of the groups, but for the key.
+#[test]
+fn a_key_is_renamed_where_it_stands() {
+    let file = b"# key\r\n  \\u006bey\t= 1\\\r\n  key\nkey: 2";
+    let renamed = rename_key(file, UTF_8, "key", "a b").unwrap();
+    assert_eq!(renamed, b"# key\r\n  a\\ b\t= 1\\\r\n  key\na\\ b: 2");
+    assert_eq!(rename_key(b"\\u0061", UTF_8, "a", "a").unwrap(), b"\\u0061");
+    assert_eq!(rename_key(b"a 1\na", UTF_8, "a", "").unwrap(), b"= 1\n=");
+    let ascii = Options::new(UTF_8).ascii_only(true);
+    assert_eq!(
+        rename_key(b"a=\xc3\xa9", ascii, "a", "\u{e9}").unwrap(),
+        b"\\u00e9=\xc3\xa9"
+    );
+    assert_eq!(rename_key(b"a=1", ISO_8859_1, "a", "\u{20ac}").unwrap(), b"\\u20ac=1");
+    for (bytes, kind, line) in [
+        (&b"x=1\\\na"[..], ErrorKind::NoKey, None),
+        (b"b=1", ErrorKind::NoKey, None),
+        (b"\na=1\nc\\\n\nb=2\nb=3", ErrorKind::KeyTaken, Some(5)),
+        (b"b=1\na=\\u12", ErrorKind::NotEnoughDigits, Some(2)),
+        (b"\xff\xfea\0", ErrorKind::Unsupported, None),
+    ] {
+        let error = rename_key(bytes, UTF_8, "a", "b").unwrap_err();
+        assert_eq!((error.kind(), error.line_number()), (kind, line), "{bytes:?}");
+    }
+    assert_eq!(ErrorKind::KeyTaken.to_string(), "A pair has the new key already.");
+}
+
+#[test]
+fn renaming_changes_keys_alone() {
+    let mut chance = Chance(9);
+    for round in cases(4000) {
+        let encoding = [WINDOWS_1252, UTF_8, ISO_8859_1][round % 3];
+        let source = chance.string(&TEXTS, 24).into_bytes();
+        let new_key = chance.string(&TEXTS, 3);
+        let parts = |bytes: &[u8]| -> Vec<_> {
+            groups(bytes, encoding)
+                .unwrap()
+                .into_iter()
+                .map(|group| {
+                    let before = bytes[group.span.start..group.key.start].to_vec();
+                    let after = bytes[group.key.end..group.span.end].to_vec();
+                    (group.kind, group.key_text, before, after, group.value_text)
+                })
+                .collect()
+        };
+        let Ok(renamed) = rename_key(&source, encoding, "a", &new_key) else {
+            continue;
+        };
+        let mut wanted = parts(&source);
+        for part in &mut wanted {
+            if part.0 == GroupKind::Pair && part.1 == "a" {
+                part.1.clone_from(&new_key);
+            }
+        }
+        let mut came = parts(&renamed);
+        if new_key.is_empty() {
+            // `=` may stand where blanks were, or these are an indent now.
+            for part in came.iter_mut().chain(&mut wanted) {
+                part.2.clear();
+                part.3.clear();
+            }
+        }
+        assert_eq!(came, wanted, "{source:?} {new_key:?}");
+    }
+}
+
+/// The comment of a key is told as it stands, and goes with the key. Every other group stays.
+#[test]
+fn a_key_goes_with_its_comment() {
+    let file = b"# of C:\\users\n#\n  key\t= 1\n! a\n\n!  b\xe9\nkey: 2\n\n# c\nother";
+    assert_eq!(comment_of(file, WINDOWS_1252, "key").unwrap().unwrap(), [" b\u{e9}"]);
+    assert_eq!(
+        comment_of(&file[..24], UTF_8, "key").unwrap().unwrap(),
+        ["of C:\\users", ""]
+    );
+    assert_eq!(comment_of(b"\nkey", UTF_8, "key").unwrap().unwrap(), [""; 0]);
+    assert_eq!(comment_of(file, UTF_8, "none").unwrap(), None);
+    let rest = remove_with_comment(file, WINDOWS_1252, "key").unwrap();
+    assert_eq!(rest, b"! a\n\n\n# c\nother");
+    assert_eq!(remove_with_comment(file, WINDOWS_1252, "none").unwrap(), file);
+    for (bytes, kind, line) in [
+        (&b"#\\u\na\nb\\u12"[..], ErrorKind::NotEnoughDigits, Some(3)),
+        (b"\xff\xfea\0", ErrorKind::Unsupported, None),
+        (b"# \xff\na", ErrorKind::NotText, Some(1)),
+    ] {
+        let strict = Options::new(UTF_8).strict(true);
+        for error in [
+            comment_of(bytes, strict, "a").unwrap_err(),
+            remove_with_comment(bytes, strict, "a").unwrap_err(),
+        ] {
+            assert_eq!((error.kind(), error.line_number()), (kind, line), "{bytes:?}");
+        }
+    }
+    let read = Options::new(UTF_8).comments(Comments::Resolve);
+    let error = remove_with_comment(b"#\\u\na", read, "a").unwrap_err();
+    assert_eq!(error.kind(), ErrorKind::NotEnoughDigits);
+    assert_eq!(comment_of(b"#\\u\na", read, "a").unwrap().unwrap(), ["\\u"]);
 }

@@ -1,5 +1,6 @@
 pub mod Packing
 pub mod Texts
+pub mod KeyComments
 pub mod Splitting
 pub mod TakenApart
 pub mod Slices

@@ -3,8 +3,12 @@ use Rattle.std.specs.Prelude.{◌≡◌, ◌⊎◌, ◌==◌, ◌/◌, ◌%◌, 
 use Rattle.std.specs.Str.{IsUtf8, chars}
 use Rattle.properties_format.specs.Encoding.{Encoding, windows_1252, utf_8, utf_16le, utf_16be}
 use Rattle.properties_format.specs.Names.{IsLabelled}
+use Rattle.properties_text.specs.declared.encoding.Encoding as code
 use Rattle.properties_text.specs.declared.print.Repertoire.{Repertoire}
 use Rattle.properties_text.specs.declared.print.Repertoire.TheVariants.{Windows1252, Utf8, Ascii, Latin1}
+use Rattle.properties_editing.specs.declared.source.Comments.{Comments}
+use Rattle.properties_editing.specs.declared.source.Comments.TheVariants as comments
+use Rattle.properties_editing.specs.declared.source.SourceOptions.{SourceOptions}
 use Rattle.properties_c.specs.Crossing.{Crossing, Refuses}
 use Rattle.properties_c.specs.declared.asked.Asked.{Asked}
 use Rattle.properties_c.specs.declared.asked.Texts.{Texts}
@@ -39,7 +43,8 @@ target_at n =
 abbrev pub ToTarget : ℕ → (Repertoire → Type 0) → Crossing → Type 0
 ToTarget n Holds x = ((t : Repertoire) × (target_at n ≡ Some t) × Holds t) ⊎ (target_at n ≡ None) × Refuses UnknownEncoding 0 x
 
--- the flags that an edit takes, those of a look-up, those of a conversion, and those of the call that writes lines
+-- the flags that an edit takes, those of a look-up and of a removal, those of a call that tells a comment, those of a
+-- conversion, and those of the call that writes lines
 abbrev pub no_flags : Flags
 no_flags = record { ascii_only = false; readable = false; read_comments = false; crlf = false; cr = false; strict = false; goes_on = false; latin_1 = false }
 
@@ -48,6 +53,9 @@ for_edits = record no_flags { ascii_only = true; read_comments = true; strict = 
 
 abbrev pub for_keys : Flags
 for_keys = record no_flags { read_comments = true; strict = true }
+
+abbrev pub for_comments : Flags
+for_comments = record no_flags { strict = true }
 
 abbrev pub for_conversions : Flags
 for_conversions = record no_flags { readable = true; strict = true }
@@ -93,6 +101,16 @@ flags_at taken n = if are_flags n && are_among (flags_in n) taken then Some (fla
 abbrev pub WithFlags : Flags → ℕ → (Flags → Type 0) → Crossing → Type 0
 WithFlags taken n Holds x =
     ((f : Flags) × (flags_at taken n ≡ Some f) × Holds f) ⊎ (flags_at taken n ≡ None) × Refuses UnknownFlags 0 x
+
+-- whether comments are read or passed over
+abbrev pub comments_for : Bool → Comments
+comments_for true = comments.Read
+comments_for false = comments.PassedOver
+
+-- what the library is asked for by these flags
+abbrev pub options_for : code.Encoding → Flags → SourceOptions
+options_for encoding f =
+    record { encoding = encoding; ascii_only = f.ascii_only; latin_1 = f.latin_1; comments = comments_for f.read_comments }
 
 -- ---- Sources that aren't text.
 

@@ -5,6 +5,7 @@ pub mod Reading
 pub mod Items
 pub mod Parts
 pub mod Editing
+pub mod Keys
 pub mod Writing
 pub mod Private
 pub mod Packed

@@ -6,7 +6,7 @@ use Rattle.properties_items.specs.declared.error.ErrorKind.{ErrorKind}
 use Rattle.properties_items.specs.declared.error.ErrorKind.TheVariants as kind
 use Rattle.properties_items.specs.declared.error.PropertiesError.{PropertiesError}
 use Rattle.properties_c.specs.declared.status.Status.{Status}
-use Rattle.properties_c.specs.declared.status.Status.TheVariants.{Done, NoRoom, NoKey, NoMemory, UnknownEncoding, NotUtf8, BadList, NotEnoughDigits, NotHex, InvalidCharacter, TooManyLines, Unsupported, BadPrefix, BadSeparator, EmptyKey, UnknownFlags, NotText}
+use Rattle.properties_c.specs.declared.status.Status.TheVariants.{Done, NoRoom, NoKey, NoMemory, UnknownEncoding, NotUtf8, BadList, NotEnoughDigits, NotHex, InvalidCharacter, TooManyLines, Unsupported, BadPrefix, BadSeparator, EmptyKey, UnknownFlags, NotText, KeyTaken}
 
 abbrev pub status_number : Status → ℤ
 status_number Done = pos 0
@@ -26,6 +26,7 @@ status_number BadSeparator = pos 13
 status_number EmptyKey = pos 14
 status_number UnknownFlags = pos 15
 status_number NotText = pos 16
+status_number KeyTaken = pos 17
 
 -- the status of an error of this kind; a stream in memory fails only if memory runs out
 abbrev pub status_of_kind : ErrorKind → Status
@@ -76,6 +77,7 @@ status_text BadSeparator = codes "Bad key/value separator."
 status_text EmptyKey = codes "Empty key with a blank key/value separator."
 status_text UnknownFlags = codes "Unknown flags."
 status_text NotText = codes "The source isn't text in its encoding."
+status_text KeyTaken = codes "A pair has the new key already."
 
 -- the text of a status, or that of a number which no status has
 abbrev pub text_of : Option Status → List ℕ

@@ -4,9 +4,9 @@ ghost use Rattle.std.specs.Prelude.{◌≡◌, MatchOption};
 ghost use Rattle.std.specs.Option.{option_map};
 ghost use Rattle.std.specs.Str.{IsUtf8};
 ghost use Rattle.properties_text.specs.Encoding.{encoding_of};
-ghost use Rattle.properties_c.specs.Inputs.{encoding_at, encoding_number, target_at, flags_at, are_flags as all_known, are_among as all_taken};
+ghost use Rattle.properties_c.specs.Inputs.{encoding_at, encoding_number, target_at, flags_at, options_for, are_flags as all_known, are_among as all_taken};
 
-use java_properties::{Encoding, Repertoire};
+use java_properties::{Comments, Encoding, Repertoire, SourceOptions};
 
 /// Returns the encoding with this number, if there is one.
 pub fn encoding_numbered(number: u32) -> Option<Encoding>
@@ -88,9 +88,15 @@ pub const FOR_EDITS: Flags = Flags {
     ..NONE
 };
 
-/// What a look-up takes.
+/// What a look-up takes, and a call that removes a key.
 pub const FOR_KEYS: Flags = Flags {
     read_comments: true,
+    strict: true,
+    ..NONE
+};
+
+/// What a call takes that tells a comment.
+pub const FOR_COMMENTS: Flags = Flags {
     strict: true,
     ..NONE
 };
@@ -151,6 +157,23 @@ fn are_among(flags: Flags, taken: Flags) -> bool
         && (taken.strict || !flags.strict)
         && (taken.goes_on || !flags.goes_on)
         && (taken.latin_1 || !flags.latin_1)
+}
+
+/// Returns what the library is asked for by these flags.
+pub fn options_for(encoding: Encoding, flags: Flags) -> SourceOptions
+    ensures { result ≡ options_for encoding flags }
+{
+    let comments = if flags.read_comments {
+        Comments::Read
+    } else {
+        Comments::PassedOver
+    };
+    SourceOptions {
+        encoding,
+        ascii_only: flags.ascii_only,
+        latin_1: flags.latin_1,
+        comments,
+    }
 }
 
 /// Returns the text with these bytes, if they are UTF-8.

@@ -30,7 +30,7 @@ pub enum Status {
     InvalidCharacter,
     /// A line has no number.
     TooManyLines,
-    /// Sources in this encoding can't be edited, and have no spans.
+    /// Sources in this encoding can't be edited, and give no spans and no comments of keys.
     Unsupported,
     /// Comments can't begin so.
     BadPrefix,
@@ -42,6 +42,8 @@ pub enum Status {
     UnknownFlags,
     /// The source isn't text in its encoding.
     NotText,
+    /// A pair has the new key already.
+    KeyTaken,
 }
 
 /// Returns the number of a status.
@@ -66,6 +68,7 @@ pub fn number_of(status: Status) -> i32
         Status::EmptyKey => 14,
         Status::UnknownFlags => 15,
         Status::NotText => 16,
+        Status::KeyTaken => 17,
     }
 }
 

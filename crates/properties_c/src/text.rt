@@ -46,6 +46,7 @@ fn status_numbered(number: i32) -> Option<Status>
         14 => Some(Status::EmptyKey),
         15 => Some(Status::UnknownFlags),
         16 => Some(Status::NotText),
+        17 => Some(Status::KeyTaken),
         _ => None,
     }
 }
@@ -71,5 +72,6 @@ fn text_of(status: Status) -> &'static str
         Status::EmptyKey => "Empty key with a blank key/value separator.",
         Status::UnknownFlags => "Unknown flags.",
         Status::NotText => "The source isn't text in its encoding.",
+        Status::KeyTaken => "A pair has the new key already.",
     }
 }
