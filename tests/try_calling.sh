@@ -103,12 +103,12 @@ try readme /dev/null "$work/port"
 try value_of /dev/null "$work/port" --data app.properties="$PWD/crates/my_program/stdin" -- app.properties port
 mkdir -p crates/examples/src
 "$top/tools/examples.py" >crates/examples/src/lib.rt
-# The examples are of three crates more, which callers of the library don't need.
-for name in single_lines properties_tools propedit_arguments; do
+# The examples are of six crates more, which callers of the library don't need.
+for name in single_lines properties_tables properties_checking properties_changing properties_tools propedit_arguments; do
     cp -r "../todrenval/crates/$name" crates/
     grep "^$name:" "$top/crates.txt" >>crates.txt
 done
-echo 'examples: byte_blocks counted_io properties_text single_lines java_properties properties_tools propedit_arguments' >>crates.txt
+echo 'examples: byte_blocks counted_io properties_text single_lines java_properties properties_tables properties_checking properties_changing properties_tools propedit_arguments' >>crates.txt
 (cd crates/examples && rt try --test >"$work/said" 2>&1) || { cat "$work/said"; exit 1; }
 grep 'test result' "$work/said"
 if [ "${1:-}" = --check ]; then

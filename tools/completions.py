@@ -48,7 +48,7 @@ ENCODINGS = " ".join(re.findall(r"(?:utf|windows|iso)-[\w-]+", NAMES))
 FILTERS = ENCODINGS.replace("iso-8859-1 ", "")
 TARGETS = " ".join(re.findall(r'\("([\w-]+)", Repertoire::', CODE))
 FILTERED = "ascii"
-FINDINGS = dict(re.findall(r'Kind::(\w+) => "([\w-]+)"', (TOP / "crates/properties_tools/src/propedit/kinds.rt").read_text()))
+FINDINGS = dict(re.findall(r'Kind::(\w+) => "([\w-]+)"', (TOP / "crates/properties_checking/src/kinds.rt").read_text()))
 OPTIONAL = re.search(r"const OPTIONAL.*?\];", (TOP / "crates/propedit_arguments/src/kinds.rt").read_text(), re.S)[0]
 IGNORED = " ".join(FINDINGS[kind] for kind in re.findall(r"Kind::(\w+)", OPTIONAL))
 

@@ -10,7 +10,7 @@ import re
 TOP = pathlib.Path(__file__).resolve().parent.parent
 CRATES = [
     "byte_blocks", "counted_io", "java_properties", "propedit_arguments", "properties_editing", "properties_items",
-    "properties_text", "properties_tools", "single_lines",
+    "properties_text", "properties_tables", "properties_checking", "properties_changing", "properties_tools", "single_lines",
 ]
 
 HEAD = """// Examples of doc comments, each as a test.
@@ -28,6 +28,7 @@ use properties_text::encoding::TextBuffer;
 use properties_text::escape::unescape;
 use properties_text::print::{LineBuffer, Pair, Place, Repertoire, print_pair, print_readable_pair, print_readable_texts, print_text, print_texts, print_value};
 use propedit_arguments::{asked_for, explain, explain_name, explain_not_utf_8, marked_words, name_of_marked};
+use properties_tables::table::table_of;
 use properties_tools::arguments::words;
 use properties_tools::filter::{filter, filter_ascii};
 use properties_tools::messages::{Escaped, print_error, print_line};

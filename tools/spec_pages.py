@@ -24,6 +24,8 @@ FORMAT = 'properties_format'
 NO_PROMISES = ('calling', 'properties_tests', 'program_tests', 'properties_vectors')
 # The crates whose contracts callers read, with what these re-export from others.
 READ = ('java_properties', 'properties_tools')
+# Layers below the tools, the upper ones first. Of these, public is what others re-export.
+LAYERS = ('properties_changing', 'properties_checking', 'properties_tables')
 HEADING = '### What public pages take from the others'
 IMPORT = r'Rattle\.([\w.]+?)(?:\.\{([^}]*)\}| as ([\w-]+))?'
 # What is before an import and after it, on a page and in code.
@@ -190,7 +192,7 @@ class Repository:
         # What a crate re-exports from another: (the crate, the other, the name).
         self.handed_items = set()
         self.roots = []
-        for crate in self.crates:
+        for crate in [c for c in self.crates if c not in LAYERS] + [c for c in LAYERS if c in self.crates]:
             self.roots += self.public_clauses(crate)
 
     # ---- pages
@@ -291,7 +293,11 @@ class Repository:
         start = self.module(crate, '')
         if start is None:
             return []
-        self.exported(crate, start, set())
+        if crate in LAYERS:
+            handed = {name for _, other, name in self.handed_items if other == crate}
+            self.shown = {(f, x.name) for (c, f), xs in self.files.items() if c == crate for x in xs if x.name in handed}
+        else:
+            self.exported(crate, start, set())
         if start == 'main':
             self.shown.add(('main', 'main'))
         content = {f: x for (c, f), x in self.files.items() if c == crate}

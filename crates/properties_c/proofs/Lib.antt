@@ -2,10 +2,10 @@ pub mod Packing
 pub mod Texts
 pub mod KeyComments
 pub mod Splitting
-pub mod TakenApart
+pub mod ListFronts
 pub mod Slices
 pub mod Refusals
-pub mod Unsound
+pub mod IllFormedLines
 pub mod GivenLines
 pub mod GivenItems
 pub mod PartedTexts

@@ -18,9 +18,9 @@ use Rattle.properties_lines.specs.Scanner.{Fits, GivesLine, scanner_state}
 use Rattle.properties_lines.specs.declared.scanner.Scanner.{Scanner}
 use Rattle.properties_lines.proofs.HeldLines.{body-lines_left}
 use Rattle.properties_c.specs.Private.Results.{feeds}
-use Rattle.properties_tools.specs.Private.Flawed.{IsScanning}
-use Rattle.properties_tools.specs.declared.propedit.ill_formed.Flaw.TheVariants.{NonAscii}
-use Rattle.properties_tools.proofs.Flawed.{found-scanning, lines-body, scanning-start}
+use Rattle.properties_tables.specs.Private.Flawed.{IsScanning}
+use Rattle.properties_tables.specs.declared.ill_formed.Flaw.TheVariants.{NonAscii}
+use Rattle.properties_tables.proofs.FlawedLines.{found-scanning, lines-body, scanning-start}
 
 -- The lines before the scanner's place and those to come are the lines of the body.
 pub record IsCounting (e : Encoding) (body : List ℕ) (s : Scanner) : Type 0 where

@@ -25,7 +25,7 @@ use Rattle.properties_c.specs.Private.Results.{acceptance, accepted_for, AddsLin
 use Rattle.properties_c.specs.Writing.{AreGood}
 use Rattle.properties_c.specs.declared.status.Status.{Status}
 use Rattle.properties_c.specs.declared.status.Status.TheVariants.{EmptyKey}
-use Rattle.properties_c.proofs.TakenApart.{Begins-more}
+use Rattle.properties_c.proofs.ListFronts.{Begins-more}
 
 -- ---- one line
 

@@ -15,9 +15,9 @@ use Rattle.properties_c.specs.declared.asked.Texts.{Texts}
 use Rattle.properties_c.specs.declared.asked.Texts.TheVariants.{PassedOver, Raw, Read}
 use Rattle.properties_c.specs.declared.encoding.Flags.{Flags}
 use Rattle.properties_c.specs.declared.status.Status.TheVariants.{UnknownEncoding, UnknownFlags, NotUtf8, NotText}
-use Rattle.properties_tools.specs.Propedit.Lines.{IsFirstFlawed}
-use Rattle.properties_tools.specs.Propedit.Sources.{HasSoundBytes, IsFirstIllFormed}
-use Rattle.properties_tools.specs.declared.propedit.ill_formed.Flaw.TheVariants.{Zero}
+use Rattle.properties_tables.specs.Lines.{IsFirstFlawed}
+use Rattle.properties_tables.specs.Sources.{HasSoundBytes, IsFirstIllFormed}
+use Rattle.properties_tables.specs.declared.ill_formed.Flaw.TheVariants.{Zero}
 
 -- the encoding with this number, if there is one
 abbrev pub encoding_at : ℕ → Option Encoding

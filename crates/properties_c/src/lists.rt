@@ -48,7 +48,7 @@ impl<T: Drop> From<AllocFailed<T>> for Status {
 }
 
 /// Returns the edits of a packed list, or why it is refused.
-#[tactic(auto, using(crate::proofs::TakenApart::taking))]
+#[tactic(auto, using(crate::proofs::ListFronts::taking))]
 pub fn edits_of(alloc: Global, list: &[u8]) -> Result<Vec<Edit>, Status>
     ensures { ReadsEdits list.now result }
 {
@@ -67,7 +67,7 @@ pub fn edits_of(alloc: Global, list: &[u8]) -> Result<Vec<Edit>, Status>
 }
 
 // Returns the first edit of a list and what comes after it.
-#[tactic(auto, using(crate::proofs::TakenApart::taking))]
+#[tactic(auto, using(crate::proofs::ListFronts::taking))]
 fn first_edit(alloc: Global, list: &[u8]) -> Result<(Edit, &[u8]), Status>
     ensures { ReadsFirstEdit list.now result }
 {
@@ -82,7 +82,7 @@ fn first_edit(alloc: Global, list: &[u8]) -> Result<(Edit, &[u8]), Status>
 
 /// Returns the first line of a list and what comes after it.
 #[inline(always)]
-#[tactic(auto, using(crate::proofs::TakenApart::taking))]
+#[tactic(auto, using(crate::proofs::ListFronts::taking))]
 pub fn first_line(list: &[u8]) -> Result<(Line<'_>, &[u8]), Status>
     ensures { ReadsFirstLine list.now result }
 {

@@ -6,8 +6,8 @@ ghost use Rattle.properties_c.specs.Inputs.{TellsUnsound};
 ghost use Rattle.properties_c.specs.Private.Results.{unsound_line};
 
 use java_properties::Encoding;
-use properties_tools::propedit::error::Failure;
-use properties_tools::propedit::sound::refuse_bytes;
+use properties_tables::error::Failure;
+use properties_tables::sound::refuse_bytes;
 
 /// Returns the first line for which a strict call refuses a source, as `propedit` does.
 pub fn refused_line(strict: bool, source: &[u8], encoding: Encoding) -> Option<usize>

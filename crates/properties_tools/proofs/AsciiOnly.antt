@@ -14,7 +14,7 @@ use Rattle.java_properties.specs.ReadBack.{TakesAscii}
 use Rattle.properties_items.specs.declared.error.PropertiesError.{PropertiesError}
 use Rattle.properties_tools.specs.Filter.{settings_with, pair_calls, pair_lines, Filters, FiltersToAscii, form}
 use Rattle.properties_tools.proofs.Pairs.{pair-accepted}
-use Rattle.properties_tools.proofs.Settled.{Took, took}
+use Rattle.properties_tools.proofs.FilteredTwice.{Took, took}
 
 -- the settings with it on
 abbrev on : Settings

@@ -12,7 +12,7 @@ use Rattle.properties_format.specs.Maps.{AreKeys, HasNoPair, IsLastValue, IsValu
 use Rattle.properties_format.specs.Computed.Maps.{Has}
 use Rattle.properties_format.proofs.Keys.{contained, contains}
 use Rattle.properties_format.proofs.Maps.{value_in, value_in-meets, value_in-only}
-use Rattle.properties_tools.specs.Propedit.Table.{Row, row_keys, AreRows, IsRow}
+use Rattle.properties_tables.specs.Table.{Row, row_keys, AreRows, IsRow}
 use Rattle.properties_tools.specs.Propedit.Differences.{Difference, gone, came, changed, key_of, AreDifferences, ComesBefore, Differs, IsDifference}
 use Rattle.properties_tools.specs.Private.Differing.{became, came_if, differences, of_new, of_old, row_with}
 

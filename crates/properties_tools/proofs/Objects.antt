@@ -11,10 +11,12 @@ use Rattle.json.specs.Written.{Written}
 use Rattle.json.proofs.Printed.Decimals.{IsNumber-decimal}
 use Rattle.properties_format.specs.Text.{line_feed}
 use Rattle.properties_tools.specs.Propedit.Differences.{changed, came, gone, key_of, Difference}
-use Rattle.properties_tools.specs.Propedit.Json.{difference_value, AreJsonLines}
+use Rattle.properties_tools.specs.Propedit.Json.{difference_value}
+use Rattle.properties_checking.specs.JsonLines.{AreJsonLines}
 use Rattle.properties_tools.specs.Private.Differing.{HasLines}
-use Rattle.properties_tools.specs.Private.Json.{difference_line, side_tokens, WritesAll}
-use Rattle.properties_tools.proofs.Json.{json-line}
+use Rattle.properties_tools.specs.Private.Json.{difference_line, side_tokens}
+use Rattle.properties_checking.specs.Private.Objects.{WritesAll}
+use Rattle.properties_checking.proofs.Json.{json-line}
 
 never-empty : (text : List ℕ) (byte : ℕ) → text ++ byte ∷ [] ≢ []
 never-empty [] byte h = absurd (cc)

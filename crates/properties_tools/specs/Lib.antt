@@ -1,5 +1,4 @@
 pub mod Arguments
-pub mod Messages
 pub mod Filter
 pub mod Propfilter
 pub mod Propedit

@@ -1,14 +1,5 @@
-pub mod Counting
 pub mod Differing
-pub mod Flawed
-pub mod Fold
 pub mod Hinting
-pub mod InPlace
 pub mod Json
 pub mod Lacking
 pub mod Merging
-pub mod OpenLines
-pub mod Table
-pub mod Checking
-pub mod Collected
-pub mod Sought

@@ -2,58 +2,44 @@
 -- it fails, and the effects of that.
 pub mod Against
 pub mod BaseRun
-pub mod Change
-pub mod Check
 pub mod Comment
-pub mod Commenting
-pub mod Counts
 pub mod Diff
 pub mod Differences
-pub mod Failures
 pub mod Get
 pub mod Hints
-pub mod InPlace
 pub mod Json
-pub mod Keys
-pub mod Kinds
-pub mod Lines
 pub mod Listing
 pub mod Merge
-pub mod Misread
-pub mod Removing
-pub mod Renaming
-pub mod Sources
-pub mod Table
 pub mod Texts
-use Rattle.std.specs.Prelude.{◌≡◌, ℕ, Bool, true, false, List, [], ◌∷◌, Result, Ok, Err, codes, map, string_bytes, ◌≢◌, ◌⊎◌, Option, Some, None}
+use Rattle.std.specs.Prelude.{◌≡◌, ℕ, Bool, true, false, List, [], ◌∷◌, Result, Ok, Err, codes, map, string_bytes, ◌⊎◌, Option}
 use Rattle.std.specs.Option.{option_map}
 use Rattle.properties_format.specs.Encoding.{Encoding}
 use Rattle.properties_text.specs.Encoding.{encoding_of}
 use Rattle.java_properties.specs.Maps.{characters}
 use Rattle.properties_tools.specs.Propedit.Against.{IsBaseOf, IsReportAgainst, KnownBase}
-use Rattle.properties_tools.specs.Propedit.Change.{Changes}
-use Rattle.properties_tools.specs.Propedit.Check.{IsReport}
+use Rattle.properties_changing.specs.Change.{Changes}
+use Rattle.properties_checking.specs.Check.{IsReport}
 use Rattle.properties_tools.specs.Propedit.Comment.{ShowsComment}
-use Rattle.properties_tools.specs.Propedit.Failures.{LacksMemory, failure_status, standard_output, Reports}
+use Rattle.properties_tables.specs.Failures.{LacksMemory, failure_status, standard_output, Reports}
 use Rattle.properties_tools.specs.Propedit.Get.{Gets}
 use Rattle.properties_tools.specs.Propedit.Hints.{hint_bytes, IsHint, PrintsHint}
 use Rattle.properties_tools.specs.Propedit.Json.{ListsJson}
 use Rattle.properties_tools.specs.Propedit.Listing.{Lists, ListsValues}
 use Rattle.properties_tools.specs.declared.propedit.answer.Answer.{Answer}
-use Rattle.properties_tools.specs.declared.propedit.request.Check.{Check as AskedCheck}
+use Rattle.properties_checking.specs.declared.request.Check.{Check as AskedCheck}
 use Rattle.properties_tools.specs.declared.propedit.request.Command.{Command}
-use Rattle.properties_tools.specs.declared.propedit.request.Change.{Change as AskedChange}
+use Rattle.properties_changing.specs.declared.request.Change.{Change as AskedChange}
 use Rattle.properties_tools.specs.declared.propedit.request.Command.TheVariants as command
 use Rattle.properties_tools.specs.declared.propedit.request.Source.{Source}
 use Rattle.properties_tools.specs.declared.propedit.request.Source.TheVariants.{StandardInput, Dash, File}
 use Rattle.properties_tools.specs.declared.propedit.request.Job.{Job}
-use Rattle.properties_tools.specs.declared.propedit.error.Failure.{Failure}
-use Rattle.std.specs.Global.{Global, Vec}
+use Rattle.properties_tables.specs.declared.error.Failure.{Failure}
+use Rattle.std.specs.Global.{Global}
 use Rattle.std.specs.declared.string.String.{String}
 use Rattle.counted_io.specs.Streams.{Reader, Sink}
 use Rattle.java_properties.specs.WholeSources.{GivesWhole, ReadsSource, WritesSource}
 use Rattle.properties_items.specs.declared.error.PropertiesError.{PropertiesError}
-use Rattle.properties_tools.specs.declared.propedit.error.Failure.TheVariants.{Input, Output}
+use Rattle.properties_tables.specs.declared.error.Failure.TheVariants.{Input, Output}
 
 -- the name of a source in messages
 abbrev pub name_of : Source → List ℕ
@@ -193,11 +179,3 @@ pub record PrintsText {W E : Type 0} (sink : Sink W) (error_sink : Sink E) (text
   pub result : Result Unit PropertiesError
   pub writes : WritesSource sink output text result output'
   pub ends : Ends error_sink standard_output errors (printed_status result) status errors'
-
--- ---- in place
-
--- What replaces a source: its bytes after the change, which aren't its own, or nothing where they are.
-abbrev pub Replaces : Encoding → List ℕ → AskedChange → Result (Option (Vec ℕ)) Failure → Type 0
-Replaces e source change (Ok (Some bytes)) = Changes e source change (Ok bytes) × (bytes.items ≢ source)
-Replaces e source change (Ok None) = (bytes : Vec ℕ) × Changes e source change (Ok bytes) × (bytes.items ≡ source)
-Replaces e source change (Err failure) = Changes e source change (Err failure)

@@ -6,7 +6,7 @@ use Rattle.properties_format.specs.Names.{name_of}
 use Rattle.properties_items.specs.declared.error.PropertiesError.{PropertiesError}
 use Rattle.properties_text.specs.Encoding.{encoding_of}
 use Rattle.properties_tools.specs.Filter.{Filters, Form, form}
-use Rattle.properties_tools.specs.Messages.{printed_line, HasPrintedLine, PrintsErrorOf}
+use Rattle.properties_tables.specs.Messages.{printed_line, HasPrintedLine, PrintsErrorOf}
 use Rattle.properties_tools.specs.declared.propfilter.Asked.{Asked}
 
 -- what it prints where its arguments are none of its own

@@ -24,7 +24,7 @@ use std::alloc::Global;
 /// filter(alloc, &mut input, &mut output, Encoding::WINDOWS_1252)?;
 /// // The sink holds `b=2` and `a=`, each ended by a line feed.
 /// ```
-#[tactic(auto, using(crate::proofs::Settled::filters_settles))]
+#[tactic(auto, using(crate::proofs::FilteredTwice::filters_settles))]
 pub fn filter<R: CountedRead, W: CountedWrite>(
     alloc: Global,
     input: &mut R,

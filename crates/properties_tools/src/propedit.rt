@@ -6,54 +6,40 @@ pub mod answers;
 pub mod base_run;
 pub mod change;
 pub mod check;
-mod check_json;
 pub mod comment;
 pub mod counts;
 pub mod diff;
 pub mod diff_json;
 pub mod error;
-mod fold;
 pub mod get;
 pub mod hint;
 pub mod ill_formed;
 pub mod in_place;
-mod key_table;
 pub mod kinds;
-mod line_findings;
 pub mod list;
 pub mod list_json;
 pub mod merge;
-mod misread;
-mod objects;
-mod open_lines;
 pub mod pairs;
-mod remove;
-mod rename;
 pub mod request;
 pub mod same_file;
-mod set_comment;
 pub mod sound;
-mod sound_pairs;
-mod table;
-mod texts;
-mod values;
 
 ghost use Rattle.std.specs.Prelude.{◌≡◌, map};
 ghost use Rattle.counted_io.specs.Streams.{IsSameReader, IsSameSink};
 ghost use Rattle.java_properties.specs.Maps.{characters};
-ghost use Rattle.properties_text.specs.Encoding.{encoding_of};
-ghost use Rattle.properties_tools.specs.Messages.{printed_line, HasPrintedLine};
-ghost use Rattle.properties_tools.specs.Propedit.{Ends, Prints, Replaces, Runs, PrintsText};
-ghost use Rattle.properties_tools.specs.Propedit.Failures.{memory_words};
+ghost use Rattle.properties_tables.specs.Messages.{printed_line, HasPrintedLine};
+ghost use Rattle.properties_tools.specs.Propedit.{Ends, Prints, Runs, PrintsText};
+ghost use Rattle.properties_tables.specs.Failures.{memory_words};
 
-use crate::messages::print_line;
 use crate::propedit::answers::{answer_to, name};
-use crate::propedit::change::change;
-use crate::propedit::error::{FAILED, Failure, NO_MEMORY, STANDARD_OUTPUT, print_failure};
 use crate::propedit::hint::{hint, print_hint};
-use crate::propedit::request::{Change, Job};
+use crate::propedit::request::Job;
 use counted_io::{CountedRead, CountedWrite};
-use java_properties::{Encoding, read_source, write_source};
+use java_properties::{read_source, write_source};
+use properties_changing::change::change;
+pub use properties_changing::change::replacement;
+use properties_tables::error::{FAILED, Failure, NO_MEMORY, STANDARD_OUTPUT, print_failure};
+use properties_tables::messages::print_line;
 use std::alloc::Global;
 
 /// Reads the source to its end, prints what the command gives for it, and returns the exit status.
@@ -114,34 +100,6 @@ fn print_answer<R: CountedRead, W: CountedWrite>(
         Ok(()) => Ok((answer.status, hint)),
         Err(error) => Err(Failure::Output(error)),
     }
-}
-
-/// Returns the bytes of a source after a change, or `None` if they are its own bytes.
-///
-/// For a file that is changed in place: if nothing changes, nothing has to be written.
-///
-/// ```text
-/// let edits = Change::Edits(Edits {
-///     list: vec![in alloc; Edit::Remove(port)]?,
-///     ascii_only: false,
-///     latin_1: false,
-///     absent: AbsentKeys::Added,
-/// });
-/// replacement(alloc, b"host = a\n", Encoding::UTF_8, &edits)?; // None
-/// ```
-pub fn replacement(
-    alloc: Global,
-    source: &[u8],
-    encoding: Encoding,
-    asked: &Change,
-) -> Result<Option<Vec<u8>>, Failure>
-    ensures { Replaces (encoding_of encoding) source.now asked.now result }
-{
-    let bytes = change(alloc, source, encoding, asked)?;
-    if bytes.as_slice() == source {
-        return Ok(None);
-    }
-    Ok(Some(bytes))
 }
 
 /// Returns the exit status of a result: its own, or that of a failure, which is printed on `errors` as a line under the

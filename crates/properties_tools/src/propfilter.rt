@@ -3,13 +3,13 @@
 ghost use Rattle.std.specs.Prelude.{◌≡◌, ◌∷◌, [], map, string_bytes};
 ghost use Rattle.std.specs.Option.{option_map};
 ghost use Rattle.counted_io.specs.Streams.{IsSameReader, IsSameSink};
-ghost use Rattle.properties_tools.specs.Messages.{printed_line, HasPrintedLine};
+ghost use Rattle.properties_tables.specs.Messages.{printed_line, HasPrintedLine};
 ghost use Rattle.properties_tools.specs.Propfilter.{asked_of, not_utf_8, usage, IsAsked, IsNamedWith, Runs};
 
 use crate::filter::filter_with;
-use crate::messages::{print_error, print_line};
 use counted_io::{CountedRead, CountedWrite};
 use java_properties::Encoding;
+use properties_tables::messages::{print_error, print_line};
 use std::alloc::Global;
 
 const USAGE: &str = "usage: propfilter [windows-1252|utf-8|utf-16le|utf-16be [ascii]]\n";
@@ -89,7 +89,7 @@ fn print_usage<E: CountedWrite>(errors: &mut E) -> u8
     2
 }
 
-#[tactic(auto, using(crate::proofs::Asking::named_alone))]
+#[tactic(auto, using(crate::proofs::FilterArguments::named_alone))]
 fn asked_for(arguments: &[String]) -> Option<Asked>
     ensures { IsAsked (map string_bytes arguments.now) (option_map asked_of result) }
 {
@@ -104,7 +104,7 @@ fn asked_for(arguments: &[String]) -> Option<Asked>
     }
 }
 
-#[tactic(auto, using(crate::proofs::Asking::named_ascii))]
+#[tactic(auto, using(crate::proofs::FilterArguments::named_ascii))]
 fn asked_with_word(name: &str, word: &str) -> Option<Asked>
     ensures { IsAsked (name.now ∷ word.now ∷ []) (option_map asked_of result) }
 {

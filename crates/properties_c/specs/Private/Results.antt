@@ -46,8 +46,8 @@ use Rattle.java_properties.specs.Calls.{HasMade, HasMadeCall}
 use Rattle.java_properties.specs.PropertiesWriter.{Writing, call_of, with_settings}
 use Rattle.properties_c.specs.Private.Lists.{RefusesList}
 use Rattle.properties_c.specs.Writing.{AreGood, lines_before}
-use Rattle.properties_tools.specs.declared.propedit.error.Failure.{Failure}
-use Rattle.properties_tools.specs.declared.propedit.error.Failure.TheVariants.{HoldsZero, NotUtf8, NotUtf8ByMark, NotUtf16}
+use Rattle.properties_tables.specs.declared.error.Failure.{Failure}
+use Rattle.properties_tables.specs.declared.error.Failure.TheVariants.{HoldsZero, NotUtf8, NotUtf8ByMark, NotUtf16}
 use Rattle.properties_c.specs.declared.status.Status.{Status}
 use Rattle.properties_c.specs.declared.status.Status.TheVariants.{NoMemory, BadPrefix, BadSeparator, EmptyKey}
 

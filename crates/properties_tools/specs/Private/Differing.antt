@@ -5,13 +5,13 @@ use Rattle.properties_format.specs.Encoding.{Encoding}
 use Rattle.properties_tools.specs.Propedit.{report_status}
 use Rattle.properties_tools.specs.Propedit.Diff.{DiffsTo}
 use Rattle.properties_tools.specs.Propedit.Differences.{changed, came, gone, AreDifferencesOf, Difference}
-use Rattle.properties_tools.specs.Propedit.Sources.{IsSound}
-use Rattle.properties_tools.specs.Propedit.Table.{row_keys, Row}
-use Rattle.properties_tools.specs.Private.Table.{rows_of, IsTable}
+use Rattle.properties_tables.specs.Sources.{IsSound}
+use Rattle.properties_tables.specs.Table.{row_keys, Row}
+use Rattle.properties_tables.specs.Private.Table.{rows_of, IsTable}
 use Rattle.properties_tools.specs.declared.propedit.answer.Answer.{Answer}
 use Rattle.properties_tools.specs.declared.propedit.diff.DiffFailure.{DiffFailure}
 use Rattle.properties_tools.specs.declared.propedit.diff.Side.{Side}
-use Rattle.properties_tools.specs.declared.propedit.table.Table.{Table}
+use Rattle.properties_tables.specs.declared.table.Table.{Table}
 
 -- The keys of the rows can be found, and no two rows have the same.
 pub record CanBeCompared (t : Table) : Type 0 where

@@ -1,24 +1,15 @@
 -- How what is said of an answer is found.
-use Rattle.std.specs.Prelude.{ℕ, List, Option, Some, None, Result, Ok, Err}
-use Rattle.std.specs.Borrow.{Bor}
+use Rattle.std.specs.Prelude.{ℕ, List, Option, Result, Ok, Err}
 use Rattle.std.specs.Global.{Global}
-use Rattle.std.specs.Str.{chars}
 use Rattle.std.specs.declared.string.String.{String}
 use Rattle.properties_format.specs.Encoding.{Encoding}
 use Rattle.properties_tools.specs.Propedit.{Answers}
-use Rattle.properties_tools.specs.Propedit.Keys.{HasKeys, IsFirstAbsent}
-use Rattle.properties_tools.specs.Propedit.Failures.{LacksMemory}
+use Rattle.properties_tables.specs.Failures.{LacksMemory}
 use Rattle.properties_tools.specs.Propedit.Hints.{hint_bytes, IsFileHint, IsHint}
-use Rattle.properties_tools.specs.Propedit.Sources.{IsSound}
+use Rattle.properties_tables.specs.Sources.{IsSound}
 use Rattle.properties_tools.specs.declared.propedit.answer.Answer.{Answer}
-use Rattle.properties_tools.specs.declared.propedit.error.Failure.{Failure}
+use Rattle.properties_tables.specs.declared.error.Failure.{Failure}
 use Rattle.properties_tools.specs.declared.propedit.request.Job.{Job}
-
--- What looking for the first key that no pair has returns. In a sound source it fails only if memory runs out.
-abbrev pub FindsAbsent : Encoding → List ℕ → List (List ℕ) → Result (Option (Bor (List ℕ))) Failure → Type 0
-FindsAbsent e source keys (Ok None) = HasKeys e source keys
-FindsAbsent e source keys (Ok (Some key)) = IsFirstAbsent e source keys (chars key.now)
-FindsAbsent e source keys (Err failure) = IsSound e source → LacksMemory failure
 
 -- The same of the line for that key.
 abbrev pub FindsFileHint : Encoding → List ℕ → List (List ℕ) → Result (Option (String Global)) Failure → Type 0

@@ -1,12 +1,12 @@
 -- How the keys that only one of two tables has are computed.
 use Rattle.std.specs.Prelude.{ℕ, ◌&&◌, not, bytes_eq, if◌then◌else◌, Bool, true, false, List, [], ◌∷◌, filter, string_bytes}
 use Rattle.java_properties.specs.Findings.{KeyPlace}
-use Rattle.properties_tools.specs.Private.Table.{place_keys, places_of, IsKeyTable}
+use Rattle.properties_tables.specs.Private.Table.{place_keys, places_of, IsKeyTable}
 use Rattle.properties_tools.specs.Propedit.Against.{is_compared, missing_line, missing_value, surplus_line, surplus_value, KnownBase}
-use Rattle.properties_tools.specs.Private.Json.{AddsReport}
-use Rattle.properties_tools.specs.Propedit.Kinds.{reported}
+use Rattle.properties_checking.specs.Private.Objects.{AddsReport}
+use Rattle.properties_checking.specs.Kinds.{reported}
 use Rattle.properties_tools.specs.declared.propedit.against.Sides.{Sides}
-use Rattle.properties_tools.specs.declared.propedit.kinds.Kind.TheVariants.{MissingKey, SurplusKey}
+use Rattle.properties_checking.specs.declared.kinds.Kind.TheVariants.{MissingKey, SurplusKey}
 use Rattle.std.specs.Global.{Global}
 use Rattle.std.specs.declared.string.String.{String}
 use Rattle.properties_tools.specs.declared.propedit.against.Base.TheInside.{Inside}

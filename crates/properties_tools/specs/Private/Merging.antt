@@ -3,8 +3,8 @@ use Rattle.std.specs.Prelude.{◌≡◌, ◌≢◌, ℕ, List, [], ◌∷◌, �
 use Rattle.std.specs.Borrow.{Bor}
 use Rattle.properties_format.specs.Edits.{Edit}
 use Rattle.properties_tools.specs.Propedit.Merge.{set_of_texts, text_bytes, HasNoZero, TextPair}
-use Rattle.properties_tools.specs.declared.propedit.error.TextFlaw.{TextFlaw}
-use Rattle.properties_tools.specs.declared.propedit.error.TextFlaw.TheVariants as flaw
+use Rattle.properties_tables.specs.declared.error.TextFlaw.{TextFlaw}
+use Rattle.properties_tables.specs.declared.error.TextFlaw.TheVariants as flaw
 
 -- What taking the first text returns: it and what comes after its zero byte; or there is no zero byte, in some bytes or
 -- in none.

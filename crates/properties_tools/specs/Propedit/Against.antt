@@ -9,15 +9,15 @@ use Rattle.properties_format.specs.Items.{Entry}
 use Rattle.properties_format.specs.Text.{line_feed}
 use Rattle.properties_format.specs.Maps.{AreKeys, HasNoPair, IsLastValue, PairComesBefore}
 use Rattle.java_properties.specs.Findings.{KeyPlace}
-use Rattle.properties_tools.specs.Messages.{all_shown, escaped}
-use Rattle.properties_tools.specs.Propedit.Check.{has_replacement, IsReport}
-use Rattle.properties_tools.specs.Propedit.Json.{text_value, IsReportText}
-use Rattle.properties_tools.specs.Propedit.Kinds.{kind_name, reported}
-use Rattle.properties_tools.specs.Propedit.Lines.{AreFlawedLines}
-use Rattle.properties_tools.specs.Propedit.Table.{IsFirstLine}
-use Rattle.properties_tools.specs.declared.propedit.ill_formed.Flaw.TheVariants.{IllFormed}
-use Rattle.properties_tools.specs.declared.propedit.kinds.Kind.TheVariants.{MissingKey, SurplusKey}
-use Rattle.properties_tools.specs.declared.propedit.request.Check.{Check}
+use Rattle.properties_tables.specs.Messages.{all_shown, escaped}
+use Rattle.properties_checking.specs.Check.{has_replacement, IsReport}
+use Rattle.properties_checking.specs.JsonLines.{text_value, IsReportText}
+use Rattle.properties_checking.specs.Kinds.{kind_name, reported}
+use Rattle.properties_tables.specs.Lines.{AreFlawedLines}
+use Rattle.properties_tables.specs.Table.{IsFirstLine}
+use Rattle.properties_tables.specs.declared.ill_formed.Flaw.TheVariants.{IllFormed}
+use Rattle.properties_checking.specs.declared.kinds.Kind.TheVariants.{MissingKey, SurplusKey}
+use Rattle.properties_checking.specs.declared.request.Check.{Check}
 
 -- ---- keys that are lacking
 

@@ -7,8 +7,8 @@ use Rattle.properties_text.specs.Encoding.{encoding_of}
 use Rattle.properties_tools.specs.Propedit.{name_of, ChecksBase, Ends}
 use Rattle.properties_tools.specs.Propedit.Against.{KnownBase}
 use Rattle.properties_tools.specs.declared.propedit.answer.Answer.{Answer}
-use Rattle.properties_tools.specs.declared.propedit.error.Failure.{Failure}
-use Rattle.properties_tools.specs.declared.propedit.error.Failure.TheVariants.{Input, Output}
+use Rattle.properties_tables.specs.declared.error.Failure.{Failure}
+use Rattle.properties_tables.specs.declared.error.Failure.TheVariants.{Input, Output}
 use Rattle.properties_tools.specs.declared.propedit.request.CheckedBase.{CheckedBase}
 
 module _ {R W : Type 0} (reader : Reader R) (sink : Sink W) (asked : CheckedBase) where

@@ -2,11 +2,11 @@
 use Rattle.std.specs.Prelude.{◌≡◌, ◌⊎◌, ℕ, List, [], Option, Some, None, Result, Ok, Err}
 use Rattle.properties_format.specs.Encoding.{Encoding}
 use Rattle.java_properties.specs.Commented.{HasComment, RefusesComment}
-use Rattle.properties_tools.specs.Propedit.Sources.{IsSound, IsUnsound}
+use Rattle.properties_tables.specs.Sources.{IsSound, IsUnsound}
 use Rattle.properties_tools.specs.Propedit.Texts.{ended_all}
 use Rattle.properties_tools.specs.declared.propedit.answer.Answer.{Answer}
-use Rattle.properties_tools.specs.declared.propedit.error.Failure.{Failure}
-use Rattle.properties_tools.specs.declared.propedit.error.Failure.TheVariants.{Input}
+use Rattle.properties_tables.specs.declared.error.Failure.{Failure}
+use Rattle.properties_tables.specs.declared.error.Failure.TheVariants.{Input}
 use Rattle.properties_tools.specs.declared.propedit.request.Terminator.TheVariants.{LineFeed}
 use Rattle.properties_items.specs.declared.error.PropertiesError.{PropertiesError}
 

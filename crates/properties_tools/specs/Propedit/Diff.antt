@@ -7,14 +7,15 @@ use Rattle.properties_items.specs.declared.error.PropertiesError.{PropertiesErro
 use Rattle.properties_text.specs.Encoding.{encoding_of}
 use Rattle.properties_tools.specs.Propedit.{name_of, Ends}
 use Rattle.properties_tools.specs.Propedit.Differences.{difference_lines, difference_status, difference_text, AreDifferencesOf, Difference}
-use Rattle.properties_tools.specs.Propedit.Failures.{standard_output}
-use Rattle.properties_tools.specs.Propedit.Json.{difference_value, AreJsonLines, IsReportText}
-use Rattle.properties_tools.specs.Propedit.Sources.{IsSound, IsUnsound}
+use Rattle.properties_tables.specs.Failures.{standard_output}
+use Rattle.properties_tools.specs.Propedit.Json.{difference_value}
+use Rattle.properties_checking.specs.JsonLines.{AreJsonLines, IsReportText}
+use Rattle.properties_tables.specs.Sources.{IsSound, IsUnsound}
 use Rattle.properties_tools.specs.declared.propedit.answer.Answer.{Answer}
 use Rattle.properties_tools.specs.declared.propedit.diff.DiffFailure.{DiffFailure}
 use Rattle.properties_tools.specs.declared.propedit.diff.DiffFailure.TheVariants.{Old, New, Output}
-use Rattle.properties_tools.specs.declared.propedit.error.Failure.{Failure}
-use Rattle.properties_tools.specs.declared.propedit.error.Failure.TheVariants as failure
+use Rattle.properties_tables.specs.declared.error.Failure.{Failure}
+use Rattle.properties_tables.specs.declared.error.Failure.TheVariants as failure
 use Rattle.properties_tools.specs.declared.propedit.request.Comparison.{Comparison}
 
 -- ---- of two sources

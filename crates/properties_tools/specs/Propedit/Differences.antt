@@ -10,8 +10,8 @@ use Rattle.properties_format.specs.Items.{pair, Entry}
 use Rattle.properties_format.specs.Maps.{HasNoPair, IsLastValue, IsValue, PairComesBefore}
 use Rattle.properties_format.specs.Printing.{printed}
 use Rattle.properties_format.specs.Settings.{default_settings}
-use Rattle.properties_tools.specs.Messages.{escaped}
-use Rattle.properties_tools.specs.Propedit.Table.{Row, IsRow}
+use Rattle.properties_tables.specs.Messages.{escaped}
+use Rattle.properties_tables.specs.Table.{Row, IsRow}
 
 -- a key that went, one that came, and one that has another value
 pub data Difference : Type 0 where

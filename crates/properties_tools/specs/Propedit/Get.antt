@@ -1,13 +1,13 @@
 -- What `get` gives: the value of each key, or a default where no pair has it.
 use Rattle.std.specs.Prelude.{◌≡◌, ℕ, List, [], ◌∷◌, map, Option, Some, None, Result, Ok, Err}
 use Rattle.std.specs.List.{flat_map}
-use Rattle.properties_format.specs.Edits.{HasPairValue}
 use Rattle.properties_format.specs.Encoding.{Encoding}
-use Rattle.properties_tools.specs.Propedit.Sources.{IsSound, IsUnsound}
+use Rattle.properties_tables.specs.Sources.{IsSound, IsUnsound}
 use Rattle.properties_tools.specs.Propedit.Texts.{ended}
 use Rattle.properties_tools.specs.declared.propedit.answer.Answer.{Answer}
 use Rattle.properties_tools.specs.declared.propedit.request.Terminator.{Terminator}
-use Rattle.properties_tools.specs.declared.propedit.error.Failure.{Failure}
+use Rattle.properties_tables.specs.declared.error.Failure.{Failure}
+use Rattle.properties_tables.specs.Values.{HaveValues}
 
 -- the value where there is one, and else the default
 abbrev pub value_or : Option (List ℕ) → Option (List ℕ) → Option (List ℕ)
@@ -29,12 +29,6 @@ found_status (None ∷ texts) = 1
 pub record Prints (end : Terminator) (texts : List (Option (List ℕ))) (answer : Answer) : Type 0 where
   pub text : answer.text.items ≡ flat_map (ended_if end) texts
   pub status : answer.status ≡ found_status texts
-
--- Each of these keys has its value in the source.
-abbrev pub HaveValues : Encoding → List ℕ → List (List ℕ) → List (Option (List ℕ)) → Type 0
-HaveValues e source [] [] = Unit {0}
-HaveValues e source (key ∷ keys) (value ∷ values) = HasPairValue e source key value × HaveValues e source keys values
-HaveValues e source keys values = ⊥
 
 -- The source is sound, and for each of these keys its value in the source is printed, or the default where no pair has it.
 pub record GetsValues (e : Encoding) (source : List ℕ) (keys : List (List ℕ)) (default : Option (List ℕ)) (end : Terminator) (answer : Answer) : Type 0 where

@@ -8,8 +8,8 @@ use Rattle.std.specs.declared.string.String.{String}
 use Rattle.counted_io.specs.Streams.{Sink}
 use Rattle.properties_format.specs.Encoding.{Encoding}
 use Rattle.properties_text.specs.Encoding.{encoding_of}
-use Rattle.properties_tools.specs.Messages.{escaped, printed_line, HasPrintedLine}
-use Rattle.properties_tools.specs.Propedit.Keys.{HasKeys, IsFirstAbsent}
+use Rattle.properties_tables.specs.Messages.{escaped, printed_line, HasPrintedLine}
+use Rattle.properties_changing.specs.Keys.{HasKeys, IsFirstAbsent}
 use Rattle.properties_tools.specs.declared.propedit.request.Command.{Command}
 use Rattle.properties_tools.specs.declared.propedit.request.Command.TheVariants.{Comment, Get, ListJson, ListValues}
 use Rattle.properties_tools.specs.declared.propedit.request.Command.TheVariants as command

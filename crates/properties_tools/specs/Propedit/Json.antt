@@ -1,44 +1,17 @@
--- Answers as JSON, each value on a line of its own: what is printed, and that it reads back.
--- Source: RFC 8259, as the crate json has it: `print` is the text of a value's tokens with nothing between them, and
--- `document` is the value that a text is. Members keep their order, and their names and texts are in UTF-8.
-use Rattle.std.specs.Prelude.{◌≡◌, ℕ, List, [], ◌∷◌, ◌++◌, Some, Result, Ok, Err, codes, encode_utf8_all, map}
+-- Answers as JSON. Members keep their order, and their names and texts are in UTF-8.
+-- Source: RFC 8259, as page JsonLines has it.
+use Rattle.std.specs.Prelude.{◌≡◌, ℕ, List, [], ◌∷◌, Result, Ok, Err, codes, encode_utf8_all}
 use Rattle.std.specs.Fmt.{decimal}
-use Rattle.std.specs.List.{flat_map}
-use Rattle.json.specs.Json.{document, number, object, string, member, no_members, Json, Members}
-use Rattle.json.specs.Print.{print}
-use Rattle.json.specs.Tree.{json_tokens}
+use Rattle.json.specs.Json.{number, object, member, no_members, Json, Members}
 use Rattle.properties_format.specs.Encoding.{Encoding}
-use Rattle.properties_format.specs.Text.{line_feed}
 use Rattle.properties_format.specs.Writing.{Pair}
 use Rattle.properties_tools.specs.Propedit.Differences.{changed, came, gone, key_of, Difference}
 use Rattle.properties_tools.specs.Propedit.Listing.{list_status, listed_pairs, AreLastPairs}
-use Rattle.properties_tools.specs.Propedit.Sources.{IsSound, IsUnsound}
-use Rattle.properties_tools.specs.Propedit.Table.{Row}
+use Rattle.properties_tables.specs.Sources.{IsSound, IsUnsound}
+use Rattle.properties_tables.specs.Table.{Row}
 use Rattle.properties_tools.specs.declared.propedit.answer.Answer.{Answer}
-use Rattle.properties_tools.specs.declared.propedit.error.Failure.{Failure}
-use Rattle.properties_tools.specs.declared.propedit.request.Report.{Report}
-use Rattle.properties_tools.specs.declared.propedit.request.Report.TheVariants as report
-
--- The line is the text of this value and a line feed, and the text reads as the value.
-pub record IsJsonLine (value : Json) (line : List ℕ) : Type 0 where
-  pub text : List ℕ
-  pub division : line ≡ text ++ line_feed ∷ []
-  pub printed : text ≡ print (json_tokens value)
-  pub reads : document text ≡ Some value
-
--- The text is a line for each of these values, in order.
-abbrev pub AreJsonLines : List Json → List ℕ → Type 0
-AreJsonLines [] text = text ≡ []
-AreJsonLines (value ∷ values) text =
-    (line : List ℕ) × (rest : List ℕ) × (text ≡ line ++ rest) × IsJsonLine value line × AreJsonLines values rest
-
--- Each of these is printed as a line, or as an object on a line.
-abbrev pub IsReportText : {X : Type 0} → Report → (X → List ℕ) → (X → Json) → List X → List ℕ → Type 0
-IsReportText report.Lines line value xs text = text ≡ flat_map line xs
-IsReportText report.Json line value xs text = AreJsonLines (map value xs) text
-
-abbrev pub text_value : List ℕ → Json
-text_value text = string (encode_utf8_all text)
+use Rattle.properties_tables.specs.declared.error.Failure.{Failure}
+use Rattle.properties_checking.specs.JsonLines.{IsJsonLine, text_value}
 
 -- ---- the pairs that are listed
 

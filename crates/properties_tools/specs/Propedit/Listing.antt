@@ -6,11 +6,11 @@ use Rattle.properties_format.specs.Edits.{ArePairs}
 use Rattle.properties_format.specs.Encoding.{Encoding}
 use Rattle.properties_format.specs.Items.{Entry}
 use Rattle.properties_format.specs.Maps.{AreKeys, IsLastValue}
-use Rattle.properties_tools.specs.Propedit.Sources.{IsSound, IsUnsound}
+use Rattle.properties_tables.specs.Sources.{IsSound, IsUnsound}
 use Rattle.properties_tools.specs.Propedit.Texts.{ended, followed}
 use Rattle.properties_tools.specs.declared.propedit.answer.Answer.{Answer}
 use Rattle.properties_tools.specs.declared.propedit.request.Terminator.{Terminator}
-use Rattle.properties_tools.specs.declared.propedit.error.Failure.{Failure}
+use Rattle.properties_tables.specs.declared.error.Failure.{Failure}
 use Rattle.properties_format.specs.Writing.{Pair}
 use Rattle.properties_format.specs.Text.{equals_sign}
 use Rattle.properties_tools.specs.declared.propedit.request.Terminator.TheVariants.{LineFeed, Nul}

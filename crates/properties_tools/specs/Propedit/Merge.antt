@@ -13,21 +13,21 @@ use Rattle.properties_items.specs.declared.error.PropertiesError.{PropertiesErro
 use Rattle.properties_text.specs.Encoding.{encoding_of}
 use Rattle.properties_text.specs.declared.encoding.Encoding.{Encoding as Asked}
 use Rattle.properties_tools.specs.Propedit.{name_of, Ends}
-use Rattle.properties_tools.specs.Propedit.Failures.{LacksMemory}
-use Rattle.properties_tools.specs.Propedit.Sources.{IsSound, IsUnsound}
-use Rattle.properties_tools.specs.Propedit.Table.{HasRows, Row}
-use Rattle.properties_tools.specs.declared.propedit.error.Failure.{Failure}
-use Rattle.properties_tools.specs.declared.propedit.error.Failure.TheVariants.{Input, Texts}
-use Rattle.properties_tools.specs.declared.propedit.error.TextFlaw.{TextFlaw}
-use Rattle.properties_tools.specs.declared.propedit.error.TextFlaw.TheVariants as flaw
+use Rattle.properties_tables.specs.Failures.{LacksMemory}
+use Rattle.properties_tables.specs.Sources.{IsSound, IsUnsound}
+use Rattle.properties_tables.specs.Table.{HasRows, Row}
+use Rattle.properties_tables.specs.declared.error.Failure.{Failure}
+use Rattle.properties_tables.specs.declared.error.Failure.TheVariants.{Input, Texts}
+use Rattle.properties_tables.specs.declared.error.TextFlaw.{TextFlaw}
+use Rattle.properties_tables.specs.declared.error.TextFlaw.TheVariants as flaw
 use Rattle.properties_tools.specs.declared.propedit.merge.Merged.{Merged}
 use Rattle.properties_tools.specs.declared.propedit.merge.Merged.TheVariants as outcome
-use Rattle.properties_tools.specs.declared.propedit.request.Change.{Change}
-use Rattle.properties_tools.specs.declared.propedit.request.Change.TheVariants as change
+use Rattle.properties_changing.specs.declared.request.Change.{Change}
+use Rattle.properties_changing.specs.declared.request.Change.TheVariants as change
 use Rattle.properties_tools.specs.declared.propedit.request.Command.TheVariants as command
 use Rattle.properties_tools.specs.declared.propedit.request.Destination.{Destination}
 use Rattle.properties_tools.specs.declared.propedit.request.Destination.TheVariants as destination
-use Rattle.properties_tools.specs.declared.propedit.request.Edits.{Edits}
+use Rattle.properties_changing.specs.declared.request.Edits.{Edits}
 use Rattle.properties_tools.specs.declared.propedit.request.Form.{Form}
 use Rattle.properties_tools.specs.declared.propedit.request.Form.TheVariants as form
 use Rattle.properties_tools.specs.declared.propedit.request.Merge.{Merge}

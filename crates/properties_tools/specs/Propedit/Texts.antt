@@ -1,8 +1,6 @@
 -- Texts that are printed, each with the byte that ends it.
 use Rattle.std.specs.Prelude.{ℕ, List, [], ◌∷◌, ◌++◌, encode_utf8_all}
-use Rattle.std.specs.Borrow.{Bor}
 use Rattle.std.specs.List.{flat_map}
-use Rattle.std.specs.Str.{chars}
 use Rattle.properties_format.specs.Text.{line_feed}
 use Rattle.properties_tools.specs.declared.propedit.request.Terminator.{Terminator}
 use Rattle.properties_tools.specs.declared.propedit.request.Terminator.TheVariants.{LineFeed, Nul}
@@ -22,7 +20,3 @@ ended end text = followed (end_byte end) text
 -- texts, one after another
 abbrev pub ended_all : Terminator → List (List ℕ) → List ℕ
 ended_all end texts = flat_map (ended end) texts
-
--- the characters of a text that is borrowed
-abbrev pub borrowed_characters : Bor (List ℕ) → List ℕ
-borrowed_characters text = chars text.now

@@ -6,16 +6,18 @@ ghost use Rattle.properties_tools.specs.Propedit.{Answers, Checks, ChangesTo, na
 
 use crate::propedit::against::check_against;
 use crate::propedit::answer::{Answer, reported};
-use crate::propedit::change::change;
-use crate::propedit::check::report;
 use crate::propedit::comment::comment;
-use crate::propedit::error::Failure;
 use crate::propedit::get::{Shown, get};
 use crate::propedit::list::list;
 use crate::propedit::list_json::list_json;
 use crate::propedit::pairs::list_values;
-use crate::propedit::request::{Change, Check, Command, Job, Source};
+use crate::propedit::request::{Command, Job, Source};
 use java_properties::Encoding;
+use properties_changing::change::change;
+use properties_changing::request::Change;
+use properties_checking::check::report;
+use properties_checking::request::Check;
+use properties_tables::error::Failure;
 use std::alloc::Global;
 
 /// Returns the name of a source in messages: its path, or `standard input`.

@@ -5,11 +5,11 @@ ghost use Rattle.properties_tools.specs.Propedit.BaseRun.{PrintsBase, RunsBase};
 
 use crate::propedit::against::{Base, base_of};
 use crate::propedit::answers::name;
-use crate::propedit::error::Failure;
 use crate::propedit::exit_status;
 use crate::propedit::request::CheckedBase;
 use counted_io::{CountedRead, CountedWrite};
 use java_properties::{read_source, write_source};
+use properties_tables::error::Failure;
 use std::alloc::Global;
 
 /// Reads a base to its end, prints what is wrong in it, and returns the exit status of that and the base. If the base

@@ -10,10 +10,10 @@ ghost use Rattle.properties_tools.specs.Propedit.Texts.{ended_all};
 ghost use Rattle.properties_tools.specs.declared.propedit.request.Terminator.TheVariants.{LineFeed};
 
 use crate::propedit::answer::{Answer, push_ended};
-use crate::propedit::error::Failure;
 use crate::propedit::request::Terminator;
-use crate::propedit::sound::{refuse_bytes, refuse_unsound};
 use java_properties::{Encoding, comment_of};
+use properties_tables::error::Failure;
+use properties_tables::sound::{refuse_bytes, refuse_unsound};
 use std::alloc::{AllocError, Global};
 
 /// Returns the texts of the comment lines directly above the last pair with a key, as they are written, each ended by a

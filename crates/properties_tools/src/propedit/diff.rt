@@ -10,18 +10,19 @@ ghost use Rattle.properties_tools.specs.Propedit.{report_status};
 ghost use Rattle.properties_tools.specs.Propedit.Diff.{Compares, Diffs, PrintsDiff, RunsDiff};
 ghost use Rattle.properties_tools.specs.Propedit.Differences.{changed, came, difference_lines, gone, has_late_control, is_late_control, line_front, pair_line, row_line, Difference};
 ghost use Rattle.properties_tools.specs.Private.Differing.{differences, of_new, of_old, row_at, CanBeCompared, DiffsEach, IsSide};
-ghost use Rattle.properties_tools.specs.Private.Table.{rows_of};
+ghost use Rattle.properties_tables.specs.Private.Table.{rows_of};
 
-use crate::messages::Escaped;
 use crate::propedit::answer::Answer;
 use crate::propedit::answers::name;
 use crate::propedit::diff_json::diff_json;
-use crate::propedit::error::{Failure, STANDARD_OUTPUT};
 use crate::propedit::exit_status;
-use crate::propedit::request::{Comparison, Report};
-use crate::propedit::table::{Table, table_of};
+use crate::propedit::request::Comparison;
 use counted_io::{CountedRead, CountedWrite};
 use java_properties::{Encoding, PropertiesError, read_source, write_source};
+use properties_checking::request::Report;
+use properties_tables::error::{Failure, STANDARD_OUTPUT};
+use properties_tables::messages::Escaped;
+use properties_tables::table::{Table, table_of};
 use properties_text::print::{LineBuffer, PairLayout, Repertoire, print_readable_texts};
 use std::alloc::{AllocError, Global};
 

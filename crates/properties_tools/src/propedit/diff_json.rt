@@ -7,7 +7,8 @@ ghost use Rattle.properties_format.specs.Text.{line_feed};
 ghost use Rattle.properties_text.specs.Encoding.{encoding_of};
 ghost use Rattle.properties_tools.specs.Propedit.Diff.{DiffsJson};
 ghost use Rattle.properties_tools.specs.Private.Differing.{row_at, IsSide};
-ghost use Rattle.properties_tools.specs.Private.Json.{difference_line, side_tokens, WritesAll};
+ghost use Rattle.properties_tools.specs.Private.Json.{difference_line, side_tokens};
+ghost use Rattle.properties_checking.specs.Private.Objects.{WritesAll};
 
 use crate::propedit::answer::{Answer, json_line};
 use crate::propedit::diff::{DiffFailure, DiffForm, Side, diff_in};

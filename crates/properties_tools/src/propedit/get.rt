@@ -4,16 +4,16 @@ ghost use Rattle.std.specs.Prelude.{◌≡◌, map, IfOk};
 ghost use Rattle.std.specs.Option.{option_map};
 ghost use Rattle.java_properties.specs.Maps.{characters};
 ghost use Rattle.properties_text.specs.Encoding.{encoding_of};
-ghost use Rattle.properties_tools.specs.Private.Collected.{value_texts};
+ghost use Rattle.properties_tables.specs.Values.{value_texts};
 ghost use Rattle.properties_tools.specs.Propedit.Get.{value_or, Gets, Prints};
-ghost use Rattle.properties_tools.specs.Propedit.Texts.{borrowed_characters};
+ghost use Rattle.properties_changing.specs.Change.{borrowed_characters};
 
 use crate::propedit::answer::{Answer, push_ended};
-use crate::propedit::error::Failure;
 use crate::propedit::request::Terminator;
-use crate::propedit::sound::refuse_bytes;
-use crate::propedit::values::values_of;
 use java_properties::Encoding;
+use properties_tables::error::Failure;
+use properties_tables::sound::refuse_bytes;
+use properties_tables::values::values_of;
 use std::alloc::{AllocError, Global};
 
 /// How values are printed.

@@ -5,16 +5,16 @@ ghost use Rattle.std.specs.Option.{option_map};
 ghost use Rattle.counted_io.specs.Streams.{IsSameSink};
 ghost use Rattle.java_properties.specs.Maps.{characters};
 ghost use Rattle.properties_text.specs.Encoding.{encoding_of};
-ghost use Rattle.properties_tools.specs.Messages.{HasPrintedLine};
+ghost use Rattle.properties_tables.specs.Messages.{HasPrintedLine};
 ghost use Rattle.properties_tools.specs.Private.Hinting.{FindsFileHint, FindsHint};
 ghost use Rattle.properties_tools.specs.Propedit.Hints.{borrowed_bytes, hint_bytes, key_line, possible_files, prefix_hint, prefix_line, reading_line, refused_file, without_first, PrintsHint};
 
-use crate::messages::{Escaped, print_line};
-use crate::propedit::change::first_absent;
-use crate::propedit::error::Failure;
 use crate::propedit::request::{Command, Job, Source};
 use counted_io::CountedWrite;
 use java_properties::Encoding;
+use properties_changing::change::first_absent;
+use properties_tables::error::Failure;
+use properties_tables::messages::{Escaped, print_line};
 use std::alloc::{AllocError, Global};
 use std::slice;
 

@@ -5,13 +5,13 @@ ghost use Rattle.std.specs.Str.{chars};
 ghost use Rattle.properties_text.specs.Encoding.{encoding_of};
 ghost use Rattle.properties_tools.specs.Propedit.Listing.{is_key_listed, listed_keys, Lists, PrintsAll};
 ghost use Rattle.properties_tools.specs.Propedit.Texts.{ended};
-ghost use Rattle.properties_tools.specs.Private.Table.{place_keys, places_in, HoldKeys};
+ghost use Rattle.properties_tables.specs.Private.Table.{place_keys, places_in, HoldKeys};
 
 use crate::propedit::answer::{Answer, push_ended};
-use crate::propedit::error::Failure;
-use crate::propedit::key_table::{Keys, keys_of_source};
 use crate::propedit::request::Terminator;
 use java_properties::Encoding;
+use properties_tables::error::Failure;
+use properties_tables::key_table::{Keys, keys_of_source};
 use std::alloc::{AllocError, Global};
 
 /// Returns the keys that begin with a prefix, each once and with the byte that ends it, in the order of their first

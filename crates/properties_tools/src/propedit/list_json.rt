@@ -5,14 +5,14 @@ ghost use Rattle.std.specs.Str.{chars};
 ghost use Rattle.properties_text.specs.Encoding.{encoding_of};
 ghost use Rattle.properties_tools.specs.Propedit.Json.{ListsJson, PrintsObject};
 ghost use Rattle.properties_tools.specs.Propedit.Listing.{listed_pairs};
-ghost use Rattle.properties_tools.specs.Private.Table.{row_pair, rows_of, IsTable};
+ghost use Rattle.properties_tables.specs.Private.Table.{row_pair, rows_of, IsTable};
 
 use crate::propedit::answer::{Answer, json_line};
-use crate::propedit::error::Failure;
 use crate::propedit::list::is_listed;
-use crate::propedit::table::{Table, table_of};
 use java_properties::Encoding;
 use json::Writer;
+use properties_tables::error::Failure;
+use properties_tables::table::{Table, table_of};
 use std::alloc::{AllocError, Global};
 
 /// Returns the keys that begin with a prefix, each with its last value, as the members of one JSON object on one line, in

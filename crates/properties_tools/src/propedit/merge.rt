@@ -7,16 +7,17 @@ ghost use Rattle.counted_io.specs.Streams.{IsSameReader, IsSameSink};
 ghost use Rattle.java_properties.specs.Editing.{edits_in};
 ghost use Rattle.properties_text.specs.Encoding.{encoding_of};
 ghost use Rattle.properties_tools.specs.Private.Merging.{TakesText};
-ghost use Rattle.properties_tools.specs.Private.Table.{rows_of, IsTable};
+ghost use Rattle.properties_tables.specs.Private.Table.{rows_of, IsTable};
 ghost use Rattle.properties_tools.specs.Propedit.Merge.{merged, set_of, ReadsMerge, ReadsPairs, SetsAll, SetsRows, SetsTexts};
 
 use crate::propedit::answers::name;
-use crate::propedit::error::{Failure, TextFlaw};
 use crate::propedit::exit_status;
-use crate::propedit::request::{Change, Command, Destination, FileChange, Form, Job, Merge};
-use crate::propedit::table::{Table, table_of};
+use crate::propedit::request::{Command, Destination, Form, Job, Merge};
 use counted_io::{CountedRead, CountedWrite};
 use java_properties::{Edit, Encoding, read_source};
+use properties_changing::request::{Change, FileChange};
+use properties_tables::error::{Failure, TextFlaw};
+use properties_tables::table::{Table, table_of};
 use std::alloc::{AllocError, Global};
 use std::str;
 

@@ -4,15 +4,15 @@ ghost use Rattle.std.specs.Prelude.{◌≡◌, IfOk, map};
 ghost use Rattle.std.specs.Str.{chars};
 ghost use Rattle.properties_text.specs.Encoding.{encoding_of};
 ghost use Rattle.properties_tools.specs.Propedit.Listing.{ended_pair, listed_pairs, separator_byte, ListsValues, PrintsAll};
-ghost use Rattle.properties_tools.specs.Private.Table.{row_pair, rows_of, IsTable};
+ghost use Rattle.properties_tables.specs.Private.Table.{row_pair, rows_of, IsTable};
 
 use crate::propedit::answer::{Answer, push_ended, push_followed};
-use crate::propedit::error::Failure;
 use crate::propedit::list::is_listed;
 use crate::propedit::request::Terminator;
-use crate::propedit::table::{Table, table_of};
-use crate::propedit::texts::text_at;
 use java_properties::Encoding;
+use properties_tables::error::Failure;
+use properties_tables::table::{Table, table_of};
+use properties_tables::texts::text_at;
 use std::alloc::{AllocError, Global};
 
 /// Returns the keys that begin with a prefix, each once and with its last value, in the order of their first pairs. If

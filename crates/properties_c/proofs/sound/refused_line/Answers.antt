@@ -1,6 +1,6 @@
 use Rattle.std.proofs.Common.{◌≡◌, true, rules}
 use Rattle.properties_text.specs.Encoding.{encoding_of}
-use Rattle.properties_c.proofs.Unsound.{unsound-told}
+use Rattle.properties_c.proofs.IllFormedLines.{unsound-told}
 use Rattle.properties_c.proofs.sound.refused_line.Goals as goal
 
 pub returns-in-Err : goal.returns-in-Err

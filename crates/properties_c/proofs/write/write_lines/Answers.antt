@@ -1,7 +1,7 @@
 use Rattle.std.proofs.Common.{arith}
 use Rattle.std.proofs.lemmas.Bool.Decides.{nat_tests}
 use Rattle.properties_c.proofs.OneReading.{line-one, list-read}
-use Rattle.properties_c.proofs.TakenApart.{IsFirst-shorter}
+use Rattle.properties_c.proofs.ListFronts.{IsFirst-shorter}
 use Rattle.properties_c.proofs.WrittenLines.{added-refused, added-accepted}
 use Rattle.properties_c.proofs.write.write_lines.Goals as goal
 

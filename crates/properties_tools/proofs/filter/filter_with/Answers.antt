@@ -1,6 +1,6 @@
 use Rattle.std.proofs.Common.{rules}
 use Rattle.counted_io.specs.Streams.{reader, sink}
-use Rattle.properties_tools.proofs.Borrowed.{filters-borrowed, filters-same}
+use Rattle.properties_tools.proofs.LentStreams.{filters-borrowed, filters-same}
 use Rattle.properties_tools.proofs.filter.filter_with.Goals as goal
 use Rattle.properties_tools.specs.Filter.{form}
 

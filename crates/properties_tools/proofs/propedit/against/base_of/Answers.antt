@@ -1,8 +1,8 @@
 use Rattle.std.proofs.Common.{refl}
 use Rattle.std.specs.Prelude.{string_bytes}
 use Rattle.properties_text.specs.Encoding.{encoding_of}
-use Rattle.properties_tools.specs.declared.propedit.check.Reported.{Reported}
-use Rattle.properties_tools.proofs.Lacking.{base-kept}
+use Rattle.properties_checking.specs.declared.check.Reported.{Reported}
+use Rattle.properties_tools.proofs.MissingKeys.{base-kept}
 use Rattle.properties_tools.proofs.propedit.against.base_of.Goals as goal
 
 pub invariant_of-base : goal.invariant_of-base

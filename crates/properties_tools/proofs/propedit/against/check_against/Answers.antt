@@ -1,7 +1,7 @@
 use Rattle.properties_text.specs.Encoding.{encoding_of}
 use Rattle.properties_tools.specs.Private.Lacking.{known_base}
-use Rattle.properties_tools.specs.declared.propedit.check.Reported.{Reported}
-use Rattle.properties_tools.proofs.Lacking.{said-against}
+use Rattle.properties_checking.specs.declared.check.Reported.{Reported}
+use Rattle.properties_tools.proofs.MissingKeys.{said-against}
 use Rattle.properties_tools.proofs.propedit.against.check_against.Goals as goal
 
 pub returns : goal.returns

@@ -2,8 +2,8 @@ use Rattle.std.proofs.Common.{◌≡◌, ◌∙◌, refl, sym}
 use Rattle.std.specs.Prelude.{not}
 use Rattle.std.specs.Str.{chars}
 use Rattle.properties_tools.specs.Private.Lacking.{is_among}
-use Rattle.properties_tools.specs.Private.Table.{place_keys, places_of}
-use Rattle.properties_tools.proofs.Lacking.{found-told}
+use Rattle.properties_tables.specs.Private.Table.{place_keys, places_of}
+use Rattle.properties_tools.proofs.MissingKeys.{found-told}
 use Rattle.properties_tools.proofs.propedit.against.is_lacking.Goals as goal
 
 pub returns-then-are_well_formed : goal.returns-then-are_well_formed

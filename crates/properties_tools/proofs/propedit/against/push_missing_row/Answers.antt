@@ -4,12 +4,12 @@ use Rattle.std.proofs.lemmas.Str.{encodes-chars}
 use Rattle.json.specs.Json.{member, no_members, number, object, string}
 use Rattle.java_properties.specs.Findings.{KeyPlace}
 use Rattle.properties_tools.specs.Propedit.Against.{missing_line, missing_value, missing_words}
-use Rattle.properties_tools.specs.Propedit.Kinds.{kind_name}
-use Rattle.properties_tools.specs.declared.propedit.kinds.Kind.TheVariants.{MissingKey}
-use Rattle.properties_tools.specs.Private.Json.{AddsJsonLine}
-use Rattle.properties_tools.specs.Private.Table.{places_of}
+use Rattle.properties_checking.specs.Kinds.{kind_name}
+use Rattle.properties_checking.specs.declared.kinds.Kind.TheVariants.{MissingKey}
+use Rattle.properties_checking.specs.Private.Objects.{AddsJsonLine}
+use Rattle.properties_tables.specs.Private.Table.{places_of}
 use Rattle.properties_tools.specs.declared.propedit.against.Sides.{Sides}
-use Rattle.properties_tools.proofs.Json.{adds-object}
+use Rattle.properties_checking.proofs.Json.{adds-object}
 use Rattle.properties_tools.proofs.propedit.against.push_missing_row.Goals as goal
 
 members : (name base : List ℕ) (p : KeyPlace) {kind k m : List ℕ} {n : ℕ} → kind ≡ kind_name MissingKey → k ≡ encode_utf8_all p.key → n ≡ p.number → m ≡ missing_words base p

@@ -2,14 +2,14 @@ use Rattle.std.proofs.Common.{◌≡◌, ◌<◌, ◌≤◌, ◌∙◌, ap, arit
 use Rattle.std.specs.Prelude.{get_or}
 use Rattle.std.proofs.lemmas.List.{get_or_default, take_all}
 use Rattle.properties_tools.specs.Private.Lacking.{is_lacking, lacking, AddsSurplus}
-use Rattle.properties_tools.specs.Private.Table.{place_keys, places_of}
+use Rattle.properties_tables.specs.Private.Table.{place_keys, places_of}
 use Rattle.properties_tools.specs.Propedit.Against.{surplus_line, surplus_value}
 use Rattle.properties_tools.specs.declared.propedit.against.Sides.{Sides}
-use Rattle.properties_tools.specs.declared.propedit.kinds.Kind.TheVariants.{SurplusKey}
-use Rattle.properties_tools.proofs.Json.{adds-both, adds-none}
-use Rattle.properties_tools.proofs.KeyTables.{none}
-use Rattle.properties_tools.proofs.LeftOut.{all-reported, none-reported}
-use Rattle.properties_tools.proofs.Printed.{kept, left_out}
+use Rattle.properties_checking.specs.declared.kinds.Kind.TheVariants.{SurplusKey}
+use Rattle.properties_checking.proofs.Json.{adds-both, adds-none}
+use Rattle.properties_tables.proofs.KeyTables.{none}
+use Rattle.properties_checking.proofs.LeftOut.{all-reported, none-reported}
+use Rattle.properties_tools.proofs.PrintedLists.{kept, left_out}
 use Rattle.properties_tools.proofs.propedit.against.push_surplus.Goals as goal
 use Rattle.properties_tools.proofs.propedit.against.push_surplus.Goals.{then-is_lacking+in_ok-push_surplus_row, else-is_lacking}
 

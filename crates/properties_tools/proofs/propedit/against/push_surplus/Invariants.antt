@@ -1,6 +1,6 @@
 use Rattle.std.proofs.Common.{take}
 use Rattle.properties_tools.specs.Private.Lacking.{lacking, AddsSurplus}
-use Rattle.properties_tools.specs.Private.Table.{place_keys, places_of}
+use Rattle.properties_tables.specs.Private.Table.{place_keys, places_of}
 use Rattle.properties_tools.proofs.propedit.against.push_surplus.Given as goal
 
 abbrev pub invariant-loop-row : goal.invariant-loop-row

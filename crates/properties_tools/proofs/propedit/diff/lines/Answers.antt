@@ -1,5 +1,5 @@
-use Rattle.properties_tools.specs.Private.Table.{rows_of}
-use Rattle.properties_tools.proofs.Differing.{text-both}
+use Rattle.properties_tables.specs.Private.Table.{rows_of}
+use Rattle.properties_tools.proofs.TableDifferences.{text-both}
 use Rattle.properties_tools.proofs.propedit.diff.lines.Goals as goal
 
 pub returns : goal.returns

@@ -2,8 +2,8 @@ use Rattle.std.proofs.Common.{ap, append-nil, sym, ◌∙◌, ◌++◌}
 use Rattle.std.specs.Str.{chars}
 use Rattle.std.proofs.lemmas.Result.{on_ok_weaker}
 use Rattle.properties_tools.specs.Private.Differing.{no_row, row_at}
-use Rattle.properties_tools.specs.Private.Table.{rows_of}
-use Rattle.properties_tools.proofs.Differing.{found-within, text-changed, text-gone, text-kept, values-told}
+use Rattle.properties_tables.specs.Private.Table.{rows_of}
+use Rattle.properties_tools.proofs.TableDifferences.{found-within, text-changed, text-gone, text-kept, values-told}
 use Rattle.properties_tools.proofs.propedit.diff.push_became.Goals as goal
 
 pub find-requires : goal.find-requires

@@ -2,8 +2,8 @@ use Rattle.std.proofs.Common.{ap, append-nil, sym, ◌∙◌, ◌++◌}
 use Rattle.std.specs.Str.{chars}
 use Rattle.std.proofs.lemmas.Result.{on_ok_weaker}
 use Rattle.properties_tools.specs.Private.Differing.{no_row, row_at}
-use Rattle.properties_tools.specs.Private.Table.{rows_of}
-use Rattle.properties_tools.proofs.Differing.{text-came, text-there}
+use Rattle.properties_tables.specs.Private.Table.{rows_of}
+use Rattle.properties_tools.proofs.TableDifferences.{text-came, text-there}
 use Rattle.properties_tools.proofs.propedit.diff.push_came.Goals as goal
 
 pub returns-in-Some : goal.returns-in-Some

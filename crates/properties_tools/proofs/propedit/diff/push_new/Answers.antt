@@ -1,7 +1,7 @@
 use Rattle.std.proofs.Common.{◌<◌, arith, length}
 use Rattle.properties_tools.specs.Private.Differing.{no_row, of_new}
-use Rattle.properties_tools.specs.Private.Table.{rows_of}
-use Rattle.properties_tools.proofs.Differing.{text-more}
+use Rattle.properties_tables.specs.Private.Table.{rows_of}
+use Rattle.properties_tools.proofs.TableDifferences.{text-more}
 use Rattle.properties_tools.proofs.propedit.diff.push_new.Goals as goal
 
 pub push_came-requires-clause-new : goal.push_came-requires-clause-new

@@ -1,7 +1,7 @@
 use Rattle.std.proofs.Common.{◌≡◌, ◌++◌, take}
 use Rattle.std.specs.List.{flat_map}
 use Rattle.properties_tools.specs.Private.Differing.{of_new}
-use Rattle.properties_tools.specs.Private.Table.{rows_of}
+use Rattle.properties_tables.specs.Private.Table.{rows_of}
 use Rattle.properties_tools.proofs.propedit.diff.push_new.Given as goal
 
 abbrev pub invariant-loop-row : goal.invariant-loop-row

@@ -4,7 +4,7 @@ use Rattle.std.specs.Str.{chars}
 use Rattle.properties_format.specs.Text.{is_blanks}
 use Rattle.properties_text.specs.Printing.{key_bytes, value_bytes}
 use Rattle.properties_tools.specs.Propedit.Differences.{has_late_control}
-use Rattle.properties_tools.proofs.Differing.{pair-printed}
+use Rattle.properties_tools.proofs.TableDifferences.{pair-printed}
 use Rattle.properties_tools.proofs.propedit.diff.push_pair.Goals as goal
 
 pub returns : goal.returns

@@ -1,5 +1,5 @@
 use Rattle.properties_text.specs.Encoding.{encoding_of}
-use Rattle.properties_tools.proofs.Differing.{told-so}
+use Rattle.properties_tools.proofs.TableDifferences.{told-so}
 use Rattle.properties_tools.specs.Propedit.Diff.{AreObjects}
 use Rattle.properties_tools.specs.Private.Json.{difference_line}
 use Rattle.properties_tools.proofs.Objects.{are-objects, some-object}

@@ -5,8 +5,8 @@ use Rattle.std.specs.Option.{option_map}
 use Rattle.std.proofs.lemmas.List.{flat_map_more, map_more, map-append}
 use Rattle.java_properties.specs.Maps.{characters}
 use Rattle.properties_tools.specs.Propedit.Get.{ended_if, found_status, value_or}
-use Rattle.properties_tools.specs.Propedit.Texts.{borrowed_characters}
-use Rattle.properties_tools.specs.Private.Collected.{value_texts}
+use Rattle.properties_changing.specs.Change.{borrowed_characters}
+use Rattle.properties_tables.specs.Values.{value_texts}
 use Rattle.properties_tools.specs.declared.propedit.request.Terminator.{Terminator}
 use Rattle.properties_tools.proofs.propedit.get.answer_of.Goals.{in-Some+in_ok-push_ended-in-Some, in-None}
 use Rattle.properties_tools.proofs.propedit.get.answer_of.Goals as goal

@@ -2,9 +2,9 @@ use Rattle.std.proofs.Common.{◌≡◌, take}
 use Rattle.std.specs.Prelude.{map}
 use Rattle.std.specs.List.{flat_map}
 use Rattle.std.specs.Option.{option_map}
-use Rattle.properties_tools.specs.Private.Collected.{value_texts}
+use Rattle.properties_tables.specs.Values.{value_texts}
 use Rattle.properties_tools.specs.Propedit.Get.{ended_if, found_status, value_or}
-use Rattle.properties_tools.specs.Propedit.Texts.{borrowed_characters}
+use Rattle.properties_changing.specs.Change.{borrowed_characters}
 use Rattle.properties_tools.proofs.propedit.get.answer_of.Given as goal
 
 abbrev pub invariant-loop-value : goal.invariant-loop-value

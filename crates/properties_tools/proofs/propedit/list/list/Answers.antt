@@ -1,5 +1,5 @@
 use Rattle.properties_text.specs.Encoding.{encoding_of}
-use Rattle.properties_tools.specs.Private.Table.{place_keys, places_in}
+use Rattle.properties_tables.specs.Private.Table.{place_keys, places_in}
 use Rattle.properties_tools.specs.Propedit.Listing.{AreKeysOf}
 use Rattle.properties_tools.proofs.ListedKeys.{keys-only}
 use Rattle.properties_tools.proofs.propedit.list.list.Goals as goal

@@ -1,4 +1,4 @@
-use Rattle.properties_tools.proofs.Rows.{last-pairs}
+use Rattle.properties_tools.proofs.ListedKeys.{last-pairs}
 use Rattle.properties_tools.proofs.propedit.list_json.list_json.Goals as goal
 
 pub listed-requires : goal.listed-requires

@@ -5,10 +5,10 @@ use Rattle.std.proofs.lemmas.List.{get_or-map, length-map, take_all}
 use Rattle.std.proofs.lemmas.Str.{encodes-chars}
 use Rattle.properties_format.specs.Writing.{Pair}
 use Rattle.properties_tools.specs.Propedit.Listing.{is_key_listed, is_pair_listed}
-use Rattle.properties_tools.specs.Propedit.Table.{Row}
-use Rattle.properties_tools.specs.Private.Table.{row_pair, rows_of}
-use Rattle.properties_tools.proofs.Json.{began, object-line, one-more}
-use Rattle.properties_tools.proofs.Printed.{kept, left_out}
+use Rattle.properties_tables.specs.Table.{Row}
+use Rattle.properties_tables.specs.Private.Table.{row_pair, rows_of}
+use Rattle.properties_tools.proofs.PairObjects.{began, object-line, one-more}
+use Rattle.properties_tools.proofs.PrintedLists.{kept, left_out}
 use Rattle.properties_tools.proofs.propedit.list_json.listed.Goals as goal
 use Rattle.properties_tools.proofs.propedit.list_json.listed.Goals.{then-is_listed+in_ok-key+in_ok-string, else-is_listed}
 

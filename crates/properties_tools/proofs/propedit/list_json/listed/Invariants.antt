@@ -1,8 +1,8 @@
 use Rattle.std.proofs.Common.{map, take}
 use Rattle.std.specs.Str.{chars}
 use Rattle.properties_tools.specs.Propedit.Listing.{listed_pairs}
-use Rattle.properties_tools.specs.Private.Table.{row_pair, rows_of}
-use Rattle.properties_tools.proofs.Json.{WroteMembers}
+use Rattle.properties_tables.specs.Private.Table.{row_pair, rows_of}
+use Rattle.properties_tools.proofs.PairObjects.{WroteMembers}
 use Rattle.properties_tools.proofs.propedit.list_json.listed.Given as goal
 
 abbrev pub invariant-loop-row : goal.invariant-loop-row

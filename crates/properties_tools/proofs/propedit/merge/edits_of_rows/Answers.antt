@@ -2,9 +2,9 @@ use Rattle.std.proofs.Common.{◌<◌, [], ◌∷◌, ◌++◌, get_or, length, 
 use Rattle.std.specs.Str.{chars}
 use Rattle.std.proofs.lemmas.List.{map_more}
 use Rattle.properties_format.specs.Edits.{set_value}
-use Rattle.properties_tools.specs.Private.Table.{rows_of}
+use Rattle.properties_tables.specs.Private.Table.{rows_of}
 use Rattle.properties_tools.specs.Propedit.Merge.{set_of}
-use Rattle.properties_tools.specs.Propedit.Table.{Row}
+use Rattle.properties_tables.specs.Table.{Row}
 use Rattle.properties_tools.proofs.propedit.merge.edits_of_rows.Goals as goal
 
 pub loop-row-preserved : goal.loop-row-preserved

@@ -1,6 +1,6 @@
 use Rattle.std.proofs.Common.{◌≡◌, map, take}
 use Rattle.java_properties.specs.Editing.{edits_in}
-use Rattle.properties_tools.specs.Private.Table.{rows_of}
+use Rattle.properties_tables.specs.Private.Table.{rows_of}
 use Rattle.properties_tools.specs.Propedit.Merge.{set_of}
 use Rattle.properties_tools.proofs.propedit.merge.edits_of_rows.Given as goal
 

@@ -1,0 +1,5 @@
+pub mod Counting
+pub mod KnownEdits
+pub mod LookedUp
+pub mod Statuses
+pub mod Steps

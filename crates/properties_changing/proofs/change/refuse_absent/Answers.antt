@@ -1,0 +1,21 @@
+use Rattle.std.proofs.Common.{ap, sym, refl, inl, subst}
+use Rattle.std.specs.Prelude.{map, Ok}
+use Rattle.std.specs.Str.{chars}
+use Rattle.properties_text.specs.Encoding.{encoding_of}
+use Rattle.java_properties.specs.Maps.{characters}
+use Rattle.properties_changing.specs.Keys.{IsFirstAbsent}
+use Rattle.properties_changing.specs.Private.Collected.{FindsAbsent}
+use Rattle.properties_changing.proofs.change.refuse_absent.Goals as goal
+
+pub returns-in_ok-from_str-in-Some : goal.returns-in_ok-from_str-in-Some
+returns-in_ok-from_str-in-Some c =
+    let e = encoding_of c.args.encoding in
+    let source = c.args.source.now in
+    let keys = map characters c.args.keys.now in
+    let one = subst (λ f. FindsAbsent e source keys (Ok f)) c.in-Some.is c.in_ok-key.ensures in
+    let name = ap chars (sym c.in_ok-from_str-in-Some.ensures.ok) in
+    inl (record {
+      key = c.in_ok-from_str-in-Some.field-0;
+      first = subst (λ k. IsFirstAbsent e source keys k) name one;
+      is = refl;
+    })

@@ -1,0 +1,4 @@
+pub mod Checking
+pub mod LineFindings
+pub mod Objects
+pub mod OpenLines

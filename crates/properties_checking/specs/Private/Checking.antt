@@ -1,0 +1,116 @@
+-- The findings of a check, as the code holds them.
+use Rattle.std.specs.Prelude.{◌≡◌, ℕ, ◌==◌, ◌&&◌, not, Bool, if◌then◌else◌, get_or, length, List, [], ◌∷◌, Result, Ok, Err, string_bytes}
+use Rattle.std.specs.Global.{Vec}
+use Rattle.std.specs.List.Sorted.{IsNonDecreasingBy, IsStableByKey}
+use Rattle.std.specs.Ordering.{nat_cmp}
+use Rattle.properties_format.specs.Encoding.{Encoding}
+use Rattle.java_properties.specs.Findings.{KeyPlace}
+use Rattle.properties_items.specs.Errors.{IsBareError}
+use Rattle.properties_items.specs.declared.error.ErrorKind.TheVariants as kind
+use Rattle.properties_items.specs.declared.error.PropertiesError.{PropertiesError}
+use Rattle.properties_items.specs.declared.findings.MalformedEscape.{MalformedEscape}
+use Rattle.properties_tables.specs.Private.Table.{places_of, HasPlaces, IsKeyTable}
+use Rattle.properties_checking.specs.Check.{has_replacement, holds_zero, is_ill_formed, is_malformed, is_misread, is_non_ascii, is_read_otherwise, looks_like_utf_8, repeats_key, IsReport, Said, What, AreOtherBytes, AreOtherwise, AreRefused, AreWithBytes}
+use Rattle.properties_tables.specs.Lines.{AreFlawedLines}
+use Rattle.properties_checking.specs.Misread.{AreMisread}
+use Rattle.properties_checking.specs.declared.check.Reported.{Reported}
+use Rattle.properties_checking.specs.declared.check.FindingKind.{FindingKind}
+use Rattle.properties_checking.specs.declared.check.FindingKind.TheVariants.{HoldsZero, IllFormedLine, LooksUtf8, NonAscii, ReadOtherwise, Misread, Escape, Repeats}
+use Rattle.properties_checking.specs.declared.check.Finding.{Finding}
+use Rattle.properties_checking.specs.declared.check.Words.{Words}
+use Rattle.properties_checking.specs.declared.misread.Misread.{Misread as MisreadKind}
+use Rattle.properties_tables.specs.declared.ill_formed.Flaw.TheVariants as flaw
+use Rattle.properties_checking.specs.declared.request.Check.{Check}
+use Rattle.java_properties.specs.Errors.{IsBareError}
+use Rattle.properties_checking.specs.declared.request.Allowed.{Allowed}
+
+-- ---- findings
+
+abbrev pub finding_of : FindingKind → ℕ → Finding
+finding_of kind number = record { line_number = number; kind = kind }
+
+abbrev pub ill_formed_finding : Words → ℕ → Finding
+ill_formed_finding words number = record { line_number = number; kind = IllFormedLine words }
+
+abbrev pub escape_finding : MalformedEscape → Finding
+escape_finding escape = record { line_number = escape.line_number; kind = Escape escape }
+
+abbrev pub otherwise_finding : ℕ → ℕ → Finding
+otherwise_finding byte number = record { line_number = number; kind = ReadOtherwise byte }
+
+abbrev pub misread_finding : MisreadKind → ℕ → Finding
+misread_finding misread number = record { line_number = number; kind = Misread misread }
+
+-- of a pair in this line whose key has this row, and its first pair in this line
+abbrev pub row_findings : Bool → ℕ → List ℕ → ℕ → ℕ → List Finding
+row_findings is_well_formed number key row first =
+    if first == number then [] else
+    if not is_well_formed && has_replacement key then [] else
+    record { line_number = number; kind = Repeats row } ∷ []
+
+-- ---- what they say
+
+-- what is said of a row that isn't there
+abbrev pub no_place : KeyPlace
+no_place = record { number = 0; key = [] }
+
+abbrev pub place_at : List KeyPlace → ℕ → KeyPlace
+place_at places row = get_or places row no_place
+
+-- where these are the keys
+abbrev pub what_of : List KeyPlace → FindingKind → What
+what_of places HoldsZero = holds_zero
+what_of places (IllFormedLine words) = is_ill_formed words
+what_of places LooksUtf8 = looks_like_utf_8
+what_of places NonAscii = is_non_ascii
+what_of places (ReadOtherwise byte) = is_read_otherwise byte
+what_of places (Misread m) = is_misread m
+what_of places (Escape escape) = is_malformed escape.kind escape.in_comment
+what_of places (Repeats row) = repeats_key (place_at places row).key (place_at places row).number
+
+abbrev pub said_of : List KeyPlace → Finding → Said
+said_of places f = record { line = f.line_number; what = what_of places f.kind }
+
+-- Findings are arranged as what they say is to be.
+pub record ArrangesFindings (findings arranged : List Finding) : Type 0 where
+  pub in_order : IsNonDecreasingBy (λ f. f.line_number) arranged
+  pub stable : IsStableByKey (λ f. f.line_number) nat_cmp findings arranged
+
+-- What finding what Java reads otherwise than people think returns. It fails only if memory runs out.
+abbrev pub FindsMisread : Encoding → List ℕ → Result (Vec Finding) PropertiesError → Type 0
+FindsMisread e source (Ok findings) = AreMisread misread_finding e source findings.items
+FindsMisread e source (Err error) = IsBareError kind.Memory error
+
+-- ---- a report, with the keys of the source
+
+pub record IsChecked (name : List ℕ) (e : Encoding) (check : Check) (source : List ℕ) (c : Reported) : Type 0 where
+  pub report : IsReport name e check source (string_bytes c.text)
+  pub table : IsKeyTable c.keys
+  pub places : HasPlaces e source (places_of c.keys)
+  pub ill_formed : List ℕ
+  pub are_ill_formed : AreFlawedLines flaw.IllFormed e source ill_formed
+  pub well_formed : c.is_well_formed ≡ (length ill_formed == 0)
+
+-- What checking returns. It fails only if memory runs out.
+abbrev pub ChecksKeys : Encoding → Check → List ℕ → List ℕ → Result Reported PropertiesError → Type 0
+ChecksKeys e check name source (Ok c) = IsChecked name e check source c
+ChecksKeys e check name source (Err error) = IsBareError kind.Memory error
+
+-- What finding the lines with a character that isn't allowed returns. It fails only if memory runs out.
+abbrev pub FindsRefused : Allowed → Encoding → List ℕ → Result (Vec ℕ) PropertiesError → Type 0
+FindsRefused allowed e source (Ok numbers) = AreRefused allowed e source numbers.items
+FindsRefused allowed e source (Err error) = IsBareError kind.Memory error
+
+-- What finding the lines with these bytes returns, and with those that aren't allowed, likewise.
+abbrev pub FindsBytes : List ℕ → Encoding → List ℕ → Result (Vec Finding) PropertiesError → Type 0
+FindsBytes bytes e source (Ok findings) = AreWithBytes otherwise_finding e source bytes findings.items
+FindsBytes bytes e source (Err error) = IsBareError kind.Memory error
+
+abbrev pub FindsOtherBytes : Allowed → Encoding → List ℕ → Result (Vec Finding) PropertiesError → Type 0
+FindsOtherBytes allowed e source (Ok findings) = AreOtherBytes otherwise_finding allowed e source findings.items
+FindsOtherBytes allowed e source (Err error) = IsBareError kind.Memory error
+
+-- What finding all that Java reads otherwise returns, likewise.
+abbrev pub FindsOtherwise : Allowed → Encoding → List ℕ → Result (Vec Finding) PropertiesError → Type 0
+FindsOtherwise allowed e source (Ok findings) = AreOtherwise misread_finding otherwise_finding allowed e source findings.items
+FindsOtherwise allowed e source (Err error) = IsBareError kind.Memory error

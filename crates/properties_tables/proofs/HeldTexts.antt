@@ -1,0 +1,32 @@
+-- Texts that are held one after another.
+use Rattle.std.proofs.Common.{◌≡◌, ℕ, ◌+◌, ◌≤◌, List, [], ◌∷◌, ◌++◌, length, take, drop, refl, ap, sym, ◌∙◌, subst, arith, append-nil}
+use Rattle.std.specs.Str.{IsUtf8}
+use Rattle.std.proofs.Math.Seq.{drop-append_seam}
+use Rattle.std.proofs.lemmas.List.{drop-append-le, length-append, length-drop, take-append-le, take_all}
+use Rattle.properties_tables.specs.Private.Table.{bytes_at, HoldsText}
+use Rattle.properties_tables.specs.declared.texts.Place.{Place}
+
+-- The text at a place stays,
+pub kept-at : (text more : List ℕ) (p : Place) → HoldsText text p → bytes_at (text ++ more) p ≡ bytes_at text p
+kept-at text more p h =
+    let w = h.within in
+    let rest = length-drop p.start text in
+    ap (take p.length) (drop-append-le p.start text more (omega arith)) ∙ take-append-le p.length (drop p.start text) more (omega arith)
+
+pub holds-kept : (text more : List ℕ) (p : Place) → HoldsText text p → HoldsText (text ++ more) p
+holds-kept text more p h = record {
+  within = let w = h.within in let l = length-append text more in omega arith;
+  is = subst IsUtf8 (sym (kept-at text more p h)) h.is;
+}
+
+-- and what is appended is at its end.
+pub at-end : (text more : List ℕ) (p : Place) → p.start ≡ length text → p.length ≡ length more → bytes_at (text ++ more) p ≡ more
+at-end text more p start size =
+    ap (λ v. take p.length (drop v (text ++ more))) start ∙ ap (take p.length) (drop-append_seam text more)
+    ∙ take_all p.length more (omega arith)
+
+pub holds-end : (text more : List ℕ) (p : Place) → p.start ≡ length text → p.length ≡ length more → IsUtf8 more → HoldsText (text ++ more) p
+holds-end text more p start size is = record {
+  within = let l = length-append text more in omega arith;
+  is = subst IsUtf8 (sym (at-end text more p start size)) is;
+}

@@ -1,0 +1,14 @@
+pub mod SourceFindings
+pub mod FailureMessages
+pub mod FirstKeys
+pub mod FlawedLines
+pub mod FindingFolds
+pub mod HeldTexts
+pub mod KeyTables
+pub mod Marks
+pub mod NonAscii
+pub mod PairedUnits
+pub mod Rows
+pub mod SoughtKeys
+pub mod Tables
+pub mod RefusedSources

@@ -1,0 +1,25 @@
+use Rattle.std.proofs.Common.{refl}
+use Rattle.std.proofs.lemmas.List.{take_rest}
+use Rattle.properties_format.specs.Encoding.{utf_8, windows_1252}
+use Rattle.properties_text.specs.Encoding.{encoding_of}
+use Rattle.properties_tables.specs.declared.ill_formed.Flaw.TheVariants.{IllFormed}
+use Rattle.properties_tables.proofs.FlawedLines.{lines-body, lines-flawless, none-ill_formed, none-ill_formed_utf_8}
+use Rattle.properties_tables.proofs.ill_formed.body_to_decode.Goals as goal
+
+pub returns-in-WINDOWS_1252 : goal.returns-in-WINDOWS_1252
+returns-in-WINDOWS_1252 c =
+    let in_force = rw c.in-WINDOWS_1252.is at c.encoding_in_force-in_force.ensures.in_force in
+    rw c.in-WINDOWS_1252.is (lines-flawless IllFormed (encoding_of c.args.encoding) c.args.source.now _ windows_1252 in_force refl (none-ill_formed _))
+
+pub returns-in_default : goal.returns-in_default
+returns-in_default c =
+    rw (take_rest c.args.source.now c.encoding_in_force-in_force.result.1)
+    (lines-body IllFormed (encoding_of c.args.encoding) c.args.source.now _ _ c.encoding_in_force-in_force.ensures.in_force refl)
+
+pub returns-in-UTF_8 : goal.returns-in-UTF_8
+returns-in-UTF_8 c =
+    let in_force = rw c.in-UTF_8.is at c.encoding_in_force-in_force.ensures.in_force in
+    let longest = rw (take_rest c.args.source.now c.encoding_in_force-in_force.result.1) at c.well_formed_length.ensures in
+    let all = rw (take_rest c.args.source.now c.encoding_in_force-in_force.result.1) at c.if-well_formed_length-body.true in
+    rw c.in-UTF_8.is (lines-flawless IllFormed (encoding_of c.args.encoding) c.args.source.now _ utf_8 in_force refl
+    (none-ill_formed_utf_8 _ c.well_formed_length.result longest all))

@@ -1,0 +1,16 @@
+use Rattle.properties_tables.proofs.ill_formed.body_to_search.Goals as goal
+
+pub returns-in-IllFormed : goal.returns-in-IllFormed
+returns-in-IllFormed c = rw c.in-IllFormed.is c.body_to_decode.ensures
+
+pub returns-in-Zero : goal.returns-in-Zero
+returns-in-Zero c = rw c.in-Zero.is c.body_with_zeros.ensures
+
+pub returns-in-NonAscii : goal.returns-in-NonAscii
+returns-in-NonAscii c = rw c.in-NonAscii.is c.whole_body.ensures
+
+pub returns-in-Byte : goal.returns-in-Byte
+returns-in-Byte c = rw c.in-Byte.is c.body_in_windows_1252.ensures
+
+pub returns-in-MarkInside : goal.returns-in-MarkInside
+returns-in-MarkInside c = rw c.in-MarkInside.is c.body_with_marks.ensures

@@ -1,0 +1,4 @@
+pub mod Flawed
+pub mod Fold
+pub mod Sought
+pub mod Table

@@ -1,8 +1,0 @@
-use Rattle.std.proofs.Common.{◌∷◌, take}
-use Rattle.properties_text.specs.Encoding.{encoding_of}
-use Rattle.properties_tools.specs.Propedit.Change.{Leave}
-use Rattle.properties_tools.proofs.propedit.change.changed_in_turn.Given as goal
-
-abbrev pub invariant-loop-step : goal.invariant-loop-step
-invariant-loop-step l =
-    Leave (encoding_of l.encoding) l.source (l.steps.first ∷ take l.step-index l.steps.others.items) l.bytes.items

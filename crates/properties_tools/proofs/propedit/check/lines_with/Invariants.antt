@@ -1,8 +1,0 @@
-use Rattle.std.proofs.Common.{take}
-use Rattle.properties_text.specs.Encoding.{encoding_of}
-use Rattle.properties_tools.specs.Private.Checking.{otherwise_finding}
-use Rattle.properties_tools.specs.Propedit.Check.{AreWithBytes}
-use Rattle.properties_tools.proofs.propedit.check.lines_with.Given as goal
-
-abbrev pub invariant-loop-byte : goal.invariant-loop-byte
-invariant-loop-byte l = AreWithBytes otherwise_finding (encoding_of l.fn.encoding) l.source (take l.byte-index l.bytes) l.findings.items

@@ -1,6 +1,0 @@
-use Rattle.std.proofs.Common.{◌≡◌, drop}
-use Rattle.properties_tools.specs.Propedit.Sources.{first_in_pair}
-use Rattle.properties_tools.proofs.propedit.sound.first_in_pair.Given as goal
-
-abbrev pub invariant-loop-escape : goal.invariant-loop-escape
-invariant-loop-escape l = first_in_pair l.escapes ≡ first_in_pair (drop l.escape-index l.escapes)

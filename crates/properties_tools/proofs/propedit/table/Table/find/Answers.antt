@@ -1,8 +1,0 @@
-use Rattle.std.proofs.Common.{subst, sym}
-use Rattle.std.specs.Str.{chars}
-use Rattle.properties_tools.specs.Private.Table.{FindsKey}
-use Rattle.properties_tools.proofs.Tables.{keys-rows}
-use Rattle.properties_tools.proofs.propedit.table.Table.find.Goals as goal
-
-pub returns : goal.returns
-returns c = subst (λ v. FindsKey (chars c.args.key.now) v c.find.result) (sym (keys-rows c.args.self.now c.requires)) c.find.ensures

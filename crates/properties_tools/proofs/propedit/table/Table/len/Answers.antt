@@ -1,6 +1,0 @@
-use Rattle.std.proofs.Common.{arith}
-use Rattle.properties_tools.proofs.Tables.{length-rows}
-use Rattle.properties_tools.proofs.propedit.table.Table.len.Goals as goal
-
-pub returns : goal.returns
-returns c = let r = length-rows c.args.self.now c.requires in omega arith

@@ -1,5 +1,0 @@
-use Rattle.properties_tools.proofs.Tables.{took-escape}
-use Rattle.properties_tools.proofs.propedit.table.TableTaker.malformed.Goals as goal
-
-pub returns : goal.returns
-returns c = took-escape c.args.self.now c.args._escape

@@ -1,9 +1,0 @@
-use Rattle.std.proofs.Common.{◌≡◌, take}
-use Rattle.std.specs.Prelude.{map}
-use Rattle.java_properties.specs.Maps.{characters}
-use Rattle.properties_tools.specs.Private.Collected.{value_texts}
-use Rattle.properties_tools.specs.Private.Sought.{found_value}
-use Rattle.properties_tools.proofs.propedit.values.Sought.values_of.Given as goal
-
-abbrev pub invariant-loop-key : goal.invariant-loop-key
-invariant-loop-key l = value_texts l.values.items ≡ map (found_value l.fn.self) (map characters (take l.key-index l.keys))

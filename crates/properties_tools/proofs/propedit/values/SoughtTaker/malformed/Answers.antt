@@ -1,6 +1,0 @@
-use Rattle.std.proofs.Common.{refl}
-use Rattle.properties_tools.proofs.Sought.{took-escape}
-use Rattle.properties_tools.proofs.propedit.values.SoughtTaker.malformed.Goals as goal
-
-pub returns : goal.returns
-returns c = took-escape c.args.self.now _ c.args.escape refl refl c.first_of-self.ensures
