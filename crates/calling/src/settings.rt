@@ -41,14 +41,14 @@ pub fn put_windows_1252<R: CountedRead, W: CountedWrite>(
 }
 
 /// Puts a value into the settings of one file, and writes them to another.
-pub fn put_in_file(
-    rt: &impl Files,
-    alloc: Global,
+pub fn put_in_file<R: Files + AllocGlobal>(
+    rt: &R,
     from: &str,
     key: &str,
     value: &str,
     to: &str,
 ) -> Result<(), PropertiesError> {
+    let alloc = rt.alloc();
     // The reader has a buffer of its own. A writer sends each line by itself, so a file wants a `BufWriter`.
     let mut input = Counted::new(File::open(rt, from)?);
     let mut output = Counted::new(BufWriter::new(alloc, File::create(rt, to)?)?);
@@ -78,7 +78,7 @@ mod tests {
 
     #[test]
     fn a_file_that_is_not_there_is_an_error(rt: HostRuntime) {
-        let answer = put_in_file(&rt, rt.alloc(), "no/such", "a", "b", "no/other");
+        let answer = put_in_file(&rt, "no/such", "a", "b", "no/other");
         same(&rt, answer.is_err(), true);
     }
 }

@@ -1,80 +1,20 @@
 // Runs of `propedit diff`, and what the library gives for two sources.
 
 use crate::same::{Bytes, same};
-use crate::streams::{AMPLE, FULL, Plan, reader, sink, words_of};
-use counted_io::{ScriptedSink, Tail};
+use crate::streams::{AMPLE, FULL};
+use crate::two_sources::{CUT_OFF, Row, SOUND, Streams, check_run, check_runs};
+use counted_io::Tail;
 use java_properties::Encoding;
-use propedit_arguments::{asked_for, explain};
-use properties_tools::propedit::diff::{DiffFailure, diff, run_diff};
-use properties_tools::propedit::request::Request;
+use properties_tools::propedit::diff::{DiffFailure, diff};
 use std::alloc::{AllocError, Global};
-use std::io::ErrorKind;
 use std::process::Abort;
 use std::test::Fail;
-
-// What comes after the bytes of the old source and of the new one, and how the output behaves.
-type Streams = (Tail, Tail, Plan);
-
-const SOUND: Streams = (Tail::End, Tail::End, AMPLE);
-
-// What stands for the status of words that ask for anything else.
-const NO_COMPARISON: u8 = 9;
-
-// Runs `propedit` as its `main` does, but over these bytes of the old source and of the new one. Returns the status,
-// and the sinks of the output and of the errors.
-fn compare(
-    alloc: Global,
-    (old_tail, new_tail, plan): Streams,
-    words: &str,
-    old: &[u8],
-    new: &[u8],
-) -> Result<(u8, ScriptedSink, ScriptedSink), AllocError> {
-    let words = words_of(alloc, words)?;
-    let mut old = reader(alloc, old, 5, old_tail)?;
-    let mut new = reader(alloc, new, 1024, new_tail)?;
-    let mut output = sink(alloc, plan);
-    let mut errors = sink(alloc, AMPLE);
-    let status = match asked_for(alloc, words.as_slice()) {
-        Ok(Request::Diff(sources)) => run_diff(
-            alloc,
-            &sources,
-            &mut old,
-            &mut new,
-            &mut output,
-            &mut errors,
-        ),
-        Ok(_other) => NO_COMPARISON,
-        Err(error) => explain(alloc, error, &mut output, &mut errors),
-    };
-    Ok((status, output, errors))
-}
-
-// The words, the old source and the new one, the status, the output, and what is printed on standard error.
-type Run<'a> = (&'a str, &'a [u8], &'a [u8], u8, &'a [u8], &'a str);
-
-// Compares a run with the row of this number.
-fn check_run<R: Abort + AllocGlobal>(
-    rt: &R,
-    number: usize,
-    streams: Streams,
-    row: Run<'_>,
-) -> Result<(), Fail> {
-    let (words, old, new, status, output, errors) = row;
-    let (found, printed, said) = compare(rt.alloc(), streams, words, old, new)?;
-    let found = (words, found, Bytes(printed.bytes()), Bytes(said.bytes()));
-    let wanted = (words, status, Bytes(output), Bytes(errors.as_bytes()));
-    same(rt, number, found, wanted);
-    Ok(())
-}
-
-// The words, both sources, the status, and the output of a run that prints nothing on standard error.
-type Row<'a> = (&'a str, &'a [u8], &'a [u8], u8, &'a [u8]);
 
 const OLD: &[u8] = b"# c\nport = 80\nhost=a\npath=b\nport = 81\n";
 
 const NEW: &[u8] = b"port: 8080\r\nname = x\\ty\r\nhost = \\u0061\r\n";
 
-const DIFF: &[Row<'static>] = &[
+const DIFF: &[Row] = &[
     // What went, what has another value, and what came. The last pair with a key counts, and so does its line.
     (
         "diff old new",
@@ -154,12 +94,7 @@ const DIFF: &[Row<'static>] = &[
 
 #[test]
 fn diff_prints_what_differs(rt: HostRuntime) -> Result<(), Fail> {
-    for (number, row) in (1usize..).zip(DIFF) {
-        let (words, old, new, status, output) = *row;
-        let row = (words, old, new, status, output, "");
-        check_run(&rt, number, SOUND, row)?;
-    }
-    Ok(())
+    check_runs(&rt, DIFF)
 }
 
 const NOT_UTF_8: &str =
@@ -196,8 +131,6 @@ fn each_source_that_is_not_sound_is_refused(rt: HostRuntime) -> Result<(), Fail>
     }
     Ok(())
 }
-
-const CUT_OFF: Tail = Tail::Fault(ErrorKind::NotFound);
 
 // The streams, both sources, what is written, and what is printed on standard error.
 const FAULTS: &[(Streams, &[u8], &[u8], &[u8], &str)] = &[

@@ -61,14 +61,10 @@ fn replace(rt: &HostRuntime, target: Target, path: &str, bytes: &[u8]) -> Result
     })
 }
 
-fn check_outcome(
-    abort: &impl Abort,
-    row: usize,
-    outcome: &Outcome,
-    read: &[u8],
-    said: &str,
-    (bytes, mode): State<'_>,
-) {
+// The text of the error, or nothing; the bytes that were read; and the state that the file is left in, alone.
+type Wanted<'a> = (&'a str, &'a [u8], State<'a>);
+
+fn check_outcome(abort: &impl Abort, row: usize, outcome: &Outcome, wanted: Wanted<'_>) {
     let found = (
         Bytes(outcome.read.as_slice()),
         outcome.said.as_str(),
@@ -76,6 +72,7 @@ fn check_outcome(
         outcome.mode,
         outcome.is_left,
     );
+    let (said, read, (bytes, mode)) = wanted;
     let wanted = (Bytes(read), said, Bytes(bytes), mode, false);
     same(abort, row, found, wanted);
 }
@@ -88,7 +85,8 @@ fn a_replaced_file_keeps_its_permissions(rt: HostRuntime) -> Result<(), Fail> {
         make(&rt, path, (bytes, mode))?;
         let target = Target::read(&rt, rt.alloc(), path, Missing::Refuse)?;
         let outcome = replace(&rt, target, path, b"port=8080\n")?;
-        check_outcome(&rt, number, &outcome, bytes, "", (b"port=8080\n", mode));
+        let wanted = ("", bytes, (b"port=8080\n".as_slice(), mode));
+        check_outcome(&rt, number, &outcome, wanted);
     }
     fs::remove_file(&rt, path)?;
     Ok(())
@@ -114,7 +112,7 @@ fn a_file_that_changed_meanwhile_stays(rt: HostRuntime) -> Result<(), Fail> {
     let path = "changed.properties";
     for (number, now) in (1usize..).zip(STATES) {
         let outcome = change(&rt, path, (b"a=1", 0o644), *now)?;
-        check_outcome(&rt, number, &outcome, b"a=1", CHANGED, *now);
+        check_outcome(&rt, number, &outcome, (CHANGED, b"a=1", *now));
     }
     fs::remove_file(&rt, path)?;
     Ok(())
@@ -152,11 +150,12 @@ fn a_large_file_is_compared_to_its_end(rt: HostRuntime) -> Result<(), Fail> {
         let bytes = large(&rt, now, last)?;
         let (read, bytes) = (read.as_slice(), bytes.as_slice());
         let outcome = change(&rt, path, (read, 0o644), (bytes, 0o644))?;
-        if before == now && last == b'#' {
-            check_outcome(&rt, number, &outcome, read, "", (b"a=2", 0o644));
+        let wanted = if before == now && last == b'#' {
+            ("", read, (b"a=2".as_slice(), 0o644))
         } else {
-            check_outcome(&rt, number, &outcome, read, CHANGED, (bytes, 0o644));
-        }
+            (CHANGED, read, (bytes, 0o644))
+        };
+        check_outcome(&rt, number, &outcome, wanted);
     }
     fs::remove_file(&rt, path)?;
     Ok(())
@@ -171,7 +170,7 @@ fn the_target_of_a_link_is_replaced(rt: HostRuntime) -> Result<(), Fail> {
     symlink(&rt, path, link)?;
     let target = Target::read(&rt, rt.alloc(), link, Missing::Refuse)?;
     let outcome = replace(&rt, target, path, b"a=2")?;
-    check_outcome(&rt, 1, &outcome, b"a=1", "", (b"a=2", 0o644));
+    check_outcome(&rt, 1, &outcome, ("", b"a=1", (b"a=2", 0o644)));
     let is_link = fs::symlink_metadata(&rt, link)?.is_symlink();
     let is_file = fs::symlink_metadata(&rt, path)?.is_file();
     same(&rt, 1, (is_link, is_file), (true, true));
@@ -188,7 +187,7 @@ fn a_file_that_another_program_made_meanwhile_stays(rt: HostRuntime) -> Result<(
     make(&rt, path, (b"a=3", 0o644))?;
     let outcome = replace(&rt, target, path, b"a=2")?;
     let said = "was made by another program meanwhile";
-    check_outcome(&rt, 1, &outcome, b"", said, (b"a=3", 0o644));
+    check_outcome(&rt, 1, &outcome, (said, b"", (b"a=3", 0o644)));
     fs::remove_file(&rt, path)?;
     Ok(())
 }

@@ -48,4 +48,6 @@ mod same;
 #[cfg(test)]
 mod streams;
 #[cfg(test)]
+mod two_sources;
+#[cfg(test)]
 mod words;

@@ -1,107 +1,21 @@
 // Runs of `propedit merge`, and the edits by which the library sets the pairs of a file.
 
 use crate::same::{Bytes, same};
-use crate::streams::{AMPLE, reader, sink, words_of};
-use counted_io::{CountedWrite, ScriptedSink, Tail};
+use crate::streams::AMPLE;
+use crate::two_sources::{CUT_OFF, IN_PLACE, MADE, Row, SOUND, check_run, check_runs};
+use counted_io::Tail;
 use java_properties::{Edit, Encoding};
-use propedit_arguments::{asked_for, explain};
-use properties_tools::propedit;
-use properties_tools::propedit::merge::{Merged, edits_of, read_merge};
-use properties_tools::propedit::request::{Form, Merge, Missing, Request};
+use properties_tools::propedit::merge::edits_of;
+use properties_tools::propedit::request::Form;
 use std::alloc::{AllocError, Global};
-use std::io::ErrorKind;
 use std::process::Abort;
 use std::test::Fail;
-
-// What stands for the status of words that ask for anything else, and for that of a file that is edited in place: one
-// that is there, and one that is made if it is missing.
-const NO_MERGE: u8 = 9;
-
-const IN_PLACE: u8 = 3;
-
-const MADE: u8 = 4;
-
-// The bytes of a file of pairs, and what comes after them.
-type Pairs<'a> = (&'a [u8], Tail);
-
-// Runs `propedit` as its `main` does, but over these bytes of the file of pairs and of the source that is printed.
-// Returns the status, and the sinks of the output and of the errors.
-fn run(
-    alloc: Global,
-    words: &str,
-    pairs: Pairs<'_>,
-    source: &[u8],
-) -> Result<(u8, ScriptedSink, ScriptedSink), AllocError> {
-    let words = words_of(alloc, words)?;
-    let mut output = sink(alloc, AMPLE);
-    let mut errors = sink(alloc, AMPLE);
-    let status = match asked_for(alloc, words.as_slice()) {
-        Ok(Request::Merge(asked)) => {
-            merge(alloc, asked, pairs, source, &mut output, &mut errors)?
-        }
-        Ok(_other) => NO_MERGE,
-        Err(error) => explain(alloc, error, &mut output, &mut errors),
-    };
-    Ok((status, output, errors))
-}
-
-fn merge<W: CountedWrite, E: CountedWrite>(
-    alloc: Global,
-    asked: Merge,
-    (file, tail): Pairs<'_>,
-    source: &[u8],
-    output: &mut W,
-    errors: &mut E,
-) -> Result<u8, AllocError> {
-    let mut pairs = reader(alloc, file, 5, tail)?;
-    match read_merge(alloc, asked, &mut pairs, errors) {
-        Ok(Merged::Printed(job)) => {
-            let mut input = reader(alloc, source, 5, Tail::End)?;
-            Ok(propedit::run(alloc, &job, &[], &mut input, output, errors))
-        }
-        Ok(Merged::InPlace(file)) => Ok(match file.missing {
-            Missing::Refuse => IN_PLACE,
-            Missing::Create => MADE,
-        }),
-        Err(status) => Ok(status),
-    }
-}
-
-// The words, the file of pairs, the source, the status, the output, and what is printed on standard error.
-type Run<'a> = (&'a str, &'a [u8], &'a [u8], u8, &'a [u8], &'a str);
-
-// Compares a run with the row of this number.
-fn check_run<R: Abort + AllocGlobal>(
-    rt: &R,
-    number: usize,
-    tail: Tail,
-    row: Run<'_>,
-) -> Result<(), Fail> {
-    let (words, pairs, source, status, output, errors) = row;
-    let (found, printed, said) = run(rt.alloc(), words, (pairs, tail), source)?;
-    let found = (words, found, Bytes(printed.bytes()), Bytes(said.bytes()));
-    let wanted = (words, status, Bytes(output), Bytes(errors.as_bytes()));
-    same(rt, number, found, wanted);
-    Ok(())
-}
-
-// The words, the file of pairs, the source, the status, and the output of a run that prints nothing on standard error.
-type Row<'a> = (&'a str, &'a [u8], &'a [u8], u8, &'a [u8]);
-
-fn check_runs<R: Abort + AllocGlobal>(rt: &R, rows: &[Row<'static>]) -> Result<(), Fail> {
-    for (number, row) in (1usize..).zip(rows) {
-        let (words, pairs, source, status, output) = *row;
-        let row = (words, pairs, source, status, output, "");
-        check_run(rt, number, Tail::End, row)?;
-    }
-    Ok(())
-}
 
 const PAIRS: &[u8] = b"port = 1\nhost = b\nport = 2\n";
 
 const SOURCE: &[u8] = b"host : a\r\n# end";
 
-const MERGED: &[Row<'static>] = &[
+const MERGED: &[Row] = &[
     // Each key is set to its last value, in the order of the file. Its layout and comments aren't taken over.
     (
         "merge x",
@@ -158,7 +72,7 @@ fn pairs_of_a_file_are_set(rt: HostRuntime) -> Result<(), Fail> {
     check_runs(&rt, MERGED)
 }
 
-const TEXTS: &[Row<'static>] = &[
+const TEXTS: &[Row] = &[
     (
         "merge -zf y -",
         b"pass\0 C:\\t\n=#\0",
@@ -241,7 +155,7 @@ fn files_of_pairs_are_refused(rt: HostRuntime) -> Result<(), Fail> {
             b"".as_slice(),
             errors.as_str(),
         );
-        check_run(&rt, number, Tail::End, row)?;
+        check_run(&rt, number, SOUND, row)?;
     }
     Ok(())
 }
@@ -251,11 +165,11 @@ fn a_file_of_pairs_that_fails_is_named(rt: HostRuntime) -> Result<(), Fail> {
     let (pairs, source, output) = (b"a=1\n".as_slice(), b"a=2".as_slice(), b"".as_slice());
     let errors = "propedit: x:2: entity not found\n";
     let row = ("-f y merge x", pairs, source, 2, output, errors);
-    check_run(&rt, 1, Tail::Fault(ErrorKind::NotFound), row)
+    check_run(&rt, 1, (CUT_OFF, Tail::End, AMPLE), row)
 }
 
 // What `main` edits in place. The file of pairs is refused before.
-const FILES: &[Row<'static>] = &[
+const FILES: &[Row] = &[
     ("merge -i y x", PAIRS, b"", IN_PLACE, b""),
     ("-vi y merge x", PAIRS, b"", IN_PLACE, b""),
     ("merge --create -zi y -", b"a\x001\0", b"", MADE, b""),

@@ -1,11 +1,11 @@
 // Runs of both programs over streams.
 
 use crate::same::{Bytes, same};
-use crate::streams::{AMPLE, Plan, reader, sink, words_of};
-use counted_io::{CountedRead, CountedWrite, ScriptedSink, Tail};
+use crate::streams::{AMPLE, Plan, Sinks, reader, words_of};
+use counted_io::{ScriptedReader, Tail};
+use propedit_arguments::asked_for;
 use propedit_arguments::mistake::Mistake;
 use propedit_arguments::parse::explain_mistake;
-use propedit_arguments::{asked_for, explain};
 use properties_tools::propedit::hint::{possible_files, refused_file};
 use properties_tools::propedit::request::{Job, Request};
 use properties_tools::{propedit, propfilter};
@@ -40,28 +40,26 @@ pub const SOUND: Streams = Streams {
 // What stands for the status where files are to be checked or edited.
 const FILES: u8 = 3;
 
-fn edit<R: CountedRead, W: CountedWrite, E: CountedWrite>(
+fn edit(
     alloc: Global,
     words: &[String],
     there: &[&str],
-    input: &mut R,
-    output: &mut W,
-    errors: &mut E,
+    input: &mut ScriptedReader,
+    sinks: &mut Sinks,
 ) -> Result<u8, AllocError> {
     match asked_for(alloc, words) {
-        Ok(Request::Job(job)) => do_job(alloc, &job, there, input, output, errors),
+        Ok(Request::Job(job)) => do_job(alloc, &job, there, input, sinks),
         Ok(_) => Ok(FILES),
-        Err(error) => Ok(explain(alloc, error, output, errors)),
+        Err(error) => Ok(sinks.explain(alloc, error)),
     }
 }
 
-fn do_job<R: CountedRead, W: CountedWrite, E: CountedWrite>(
+fn do_job(
     alloc: Global,
     job: &Job,
     there: &[&str],
-    input: &mut R,
-    output: &mut W,
-    errors: &mut E,
+    input: &mut ScriptedReader,
+    sinks: &mut Sinks,
 ) -> Result<u8, AllocError> {
     let mut files = Vec::new(alloc);
     for name in possible_files(job) {
@@ -69,6 +67,7 @@ fn do_job<R: CountedRead, W: CountedWrite, E: CountedWrite>(
             files.push(name.clone()?)?;
         }
     }
+    let (output, errors) = (&mut sinks.output, &mut sinks.errors);
     match refused_file(job, &files) {
         Some(file) => Ok(explain_mistake(alloc, Mistake::FileAsKey(file), errors)),
         None => Ok(propedit::run(alloc, job, &files, input, output, errors)),
@@ -76,31 +75,42 @@ fn do_job<R: CountedRead, W: CountedWrite, E: CountedWrite>(
 }
 
 /// Runs a program as its `main` does, but of a source that is a file the input has the bytes, and no files are checked
-/// or edited. Returns the status, and the sinks of the output and of the errors.
+/// or edited. Returns the status, and what it printed on.
 pub fn run(
     alloc: Global,
     program: Program,
     streams: Streams,
     words: &str,
     input: &[u8],
-) -> Result<(u8, ScriptedSink, ScriptedSink), AllocError> {
+) -> Result<(u8, Sinks), AllocError> {
     let words = words_of(alloc, words)?;
     let words = words.as_slice();
     let mut input = reader(alloc, input, 1024, streams.tail)?;
-    let mut output = sink(alloc, streams.output);
-    let mut errors = sink(alloc, streams.errors);
+    let mut sinks = Sinks::new(alloc, streams.output, streams.errors);
     let status = match program {
-        Program::Propfilter => propfilter::run(alloc, words, &mut input, &mut output, &mut errors),
-        Program::Propedit => edit(
-            alloc,
-            words,
-            streams.files,
-            &mut input,
-            &mut output,
-            &mut errors,
-        )?,
+        Program::Propfilter => {
+            let (output, errors) = (&mut sinks.output, &mut sinks.errors);
+            propfilter::run(alloc, words, &mut input, output, errors)
+        }
+        Program::Propedit => edit(alloc, words, streams.files, &mut input, &mut sinks)?,
     };
-    Ok((status, output, errors))
+    Ok((status, sinks))
+}
+
+/// Compares the status of a run and what it printed with the row of this number: the status, the output, and what is
+/// printed on standard error.
+pub fn check_ended(
+    rt: &impl Abort,
+    number: usize,
+    words: &str,
+    (status, sinks): &(u8, Sinks),
+    wanted: (u8, &[u8], &str),
+) {
+    let (output, errors) = (sinks.output.bytes(), sinks.errors.bytes());
+    let found = (words, *status, Bytes(output), Bytes(errors));
+    let (status, output, errors) = wanted;
+    let wanted = (words, status, Bytes(output), Bytes(errors.as_bytes()));
+    same(rt, number, found, wanted);
 }
 
 /// The words, as `words_of` divides them, the input, the status, the output, and what is printed on standard error.
@@ -115,10 +125,8 @@ pub fn check_run<R: Abort + AllocGlobal>(
     row: Run<'_>,
 ) -> Result<(), Fail> {
     let (words, input, status, output, errors) = row;
-    let (found, printed, said) = run(rt.alloc(), program, streams, words, input)?;
-    let found = (words, found, Bytes(printed.bytes()), Bytes(said.bytes()));
-    let wanted = (words, status, Bytes(output), Bytes(errors.as_bytes()));
-    same(rt, number, found, wanted);
+    let ended = run(rt.alloc(), program, streams, words, input)?;
+    check_ended(rt, number, words, &ended, (status, output, errors));
     Ok(())
 }
 

@@ -1,6 +1,8 @@
 // Streams that follow a plan, and arguments as owned texts.
 
 use counted_io::{ScriptedReader, ScriptedSink, SinkFault, Tail};
+use propedit_arguments::explain;
+use propedit_arguments::mistake::NoRequest;
 use std::alloc::{AllocError, Global};
 use std::io;
 
@@ -39,6 +41,27 @@ pub fn sink(alloc: Global, plan: Plan) -> ScriptedSink {
     let mut sink = ScriptedSink::new(alloc, plan.most, plan.fail_at, plan.how);
     sink.set_flush_fault(plan.flush_fault);
     sink
+}
+
+/// What a run prints on.
+#[derive(Drop)]
+pub struct Sinks {
+    pub output: ScriptedSink,
+    pub errors: ScriptedSink,
+}
+
+impl Sinks {
+    pub fn new(alloc: Global, output: Plan, errors: Plan) -> Sinks {
+        Sinks {
+            output: sink(alloc, output),
+            errors: sink(alloc, errors),
+        }
+    }
+
+    /// Prints why words ask for no run, and returns the status.
+    pub fn explain(&mut self, alloc: Global, error: NoRequest<'_>) -> u8 {
+        explain(alloc, error, &mut self.output, &mut self.errors)
+    }
 }
 
 /// A reader of these bytes, so many at a read, and then of this tail.

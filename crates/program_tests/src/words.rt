@@ -13,11 +13,11 @@ fn check_refusal<R: Abort + AllocGlobal>(
     line: &str,
 ) -> Result<(), Fail> {
     let alloc = rt.alloc();
-    let (status, output, errors) = run(alloc, Program::Propedit, SOUND, words, b"a=1")?;
+    let (status, sinks) = run(alloc, Program::Propedit, SOUND, words, b"a=1")?;
     let line = format!(in alloc; "propedit: {line}")?;
-    let said = errors.bytes().split(|byte| *byte == b'\n').next();
+    let said = sinks.errors.bytes().split(|byte| *byte == b'\n').next();
     let said = Bytes(said.unwrap_or(b""));
-    let found = (words, status, Bytes(output.bytes()), said);
+    let found = (words, status, Bytes(sinks.output.bytes()), said);
     let wanted = (words, 2, Bytes(b""), Bytes(line.as_bytes()));
     same(rt, number, found, wanted);
     Ok(())

@@ -165,12 +165,11 @@ impl Failing {
         bytes.get(..self.taken).unwrap_or(bytes)
     }
 
-    /// Checks that a sink came to this, and that no write came after the one that failed.
+    /// Checks that a sink came to what is wanted, and that no write came after the one that failed.
     pub fn check(
         self,
         way: &str,
-        sink: &ScriptedSink,
-        came: &str,
+        (came, sink): (&str, &ScriptedSink),
         wanted: &str,
         outcome: &mut Outcome,
     ) -> Result<(), AllocError> {

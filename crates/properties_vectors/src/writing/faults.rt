@@ -13,7 +13,8 @@ pub fn check_faults(calls: Row<'_>, whole: &Written, outcome: &mut Outcome) -> R
         let written = write(calls, failing.sink, Words::Parts)?;
         let came = shown(alloc, written.answers.as_slice(), &written.sink)?;
         let wanted = wanted(calls, whole, *failing)?;
-        failing.check("call by call", &written.sink, &came, &wanted, outcome)?;
+        let came = (came.as_str(), &written.sink);
+        failing.check("call by call", came, &wanted, outcome)?;
         check_lists(calls, failing.sink, &written, outcome)?;
     }
     Ok(())

@@ -74,7 +74,7 @@ fn check_map(
         let (came, sink) = written(calls, map, failing.sink, way)?;
         let answer = Some(failing.text(alloc)?);
         let wanted = shown_with(alloc, &[answer], failing.taken_of(whole.bytes()), 1)?;
-        failing.check(&name, &sink, &came, &wanted, outcome)?;
+        failing.check(&name, (came.as_str(), &sink), &wanted, outcome)?;
     }
     Ok(())
 }
