@@ -1216,8 +1216,10 @@ kinds='byte-order-mark, utf-32-mark, u-feff, non-ascii, read-otherwise, looks-li
 for word in zero ill-formed; do
     is_refused "'$word' cannot be ignored: all other commands refuse such a file; use $kinds" "$(shape check)" check --ignore $word one.properties
 done
-is_refused "'malformed-escape' cannot be ignored: all other commands refuse such a file; '--pairs' passes over those in comments" "$(shape check)" \
-    check --ignore u-feff,malformed-escape
+required="all other commands but convert refuse such a file; '--pairs' passes over those in comments"
+is_refused "'malformed-escape' cannot be ignored: $required" "$(shape check)" check --ignore u-feff,malformed-escape
+is_refused "unknown kind 'malformed_escape'; did you mean 'malformed-escape'? It cannot be ignored: $required" "$(shape check)" \
+    check --ignore malformed_escape
 is_refused "unknown kind 'bom'; use $kinds" "$(shape check)" check --ignore bom
 is_refused "unknown kind ''; use $kinds" "$(shape check)" check --ignore u-feff,
 is_refused "unknown kind 'Repeated_Keys'; use $kinds" "$(shape check)" check --ignore Repeated_Keys
@@ -1335,6 +1337,8 @@ for words in 'set-comment a' 'set-comment -- a' 'set a 1 set-comment a'; do
 done
 is_refused "'set comment': did you mean 'set-comment'?" "$(shape set-comment)" set comment a b
 is_refused "unknown option '--set' of 'comment'; a key $dashes; did you mean 'set-comment'?" "$(shape comment)" comment --set a b
+is_refused "unknown option '--comment' of 'set'; a key $dashes; did you mean 'set-comment'?" "$(shape set)" set --comment a b
+is_refused "unknown option '--comment' of 'remove'; a key $dashes; did you mean '--with-comment'?" "$(shape remove)" remove --comment a
 is_refused "'merge' requires a FILE" 'Usage: propedit merge [OPTION ..] FILE' merge -x
 is_refused "'merge -' reads standard input; '-f FILE' or '-i FILE' names the file to change" \
     'Usage: propedit merge [OPTION ..] FILE' merge -z -
@@ -1356,11 +1360,12 @@ run set a=1 b set a '=2' set '=c' b=2 set 'd e=' b=2
 gives 0 'a = =2\na\\=1 = b\n\\=c = b=2\nd\\ e\\= = b=2\n' ''
 run set -- -- 1 set -- set remove remove -- a
 gives 0 '-- = 1\nset = remove\n' ''
-edit="each edit begins with set, remove, rename or set-comment, and $first"
+edit="each edit begins with set, remove, rename or set-comment, $first, and a text of several words needs quotes"
 is_refused "unknown edit 'get': $edit" "$edits" set a 1 get a
 is_refused "unknown edit 'host': $edit" "$edits" -i app.properties set port 1 host 2
 is_refused "unknown edit '-i': $edit" "$edits" set a 1 -i app.properties
 is_refused "unknown edit 'app.properties': $edit" "$edits" set port=8080 -i app.properties
+is_refused "unknown edit 'front': $edit" "$edits" set-comment port the front door
 for option in '-f FILE' '-i FILE' '-e NAME' '-d VALUE'; do
     is_refused "the option '$option' requires a ${option#* }" "$all" ${option% *}
 done

@@ -188,12 +188,34 @@ const PAGE: &[u8] = b"Prints the value of each key\n\n\
     \x20 propedit get -d 80 -- \"$key\" < app.properties\n\n\
     Status: 0 each KEY was found, or -d is given; 1 one was not; 2 an error.\n";
 
+const CHECK_PAGE: &[u8] = b"Reports ill-formed lines, bad escapes, repeated keys\n\n\
+    Usage: propedit check [OPTION ..] [FILE ..]\n\n\
+    Options:\n\
+    \x20 -f, --file FILE       Reads FILE instead of standard input\n\
+    \x20 -e, --encoding NAME   utf-8 (default), iso-8859-1, windows-1252, utf-16le/be\n\
+    \x20     --json            Has list, check and diff print JSON\n\
+    \x20 -a, --ascii           Has edits write only ASCII, and check report all else\n\
+    \x20     --base FILE       Has check compare the keys with those of FILE\n\
+    \x20     --pairs           Has check pass over bad escapes in comments\n\
+    \x20     --ignore KIND     Has check leave out findings of KIND[,KIND ..]\n\
+    \x20 -q, --quiet           Has check print nothing: the status tells\n\
+    \x20 -h, --help            Prints this\n\
+    \x20 -V, --version         Prints the version\n\n\
+    A KIND is byte-order-mark, utf-32-mark, u-feff, non-ascii, read-otherwise,\n\
+    looks-like-utf-8, blank-after-backslash, backslash-at-end, repeated-key,\n\
+    missing-key or surplus-key.\n\n\
+    Examples:\n\
+    \x20 propedit check -a -- *.properties\n\
+    \x20 propedit check --base app.properties app_de.properties\n\n\
+    Status: 0 nothing was found; 1 something was; 2 an error.\n";
+
 const PAGES: &[Row] = &[
     ("help get", b"", 0, PAGE),
     ("help -- get", b"", 0, PAGE),
     ("get --help", b"", 0, PAGE),
     ("-f x get -zh a", b"", 0, PAGE),
     ("get -d 1 --help -q", b"", 0, PAGE),
+    ("help check", b"", 0, CHECK_PAGE),
     (
         "help help",
         b"",

@@ -1,7 +1,7 @@
 // Runs of `propedit check --ignore`.
 
+use crate::refusals::{Refusal, check_refusals};
 use crate::runs::{Program, Row, check_runs};
-use crate::words::{Refusal, check_refusals};
 use std::test::Fail;
 
 // A byte order mark, a repeated key, a value that ends in an escaped blank, and a backslash at the end.
@@ -93,8 +93,20 @@ const REFUSALS: &[Refusal] = &[
     ),
     (
         "check --ignore u-feff,malformed-escape",
-        "'malformed-escape' cannot be ignored: all other commands refuse such a file; \
+        "'malformed-escape' cannot be ignored: all other commands but convert refuse such a file; \
         '--pairs' passes over those in comments",
+    ),
+    (
+        "check --ignore malformed_escape",
+        "unknown kind 'malformed_escape'; did you mean 'malformed-escape'? It cannot be ignored: \
+        all other commands but convert refuse such a file; '--pairs' passes over those in comments",
+    ),
+    (
+        "check --ignore ill",
+        "unknown kind 'ill'; did you mean 'ill-formed'? It cannot be ignored: all other commands \
+        refuse such a file; use byte-order-mark, utf-32-mark, u-feff, non-ascii, read-otherwise, \
+        looks-like-utf-8, blank-after-backslash, backslash-at-end, repeated-key, missing-key, \
+        surplus-key",
     ),
     (
         "check --ignore=repeated",

@@ -30,6 +30,8 @@ mod in_place;
 #[cfg(test)]
 mod json_answers;
 #[cfg(test)]
+mod labels;
+#[cfg(test)]
 mod listing;
 #[cfg(test)]
 mod merging;
@@ -37,6 +39,8 @@ mod merging;
 mod propedit;
 #[cfg(test)]
 mod propfilter;
+#[cfg(test)]
+mod refusals;
 #[cfg(test)]
 mod removing;
 #[cfg(test)]
@@ -51,3 +55,7 @@ mod streams;
 mod two_sources;
 #[cfg(test)]
 mod words;
+#[cfg(test)]
+mod wrong_edits;
+#[cfg(test)]
+mod wrong_options;

@@ -1,5 +1,6 @@
 // The commands and options of `propedit`: the words that each takes, and what usage and help say of it.
 
+use crate::kinds::KINDS;
 use java_properties::Repertoire;
 use std::fmt;
 
@@ -712,6 +713,9 @@ impl fmt::Display for HelpOf {
             if command.takes(row.option) {
                 show_option(f, row)?;
             }
+        }
+        if command.takes(OptionName::Ignore) {
+            write!(f, "\n{KINDS}")?;
         }
         write!(
             f,

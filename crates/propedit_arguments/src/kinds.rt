@@ -21,7 +21,7 @@ const OPTIONAL: &[Kind] = &[
     Kind::SurplusKey,
 ];
 
-// Those of what all other commands refuse.
+// Those for which other commands refuse a file: all of them, but `convert` keeps a malformed escape.
 const REQUIRED: &[Kind] = &[Kind::Zero, Kind::IllFormed, Kind::EscapeInPair];
 
 /// Returns what these names of kinds, with commas between them, have this command leave out.
@@ -63,31 +63,49 @@ fn leave_out(ignored: &mut Ignored, kind: Kind) {
 
 /// Prints that no kind that may be left out has this name, and which one may be meant, or which there are.
 pub(crate) fn show_no_kind<W: fmt::Write>(f: &mut fmt::Formatter<W>, name: &str) -> fmt::Result {
-    let shown = Escaped(name);
     if let Some(kind) = kind_named(REQUIRED, name) {
-        write!(
-            f,
-            "'{shown}' cannot be ignored: all other commands refuse such a file"
-        )?;
-        if kind == Kind::EscapeInPair {
-            return f.write_str("; '--pairs' passes over those in comments");
-        }
-        return show_kinds(f);
+        write!(f, "'{}'", kind.name())?;
+        return show_required(f, kind);
     }
-    write!(f, "unknown kind '{shown}'")?;
-    match kind_meant(name) {
-        Some(kind) => show_meant(f, "", kind.name()),
+    write!(f, "unknown kind '{}'", Escaped(name))?;
+    if let Some(kind) = kind_meant(OPTIONAL, name) {
+        return show_meant(f, "", kind.name());
+    }
+    match kind_meant(REQUIRED, name) {
+        Some(kind) => {
+            show_meant(f, "", kind.name())?;
+            f.write_str(" It")?;
+            show_required(f, kind)
+        }
         None => show_kinds(f),
     }
 }
 
-// Returns the kind whose name has the letters and digits of this one, or begins with it, or the other way round.
-fn kind_meant(name: &str) -> Option<Kind> {
-    OPTIONAL
+// Prints why a kind can't be left out, and what can.
+fn show_required<W: fmt::Write>(f: &mut fmt::Formatter<W>, kind: Kind) -> fmt::Result {
+    if kind == Kind::EscapeInPair {
+        return f.write_str(
+            " cannot be ignored: all other commands but convert refuse such a file; \
+            '--pairs' passes over those in comments",
+        );
+    }
+    f.write_str(" cannot be ignored: all other commands refuse such a file")?;
+    show_kinds(f)
+}
+
+// Returns the kind of these whose name has the letters and digits of this one, or begins with it, or the other way round.
+fn kind_meant(kinds: &[Kind], name: &str) -> Option<Kind> {
+    kinds
         .iter()
         .find(|kind| have_same_letters(kind.name(), name) || is_continued(kind.name(), name))
         .copied()
 }
+
+/// What the page of a command says of a KIND.
+pub(crate) const KINDS: &str =
+    "A KIND is byte-order-mark, utf-32-mark, u-feff, non-ascii, read-otherwise,\n\
+    looks-like-utf-8, blank-after-backslash, backslash-at-end, repeated-key,\n\
+    missing-key or surplus-key.\n";
 
 // Prints the kinds that may be left out.
 fn show_kinds<W: fmt::Write>(f: &mut fmt::Formatter<W>) -> fmt::Result {

@@ -226,8 +226,6 @@ impl fmt::Display for EscapedBytes<'_> {
     }
 }
 
-const OPTIONS_FIRST: &str = "options come before the first KEY";
-
 const TARGETS: &str = "utf-8, iso-8859-1, windows-1252 or ascii";
 
 impl fmt::Display for Mistake<'_> {
@@ -356,10 +354,23 @@ fn show_unknown_option<W: fmt::Write>(
     }
     match (option_meant(word, command), command) {
         (Some(row), _) => show_meant(f, "--", row.long),
+        (None, Some(row)) => show_other(f, name_in(word), row),
+        (None, None) => Ok(()),
+    }
+}
+
+// Prints what else may be meant by a long option that this command doesn't take.
+fn show_other<W: fmt::Write>(
+    f: &mut fmt::Formatter<W>,
+    word: &str,
+    row: &'static CommandRow,
+) -> fmt::Result {
+    match (row.command, word) {
         // What sets a comment is a command of its own.
-        (None, Some(row)) if row.command == CommandName::Comment && name_in(word) == "--set" => {
+        (CommandName::Comment, "--set") | (CommandName::Set, "--comment") => {
             show_meant(f, "", "set-comment")
         }
+        (CommandName::Remove, "--comment" | "--comments") => show_meant(f, "--", "with-comment"),
         _ => Ok(()),
     }
 }
@@ -485,9 +496,9 @@ fn show_no_edit<W: fmt::Write>(f: &mut fmt::Formatter<W>, word: &str) -> fmt::Re
     write!(f, "unknown edit '{}'", Escaped(word))?;
     match command_meant(word) {
         Some(row) if row.is_edit() => show_meant(f, "", row.name),
-        _ => write!(
-            f,
-            ": each edit begins with set, remove, rename or set-comment, and {OPTIONS_FIRST}"
+        _ => f.write_str(
+            ": each edit begins with set, remove, rename or set-comment, \
+            options come before the first KEY, and a text of several words needs quotes",
         ),
     }
 }

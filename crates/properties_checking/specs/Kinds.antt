@@ -21,7 +21,7 @@ kind_name RepeatedKey = codes "repeated-key"
 kind_name MissingKey = codes "missing-key"
 kind_name SurplusKey = codes "surplus-key"
 
--- Whether a kind is left out. That of what no command reads never is.
+-- Whether a kind is left out. One for which an edit refuses a source never is.
 abbrev pub is_ignored : Ignored → Kind → Bool
 is_ignored i Zero = false
 is_ignored i IllFormed = false
