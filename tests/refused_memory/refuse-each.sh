@@ -20,7 +20,9 @@ trap 'rm -rf "$work"' EXIT
 crate=$work/copy/crates/refused_memory
 mkdir -p "$crate/src"
 (cd "$here/../.." && tar cf - --exclude=out --exclude='must-*' crates crates.txt HANDLES) | (cd "$work/copy" && tar xf -)
-echo 'refused_memory: counted_io properties_text properties_lines single_lines java_properties properties_tools propedit_arguments' \
+# There the exports for C are a crate that others can use.
+sed -i 's/^properties_c staticlib:/properties_c:/' "$work/copy/crates.txt"
+echo 'refused_memory: counted_io properties_text properties_lines single_lines java_properties properties_tools propedit_arguments properties_c' \
     >>"$work/copy/crates.txt"
 for file in "$here"/src/*.rt.txt; do
     cp "$file" "$crate/src/$(basename "$file" .txt)"
