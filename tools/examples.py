@@ -10,7 +10,7 @@ import re
 TOP = pathlib.Path(__file__).resolve().parent.parent
 CRATES = [
     "byte_blocks", "counted_io", "java_properties", "propedit_arguments", "properties_editing", "properties_items",
-    "properties_text", "properties_tables", "properties_checking", "properties_changing", "properties_tools", "single_lines",
+    "properties_renaming", "properties_text", "properties_tables", "properties_checking", "properties_changing", "properties_tools", "single_lines",
 ]
 
 HEAD = """// Examples of doc comments, each as a test.
@@ -21,26 +21,37 @@ use byte_blocks::{Byte, Either, LineEndings, find};
 use counted_io::{Counted, CountedRead, CountedWrite, ScriptedReader, ScriptedSink, SinkFault, Tail, send};
 use java_properties::{
     Call, Cause, Comments, ContentRef, Document, Edit, Encoding, GroupKind, LineContent, LineEnding, PropertiesError, PropertiesIter,
-    PropertiesWriter, SourceOptions, Spelling, View, convert, edit_all, edit_with, key_lines, laws, map_of, malformed_escapes, read, read_lines, read_sorted, read_source, remove_key, run_calls,
-    set_key, set_value, value_of, value_with, write, write_sorted, write_source,
+    PropertiesWriter, RenameError, SourceOptions, Spelling, View, comment_of, convert, edit_all, edit_with, key_lines, laws, map_of, malformed_escapes, read, read_lines,
+    read_sorted, read_source, remove_key, remove_with_comment, rename_key, run_calls, set_comment, set_key, set_value, value_of, value_with, write, write_sorted, write_source,
 };
 use properties_text::encoding::TextBuffer;
 use properties_text::escape::unescape;
-use properties_text::print::{LineBuffer, Pair, Place, Repertoire, print_pair, print_readable_pair, print_readable_texts, print_text, print_texts, print_value};
+use properties_text::print::{LineBuffer, Pair, PairLayout, Place, Repertoire, print_pair, print_readable_pair, print_readable_texts, print_text, print_texts, print_value};
 use propedit_arguments::{asked_for, explain, explain_name, explain_not_utf_8, marked_words, name_of_marked};
 use properties_tables::table::table_of;
 use properties_tools::arguments::words;
 use properties_tools::filter::{filter, filter_ascii};
 use properties_tools::messages::{Escaped, print_error, print_line};
+use properties_tools::propedit::against::{base_of, check_against};
 use properties_tools::propedit::answers::{answer_to, name};
-use properties_tools::propedit::request::{AbsentKeys, Allowed, Change, Check, Command, Conversion, Edits, FileChange, Form, Missing, Report, Request, Source, Terminator, Job};
+use properties_tools::propedit::base_run::run_base;
+use properties_tools::propedit::comment::comment;
+use properties_tools::propedit::counts::count_changes;
+use properties_tools::propedit::diff::{diff, run_diff};
+use properties_tools::propedit::diff_json::diff_json;
+use properties_tools::propedit::request::{
+    AbsentKeys, Allowed, Change, Check, CheckedBase, Command, Comparison, Conversion, Destination, Edits, FileChange, Form, Job, Merge, Missing, Report, Request, Source, Terminator,
+};
 use properties_tools::propedit::error::{Failure, print_failure};
+use properties_tools::propedit::get::{Shown, get};
 use properties_tools::propedit::hint::{possible_files, print_reading, refused_file};
 use properties_tools::propedit::in_place::{Target, edit_file};
 use properties_tools::propedit::ill_formed::ill_formed_lines;
-use properties_tools::propedit::merge::edits_of;
+use properties_tools::propedit::kinds::{Ignored, Kind};
+use properties_tools::propedit::list_json::list_json;
+use properties_tools::propedit::merge::{Merged, edits_of, read_merge};
 use properties_tools::propedit::same_file::refuse_output;
-use properties_tools::propedit::{self, change::change, check::report, exit_status, get::get, list::list, pairs::list_values, replacement};
+use properties_tools::propedit::{self, change::change, check::report, exit_status, list::list, pairs::list_values, replacement, run};
 use properties_tools::propfilter;
 use single_lines::decode::decode_line;
 use single_lines::parse::{ParsedLine, parse_line};
@@ -57,6 +68,8 @@ fn answer(_: &Request) -> u8 {
 """
 
 SINK = "Counted::new(Vec::new(alloc))"
+CHECK = "Check { allowed: Allowed::All, ignored: Ignored::NONE, quiet: false, report: Report::Lines }"
+EDITS = "Edits { list: Vec::new(alloc), ascii_only: false, latin_1: false, absent: AbsentKeys::Added }"
 GIVEN = {
     "file": 'let file: &[u8] = b"a=b";',
     "pieces": "let pieces: Vec<Vec<u8>> = Vec::new(alloc);",
@@ -66,7 +79,10 @@ GIVEN = {
     "sink": f"let mut sink = {SINK};",
     "arguments": "let arguments: &[String] = &[];",
     "words": "let words: Vec<String> = Vec::new(alloc);",
-    "job": "let job = Job { encoding: Encoding::UTF_8, source: Source::StandardInput, command: Command::Check(Check { allowed: Allowed::All, pairs_only: false, quiet: false, report: Report::Lines }) };",
+    "job": "let job = Job { encoding: Encoding::UTF_8, source: Source::StandardInput, command: Command::List(String::new(alloc), Terminator::LineFeed) };",
+    "asked": f"let asked = {CHECK};",
+    "base": f'let (_, base) = base_of(alloc, "x", b"a", Encoding::UTF_8, {CHECK})?;',
+    "sources": "let sources = Comparison { encoding: Encoding::UTF_8, old: Source::Dash, new: Source::Dash, report: Report::Lines };",
     "Target": 'std::fs::write(&rt, "app.properties", b"port = 80".as_slice())?;',
     "File": 'std::fs::write(&rt, "app.properties", b"port = 80".as_slice())?;',
     "map": "let map: HashMap<String, String> = HashMap::new(alloc);",
@@ -87,21 +103,29 @@ GIVEN = {
     "host": 'let host = String::from_str(alloc, "host")?;',
     "value": 'let value = String::from_str(alloc, "v")?;',
 }
-EDITED_FILE = (
-    'let file = FileChange { path: String::from_str(alloc, "my.properties")?, encoding: Encoding::UTF_8, '
-    "change: Change::Edits(Edits { list: Vec::new(alloc), ascii_only: false, latin_1: false, absent: AbsentKeys::Added }), missing: Missing::Refuse, verbose: false };"
-)
+# What a name is given instead, if the example has this text.
+SPECIAL = {
+    ("map", "write_sorted"): "let map: BTreeMap<String, String> = BTreeMap::new(alloc);",
+    ("map", "write_map"): "let map: BTreeMap<String, String> = BTreeMap::new(alloc);",
+    ("file", "edit_file"): 'let file = FileChange { path: String::from_str(alloc, "my.properties")?, encoding: Encoding::UTF_8, '
+    f"change: Change::Edits({EDITS}), missing: Missing::Refuse, verbose: false }};",
+    ("number", "Edit::Put"): 'let number = String::from_str(alloc, "8080")?;',
+    ("asked", "run_base"): f"let asked = CheckedBase {{ source: Source::StandardInput, encoding: Encoding::UTF_8, check: {CHECK} }};",
+    ("asked", "read_merge"): "let asked = Merge { pairs: Source::Dash, form: Form::Properties, encoding: Encoding::UTF_8, "
+    f"edits: {EDITS}, destination: Destination::Printed(Source::StandardInput) }};",
+}
 
 
 def examples(path):
-    """(line number, lines) of each fenced example among the comments of a file."""
-    taken = None
-    for number, line in enumerate(path.read_text().splitlines(), 1):
+    """(line number, lines) of each fenced example among the comments of a file, but of what its crate keeps to itself."""
+    taken, lines = None, path.read_text().splitlines()
+    for number, line in enumerate(lines, 1):
         comment = re.match(r"\s*//[/!] ?(.*)", line)
         if not comment:
             continue
         if comment[1].startswith("```"):
-            if taken is not None:
+            item = next((it for it in lines[number:] if not re.match(r"\s*(//|#)", it)), "")
+            if taken is not None and not item.startswith("pub(crate)"):
                 yield number, taken
             taken = [] if taken is None else None
         elif taken is not None:
@@ -135,18 +159,16 @@ def main():
                 print("    let alloc = rt.alloc();")
                 for given, how in GIVEN.items():
                     if is_free(given, text):
-                        if given == "map" and ("write_sorted" in text or "write_map" in text):
-                            how = how.replace("HashMap", "BTreeMap")
-                        if given == "file" and "edit_file" in text:
-                            how = EDITED_FILE
+                        how = next((it for (name_of, part), it in SPECIAL.items() if name_of == given and part in text), how)
                         print("    " + how)
-                if lines[0].startswith("match asked_for"):
+                # What a match of an example gives is a status.
+                lines = [re.sub(r"^match (asked_for|read_merge)", r"let _ = match \1", line) for line in lines]
+                if any(line.startswith("let _ = match") for line in lines):
                     lines[-1] += ";"
                 for line in lines:
                     # A test returns no status, and its error is a `Fail`.
                     line = re.sub(r"return Ok\((.{3,})\);", r"let _ = \1; return Ok(());", line)
                     line = re.sub(r"return (explain\(.+\));", r"let _ = \1; return Ok(());", line)
-                    line = re.sub(r"^(match asked_for)", r"let _ = \1", line)
                     print("    " + re.sub(r"return Err\((.+)\);", r"return Err(\1.into());", line))
                 print("    Ok(())\n}\n")
 
