@@ -166,7 +166,7 @@ def divided(text, key):
     return whole(groups[:first]), [group[0] for group in groups[first:last]], groups[last], whole(groups[last + 1 :])
 
 
-def style_for(comment, pair):
+def style_for(comment, pair, source):
     """Indent, sign, blank and ending of new lines."""
     for indent, sign, blank, text, end in map(comment_parts, comment):
         if text:
@@ -174,7 +174,8 @@ def style_for(comment, pair):
     indent = re.match(r"[ \t\f]*", pair[0])[0]
     # A last line that goes on where the file ends has an ending, but the pair has none.
     end = "" if is_open(pair[-1]) else re.search(r"(?:\r\n|\r|\n|)\Z", pair[-1])[0]
-    return indent, "#", " ", end or "\n"
+    ends = re.findall(r"\r\n|\r|\n", source)
+    return indent, "#", " ", end or (ends[-1] if ends else "\n")
 
 
 def stands(character, encoding, latin_1, ascii_only):
@@ -215,7 +216,7 @@ def comment_set(data, named, ascii_only, key, text):
     if last_comment(found, key) == lines:
         return 0, data, False
     before, comment, pair, after = divided(source, key)
-    indent, sign, blank, end = style_for(comment, pair)
+    indent, sign, blank, end = style_for(comment, pair, source)
     new, escaped = "", False
     for line in lines:
         gap = blank if line else ""

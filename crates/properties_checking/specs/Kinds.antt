@@ -39,6 +39,6 @@ is_ignored i RepeatedKey = i.repeated_key
 is_ignored i MissingKey = i.missing_key
 is_ignored i SurplusKey = i.surplus_key
 
--- those of these kinds that are not left out, in the same order
+-- those whose kind isn't left out, in order; the function tells the kind of each
 abbrev pub reported : {X : Type 0} → Ignored → (X → Kind) → List X → List X
 reported ignored kind xs = filter (λ x. not (is_ignored ignored (kind x))) xs

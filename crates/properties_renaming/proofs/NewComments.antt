@@ -1,7 +1,7 @@
 -- What new comment lines look like, and how they take the place of the old ones.
 use Rattle.std.proofs.Common.{inl, inr, ◌≡◌, ◌≢◌, ◌<◌, ◌≤◌, ℕ, ◌+◌, ◌-◌, true, false, List, [], ◌∷◌, ◌++◌, length, take, drop, get_or, refl, sym, ap, ap₂, ◌∙◌, subst, arith, append_assoc, append-nil, length-append}
 use Rattle.std.specs.Prelude.{◌⊎◌, ◌==◌, flat_map, map, Option, Some, None}
-use Rattle.std.specs.Option.{unwrap_or}
+use Rattle.std.specs.Option.{option_map, unwrap_or}
 use Rattle.std.specs.Str.{IsUtf8, chars}
 use Rattle.std.specs.String.{string_bytes, string_eq}
 use Rattle.std.specs.Cmp.Lexicographic.{other_text, pointwise, same_text}
@@ -11,14 +11,16 @@ use Rattle.std.proofs.lemmas.Bool.{cases_Bool}
 use Rattle.std.proofs.lemmas.List.{drop_more, length-drop, take-append-drop, take_all}
 use Rattle.std.proofs.lemmas.Slice.Eq.{bytes_eq-Decides}
 use Rattle.std.proofs.lemmas.Str.{IsUtf8-string_bytes}
-use Rattle.properties_format.specs.Text.{LineEnding, begins, cr, crlf, is_blank, is_comment_sign, is_empty, lf, line_ending_text, line_feed, space, without_leading_blanks}
+use Rattle.properties_format.specs.Text.{LineEnding, begins, carriage_return, cr, crlf, is_blank, is_comment_sign, is_empty, lf, line_ending_text, line_feed, space, without_leading_blanks}
 use Rattle.properties_format.specs.Encoding.{Encoding, Repertoire, byte_order_mark, in_encoding, in_force, output_encoding}
-use Rattle.properties_format.specs.Lines.{is_comment_line}
+use Rattle.properties_format.specs.Lines.{HoldsNoLineEnding, is_comment_line}
 use Rattle.properties_format.specs.Split.{AreBlanks}
-use Rattle.properties_format.specs.Body.{HeldLine, ending_bytes, group_bytes, groups_bytes, last_ending}
+use Rattle.properties_format.specs.Body.{AreGroupsOf, HeldLine, ending_bytes, group_bytes, groups_bytes, held_in, last_ending}
 use Rattle.properties_format.specs.Edited.{bom_of, guarding_lf, is_editable}
+use Rattle.properties_format.specs.Valued.{ending_among, ending_in}
 use Rattle.properties_format.specs.Computed.Body.{unended_bytes}
 use Rattle.properties_format.specs.Computed.Cut.{decoded_line}
+use Rattle.properties_format.specs.Computed.Lines.{ends_in_cr}
 use Rattle.properties_format.proofs.Body.Decoded.{decoded-nil}
 use Rattle.properties_format.proofs.Body.Groups.{groups_bytes-append}
 use Rattle.properties_format.proofs.Edited.Pair.{editable-own}
@@ -27,13 +29,19 @@ use Rattle.properties_format.proofs.InTurn.Merged.{in-turn, turn-at}
 use Rattle.properties_format.proofs.Split.Blanks.{without_leading_blanks-meets}
 use Rattle.properties_format.proofs.Valued.Heads.{ascii-among}
 use Rattle.properties_text.specs.declared.print.Repertoire as code
+use Rattle.properties_items.specs.Line.{ending_of}
 use Rattle.properties_items.specs.Texts.{characters}
+use Rattle.properties_items.specs.declared.line.LineEnding as item
+use Rattle.properties_items.specs.declared.line.LineEnding.TheVariants.{CR, CRLF, LF}
 use Rattle.properties_items.proofs.TextMaps.Values.{same-characters}
+use Rattle.properties_editing.specs.Views.{with_bytes}
 use Rattle.properties_editing.specs.declared.group.ViewedGroup.{ViewedGroup}
+use Rattle.properties_editing.proofs.LastPairs.{at-byte, cr-last, last-by, last-none}
+use Rattle.properties_editing.proofs.PartsRead.{left-none}
 use Rattle.properties_renaming.specs.CommentLines.{AreCommentGroups, IsCommentGroup}
-use Rattle.properties_renaming.specs.Commenting.{HasNewLines, IsStyleAbove, IsStyleFor, IsStyleOfLine, LineStyle, comment_line, ending_of, gap_before}
+use Rattle.properties_renaming.specs.Commenting.{HasNewLines, IsStyleAbove, IsStyleFor, IsStyleOfLine, LineStyle, comment_line, ending_or, gap_before}
 use Rattle.properties_renaming.specs.Private.CommentTexts.{first_blank, without_first_blank}
-use Rattle.properties_renaming.specs.Private.Commenting.{HasFound, HoldsGroup, HoldsLine, IsAt, IsModel, comment_in, line_bytes, style_in}
+use Rattle.properties_renaming.specs.Private.Commenting.{HasFound, HoldsGroup, HoldsLine, IsAt, IsLastEndingOf, IsModel, comment_in, line_bytes, line_feed_after, style_in}
 use Rattle.properties_renaming.specs.Private.Copied.{IsNew, IsReplacedIn, copied_to}
 use Rattle.properties_renaming.specs.Private.Renaming.{PrintsKeys}
 use Rattle.properties_renaming.specs.declared.commenting.Comment.{Comment}
@@ -110,10 +118,10 @@ sign-at b n within rest line =
     record { less = less; at = more; is_sign = ap (begins is_comment_sign) (sym more ∙ rest) ∙ line }
 
 -- What it has around its text.
-pub style-line : (g : List HeldLine) (b : List ℕ) (style : LineStyle) (n : ℕ) → b ≡ group_bytes g → n ≤ length b → drop n b ≡ without_leading_blanks b
+pub style-line : (other : List ℕ) (g : List HeldLine) (b : List ℕ) (style : LineStyle) (n : ℕ) → b ≡ group_bytes g → n ≤ length b → drop n b ≡ without_leading_blanks b
     → is_comment_line (group_bytes g) ≡ true → style.indent ≡ take n b → style.sign ≡ get_or b n 0
-    → style.blank ≡ first_blank (take (length b - (n + 1)) (drop (n + 1) b)) → style.ending ≡ ending_of g → IsStyleOfLine g style
-style-line g b style n same within rest line indent sign blank ending =
+    → style.blank ≡ first_blank (take (length b - (n + 1)) (drop (n + 1) b)) → style.ending ≡ ending_or other g → IsStyleOfLine other g style
+style-line other g b style n same within rest line indent sign blank ending =
     let s = sign-at b n within rest (ap is_comment_line same ∙ line) in
     let after = drop (n + 1) b in
     let text = by after in
@@ -139,9 +147,9 @@ style-line g b style n same within rest line indent sign blank ending =
     ]
 
 -- What the first comment line above a pair has.
-pub style-above : (g : List HeldLine) (b : List ℕ) (style : LineStyle) (n : ℕ) → b ≡ group_bytes g → n ≤ length b → drop n b ≡ without_leading_blanks b
-    → style.indent ≡ take n b → style.sign ≡ 0x23 → style.blank ≡ 0x20 ∷ [] → style.ending ≡ ending_of g → IsStyleAbove g style
-style-above g b style n same within rest indent sign blank ending = record {
+pub style-above : (other : List ℕ) (g : List HeldLine) (b : List ℕ) (style : LineStyle) (n : ℕ) → b ≡ group_bytes g → n ≤ length b → drop n b ≡ without_leading_blanks b
+    → style.indent ≡ take n b → style.sign ≡ 0x23 → style.blank ≡ 0x20 ∷ [] → style.ending ≡ ending_or other g → IsStyleAbove other g style
+style-above other g b style n same within rest indent sign blank ending = record {
   rest = drop n b;
   bytes = sym same ∙ sym (take-append-drop n b) ∙ ap (λ v. v ++ drop n b) (sym indent);
   indent_blank = subst AreBlanks (sym indent) (front-blank b n within rest);
@@ -197,22 +205,93 @@ gap-kept blank [] h k = absurd (cc)
 gap-kept [] (c ∷ x) h k = absurd (cc)
 gap-kept (b ∷ blank) (c ∷ x) h k = refl
 
--- The line ending of a group, or an LF.
-pub ending-none : (g : List HeldLine) (x : List ℕ) → x ≡ ending_bytes (last_ending g) → (length x == 0) ≡ true → line_feed ∷ [] ≡ ending_of g
-ending-none g x is h = by (last_ending g) (sym (ap is_empty is) ∙ sym (empty-length x) ∙ h)
+-- The line ending of a group, or another.
+pub ending-none : (other : List ℕ) (g : List HeldLine) (x : List ℕ) → x ≡ ending_bytes (last_ending g) → (length x == 0) ≡ true → other ≡ ending_or other g
+ending-none other g x is h = by (last_ending g) (sym (ap is_empty is) ∙ sym (empty-length x) ∙ h)
   where
-    by : (o : Option LineEnding) → is_empty (ending_bytes o) ≡ true → line_feed ∷ [] ≡ line_ending_text (unwrap_or o lf)
+    by : (o : Option LineEnding) → is_empty (ending_bytes o) ≡ true → other ≡ unwrap_or (option_map line_ending_text o) other
     by None k = refl
-    by (Some lf) k = refl
+    by (Some lf) k = absurd (cc)
     by (Some cr) k = absurd (cc)
     by (Some crlf) k = absurd (cc)
 
-pub ending-some : (g : List HeldLine) (x : List ℕ) → x ≡ ending_bytes (last_ending g) → (length x == 0) ≡ false → x ≡ ending_of g
-ending-some g x is h = is ∙ by (last_ending g) (sym (ap is_empty is) ∙ sym (empty-length x) ∙ h)
+pub ending-some : (other : List ℕ) (g : List HeldLine) (x : List ℕ) → x ≡ ending_bytes (last_ending g) → (length x == 0) ≡ false → x ≡ ending_or other g
+ending-some other g x is h = is ∙ by (last_ending g) (sym (ap is_empty is) ∙ sym (empty-length x) ∙ h)
   where
-    by : (o : Option LineEnding) → is_empty (ending_bytes o) ≡ false → ending_bytes o ≡ line_ending_text (unwrap_or o lf)
+    by : (o : Option LineEnding) → is_empty (ending_bytes o) ≡ false → ending_bytes o ≡ unwrap_or (option_map line_ending_text o) other
     by None k = absurd (cc)
     by (Some e) k = refl
+
+-- ---- the last line ending of a body
+
+ends-by : (body front : List ℕ) (by : item.LineEnding) (rest : List ℕ) → body ≡ front ++ (line_ending_text (ending_of by) ++ rest) → HoldsNoLineEnding rest
+    → (ending_of by ≡ lf → ends_in_cr front ≡ false) → IsLastEndingOf body (line_ending_text (ending_of by))
+ends-by body front by rest whole plain alone = λ e groups ok are. ap line_ending_text (last-by body front by rest whole plain alone e groups ok are)
+
+module _ (body : List ℕ) (end : ℕ) (some : 0 < end) (within : end ≤ length body) (plain : HoldsNoLineEnding (drop end body)) where
+  pub ends-feed : get_or body (end - 1) 0 ≡ line_feed → IsLastEndingOf body (line_feed_after (take (end - 1) body))
+  ends-feed is =
+      let front = take (end - 1) body in
+      let rest = drop end body in
+      let whole : body ≡ front ++ line_feed ∷ rest = at-byte body end line_feed some within is in
+      elim (cases_Bool (ends_in_cr front)) [
+        | inl k ↦
+            let m = cr-last front k in
+            let parts : body ≡ m.0 ++ carriage_return ∷ line_feed ∷ rest =
+            whole ∙ ap (λ w. w ++ line_feed ∷ rest) m.1 ∙ append_assoc m.0 (carriage_return ∷ []) (line_feed ∷ rest) in
+            rw k (ends-by body m.0 CRLF rest parts plain (λ q. absurd (cc)))
+        | inr k ↦ rw k (ends-by body front LF rest whole plain (λ q. k))
+      ]
+
+  pub ends-return : get_or body (end - 1) 0 ≡ carriage_return → IsLastEndingOf body (carriage_return ∷ [])
+  ends-return is = ends-by body (take (end - 1) body) CR (drop end body) (at-byte body end carriage_return some within is) plain (λ q. absurd (cc))
+
+pub ends-nowhere : (body : List ℕ) (end : ℕ) → end ≡ 0 → HoldsNoLineEnding (drop end body) → IsLastEndingOf body (line_feed ∷ [])
+ends-nowhere body end none plain = λ e groups ok are. ap line_ending_text (last-none body end none plain e groups ok are)
+
+-- A last group without bytes, which isn't given, has no line ending.
+among-append : (by : LineEnding) (x y : List HeldLine) → ending_among by (x ++ y) ≡ ending_among (ending_among by x) y
+among-append by [] y = refl
+among-append by (l ∷ x) y = among-append (unwrap_or l.ending by) x y
+
+among-nothing : (by : LineEnding) (g : List HeldLine) → group_bytes g ≡ [] → ending_among by g ≡ by
+among-nothing by [] h = refl
+among-nothing by (l ∷ g) h =
+    let after = right-none l.bytes (ending_bytes l.ending ++ group_bytes g) h in
+    let none = own l.ending (left-none (ending_bytes l.ending) (group_bytes g) after) in
+    rw none (among-nothing by g (right-none (ending_bytes l.ending) (group_bytes g) after))
+  where
+    own : (o : Option LineEnding) → ending_bytes o ≡ [] → o ≡ None
+    own None k = refl
+    own (Some lf) k = absurd (cc)
+    own (Some cr) k = absurd (cc)
+    own (Some crlf) k = absurd (cc)
+
+    right-none : (x y : List ℕ) → x ++ y ≡ [] → y ≡ []
+    right-none [] y k = k
+    right-none (c ∷ x) y k = absurd (cc)
+
+among-given : (by : LineEnding) (all : List (List HeldLine)) → ending_among by (held_in (with_bytes all)) ≡ ending_among by (held_in all)
+among-given by [] = refl
+among-given by (g ∷ []) = elim (cases_Bool (is_empty (group_bytes g))) [
+  | inl k ↦ rw k (sym (ap (ending_among by) (append-nil g) ∙ among-nothing by g (no-bytes (group_bytes g) k)))
+  | inr k ↦ rw k refl
+]
+  where
+    no-bytes : (x : List ℕ) → is_empty x ≡ true → x ≡ []
+    no-bytes [] h = refl
+    no-bytes (c ∷ x) h = absurd (cc)
+among-given by (g ∷ h ∷ all) =
+    among-append by g (held_in (with_bytes (h ∷ all)))
+    ∙ among-given (ending_among by g) (h ∷ all)
+    ∙ sym (among-append by g (held_in (h ∷ all)))
+
+pub ending-found : {e : Encoding} {source key : List ℕ} {comment : Comment} (h : HasFound e source key (Some comment)) (body ending : List ℕ)
+    → body ≡ (byte_order_mark e source).body → IsLastEndingOf body ending → ending ≡ ending_in h.groups
+ending-found {e} {source} h body ending same last =
+    let force = byte_order_mark e source in
+    last force.encoding h.held.all h.editable (subst (λ w. AreGroupsOf force.encoding w h.held.all) (sym same) h.held.division)
+    ∙ ap line_ending_text (sym (among-given lf h.held.all) ∙ ap (λ w. ending_among lf (held_in w)) (sym h.held.are))
 
 -- ---- a comment line in bytes
 
@@ -306,9 +385,9 @@ module _ {e : Encoding} {source key : List ℕ} {comment : Comment} where
       let within = held.within in (omega arith, omega arith)
 
   -- What new lines have: as the first line that has a text,
-  pub style-as_line : (h : HasFound e source key (Some comment)) (model : ViewedGroup) (style : LineStyle) → comment.model ≡ Some model
-      → ((g : List HeldLine) → HoldsLine source g model → IsStyleOfLine g style) → IsStyleFor h.found_is.run h.found_is.group style
-  style-as_line h model style is made =
+  pub style-as_line : (h : HasFound e source key (Some comment)) (other : List ℕ) (model : ViewedGroup) (style : LineStyle) → comment.model ≡ Some model
+      → ((g : List HeldLine) → HoldsLine source g model → IsStyleOfLine other g style) → IsStyleFor other h.found_is.run h.found_is.group style
+  style-as_line h other model style is made =
       let m : IsModel comment.headed.start h.found_is.run model = rw is at h.found_is.model in
       inl (
         m.line,
@@ -317,9 +396,9 @@ module _ {e : Encoding} {source key : List ℕ} {comment : Comment} where
       )
 
   -- or as none.
-  pub style-as_pair : (h : HasFound e source key (Some comment)) (style : LineStyle) → comment.model ≡ None
-      → ((g : List HeldLine) → HoldsGroup source g comment.headed.group → IsStyleAbove g style) → IsStyleFor h.found_is.run h.found_is.group style
-  style-as_pair h style is made = inr (rw is at h.found_is.model, made h.found_is.group (pair-held h))
+  pub style-as_pair : (h : HasFound e source key (Some comment)) (other : List ℕ) (style : LineStyle) → comment.model ≡ None
+      → ((g : List HeldLine) → HoldsGroup source g comment.headed.group → IsStyleAbove other g style) → IsStyleFor other h.found_is.run h.found_is.group style
+  style-as_pair h other style is made = inr (rw is at h.found_is.model, made h.found_is.group (pair-held h))
 
 -- ---- new lines
 
@@ -338,7 +417,7 @@ prints-in_force r rep source f is ok h =
 
 -- They were put in place of the old ones.
 pub lines-put : {e : Encoding} {source key : List ℕ} {comment : Comment} (r : Repertoire) (style : LineStyle) (lines : List (List ℕ)) (new bytes all : List ℕ)
-    (c c' : Copied) (h : HasFound e source key (Some comment)) → IsStyleFor h.found_is.run h.found_is.group style → new ≡ flat_map (comment_line r style) lines
+    (c c' : Copied) (h : HasFound e source key (Some comment)) → IsStyleFor (ending_in h.groups) h.found_is.run h.found_is.group style → new ≡ flat_map (comment_line r style) lines
     → IsNew source c → IsReplacedIn c comment.headed.start comment.headed.group.start new c' → bytes ≡ copied_to c' (length c'.source.now)
     → all ≡ guarding_lf source bytes ++ bytes → HasNewLines r source (comment_in h.found_is) lines all
 lines-put {source = source} {comment = comment} r style lines new bytes all c c' h look printed began replaced copied whole =

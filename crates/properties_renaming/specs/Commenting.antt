@@ -2,14 +2,15 @@
 -- Source: java.util.Properties of Java SE 7, load (what a comment line is; a comment line is never continued).
 use Rattle.std.specs.Prelude.{◌≡◌, ◌≢◌, ◌⊎◌, ◌&&◌, ℕ, false, true, if◌then◌else◌, List, [], ◌∷◌, ◌++◌, flat_map, Result, Ok, Err}
 use Rattle.std.specs.Global.{Vec}
-use Rattle.std.specs.Option.{unwrap_or}
-use Rattle.properties_format.specs.Text.{begins, is_blank, is_comment_sign, is_empty, lf, line_ending_text, number_sign, space}
+use Rattle.std.specs.Option.{option_map, unwrap_or}
+use Rattle.properties_format.specs.Text.{begins, is_blank, is_comment_sign, is_empty, line_ending_text, number_sign, space}
 use Rattle.properties_format.specs.Encoding.{Repertoire, in_force}
 use Rattle.properties_format.specs.Lines.{Ended, IsLines, Lines, joined}
 use Rattle.properties_format.specs.Split.{AreBlanks}
 use Rattle.properties_format.specs.Printing.{in_prefix, encoded_text, printed_characters}
 use Rattle.properties_format.specs.Body.{HeldLine, as_lines, group_bytes, groups_bytes, last_ending}
 use Rattle.properties_format.specs.Edited.{bom_of, guarding_lf}
+use Rattle.properties_format.specs.Valued.{ending_in}
 use Rattle.properties_items.specs.Errors.{IsBareError}
 use Rattle.properties_items.specs.declared.error.ErrorKind.TheVariants as kind
 use Rattle.properties_editing.specs.Editing.{EditsWith, asked_for}
@@ -41,29 +42,29 @@ pub record LineStyle : Type 0 where
   pub blank : List ℕ
   pub ending : List ℕ
 
--- the line ending of a group, or an LF if it has none
-abbrev pub ending_of : List HeldLine → List ℕ
-ending_of group = line_ending_text (unwrap_or (last_ending group) lf)
+-- the line ending of a group, or another if it has none
+abbrev pub ending_or : List ℕ → List HeldLine → List ℕ
+ending_or other group = unwrap_or (option_map line_ending_text (last_ending group)) other
 
 -- A comment line has this: its indentation, its sign, the blank after the sign or none, and its line ending.
-pub record IsStyleOfLine (line : List HeldLine) (style : LineStyle) : Type 0 where
+pub record IsStyleOfLine (other : List ℕ) (line : List HeldLine) (style : LineStyle) : Type 0 where
   pub rest : List ℕ
   pub bytes : group_bytes line ≡ style.indent ++ (style.sign ∷ (style.blank ++ rest))
   pub indent_blank : AreBlanks style.indent
   pub is_sign : is_comment_sign style.sign ≡ true
   pub one_blank : (style.blank ≡ []) × (begins is_blank rest ≡ false) ⊎ (b : ℕ) × (is_blank b ≡ true) × (style.blank ≡ b ∷ [])
-  pub ending : style.ending ≡ ending_of line
+  pub ending : style.ending ≡ ending_or other line
 
--- What a comment line above a pair has that is the first: the indentation of the pair, a number sign, a space, and the
--- line ending of the pair.
-pub record IsStyleAbove (group : List HeldLine) (style : LineStyle) : Type 0 where
+-- A comment line has this if it can't look like one that is there: the indentation of the pair below it, a number sign, a
+-- space, and the line ending of the pair, or the other one if the pair has none.
+pub record IsStyleAbove (other : List ℕ) (group : List HeldLine) (style : LineStyle) : Type 0 where
   pub rest : List ℕ
   pub bytes : group_bytes group ≡ style.indent ++ rest
   pub indent_blank : AreBlanks style.indent
   pub rest_full : begins is_blank rest ≡ false
   pub sign : style.sign ≡ number_sign
   pub blank : style.blank ≡ space ∷ []
-  pub ending : style.ending ≡ ending_of group
+  pub ending : style.ending ≡ ending_or other group
 
 -- No text of these comment lines has characters,
 abbrev pub HaveNoText : List (List HeldLine) → Type 0
@@ -81,10 +82,10 @@ pub record IsFirstWithText (run : List (List HeldLine)) (line : List HeldLine) :
   pub some : text ≢ []
 
 -- New comment lines of a pair look like the first of its comment lines that has a text. If there is none, they have the
--- indentation and the line ending of the pair.
-abbrev pub IsStyleFor : List (List HeldLine) → List HeldLine → LineStyle → Type 0
-IsStyleFor run group style =
-    ((line : List HeldLine) × IsFirstWithText run line × IsStyleOfLine line style) ⊎ HaveNoText run × IsStyleAbove group style
+-- indentation and the line ending of the pair, or the other line ending if it has none.
+abbrev pub IsStyleFor : List ℕ → List (List HeldLine) → List HeldLine → LineStyle → Type 0
+IsStyleFor other run group style =
+    ((line : List HeldLine) × IsFirstWithText run line × IsStyleOfLine other line style) ⊎ HaveNoText run × IsStyleAbove other group style
 
 -- what comes between the sign and a text: nothing before a text without characters; at least one blank before a text
 -- that begins with a blank, so that it is read as it is
@@ -99,12 +100,13 @@ comment_line r style text =
 
 -- ---- the comment is set
 
--- The result has these comment lines in place of the comment, and every other byte of the source. An LF comes before
--- them if they would begin like a byte order mark and the source doesn't.
+-- The result is the source with these comment lines in place of the comment. If the pair has no line ending, since the
+-- source ends there, the lines have the last one of the source, or an LF if it has none. If the source has no byte order
+-- mark and its new groups would begin like one, an LF comes before them.
 pub record HasNewLines (r : Repertoire) (source : List ℕ) {groups : List (List HeldLine)} {key : List ℕ} (comment : IsCommentOf groups key)
     (lines : List (List ℕ)) (result : List ℕ) : Type 0 where
   pub style : LineStyle
-  pub is_style : IsStyleFor comment.run comment.group style
+  pub is_style : IsStyleFor (ending_in groups) comment.run comment.group style
   pub body : List ℕ
   pub body_is : body ≡ groups_bytes comment.before ++ (flat_map (comment_line r style) lines ++ (group_bytes comment.group ++ groups_bytes comment.after))
   pub whole : result ≡ bom_of source ++ (guarding_lf source body ++ body)

@@ -4,13 +4,14 @@ ghost use Rattle.std.specs.Prelude.{◌≡◌, ◌<◌, List, flat_map, length, 
 ghost use Rattle.std.specs.Str.{chars};
 ghost use Rattle.properties_format.specs.Text.{is_line_ending};
 ghost use Rattle.properties_format.specs.Body.{HeldLine, group_bytes};
+ghost use Rattle.properties_format.specs.Computed.Lines.{ends_in_cr};
 ghost use Rattle.properties_items.specs.Texts.{characters};
 ghost use Rattle.properties_text.specs.Encoding.{encoding_of};
 ghost use Rattle.properties_text.specs.Printing.{AppendsOnOk};
 ghost use Rattle.properties_editing.specs.Editing.{asked_for};
-ghost use Rattle.properties_renaming.specs.Commenting.{AreLinesOf, IsStyleAbove, IsStyleOfLine, SetsComment, ending_of, gap_before};
+ghost use Rattle.properties_renaming.specs.Commenting.{AreLinesOf, IsStyleAbove, IsStyleOfLine, SetsComment, ending_or, gap_before};
 ghost use Rattle.properties_renaming.specs.Private.CommentTexts.{first_blank};
-ghost use Rattle.properties_renaming.specs.Private.Commenting.{FindsComment, GivesComment, HoldsGroup, HoldsLine, IsFound, IsFoundSome, IsFoundStyle, MakesComment, PutsLines, ReadsCharacter, first_model, line_bytes, style_in};
+ghost use Rattle.properties_renaming.specs.Private.Commenting.{FindsComment, GivesComment, HoldsGroup, HoldsLine, IsFound, IsFoundSome, IsFoundStyle, IsLastEndingOf, MakesComment, PutsLines, ReadsCharacter, first_model, line_bytes, line_feed_after, style_in};
 
 use crate::comment_lines::{comment_text, is_comment_line};
 use crate::comments::{Headed, guarded, has_key};
@@ -32,11 +33,11 @@ use std::mem;
 /// the result is a copy of the source. Otherwise new lines replace the old ones, and every other byte stays.
 ///
 /// New lines look like the first old one that has a text: its indentation, its sign, the blank after it or none, and its
-/// line ending. If there is none, they have the indentation of the pair, `# `, and the line ending of the pair, or a
-/// line feed if it has none. No blank is before an empty text, and one always is before a text that begins with a blank,
-/// so that it is read as it is. Characters that these options don't let stand are written as escapes, and no others: a
-/// backslash stays. If the source has no byte order mark and the result would begin like one, a line feed is inserted
-/// before it.
+/// line ending. If there is none, they have the indentation of the pair, `# `, and the line ending of the pair. If the
+/// pair has none, since the source ends there, they have the last line ending of the source, or a line feed if it has
+/// none at all. No blank is before an empty text, and one always is before a text that begins with a blank, so that it
+/// is read as it is. Characters that these options don't let stand are written as escapes, and no others: a backslash
+/// stays. If the source has no byte order mark and the result would begin like one, a line feed is inserted before it.
 ///
 /// The source is read twice.
 ///
@@ -163,10 +164,10 @@ fn with_lines(
     requires { IsFound (encoding_of options.encoding) source.now comment.now }
     ensures { IfOk result (λ bytes. PutsLines (asked_for options) source.now comment.now (map characters lines.now) bytes.items) }
 {
-    let (encoding, _) = encoding_in_force(source, options.encoding);
+    let (encoding, start) = encoding_in_force(source, options.encoding);
     let repertoire = repertoire_for(options, encoding);
     let mut new = LineBuffer::new(alloc);
-    let style = style_for(source, comment);
+    let style = style_for(source, comment, last_ending(&source[start..]));
     print_lines(&mut new, repertoire, style, lines)?;
     let mut copied = Copied::new(alloc, source)?;
     copied.replace(
@@ -188,21 +189,21 @@ struct Style<'a> {
     ending: &'a [u8],
 }
 
-// Returns what new comment lines have.
-fn style_for<'a>(source: &'a [u8], comment: &Comment) -> Style<'a>
+// Returns what new comment lines have, given the line ending that they have if the pair has none.
+fn style_for<'a>(source: &'a [u8], comment: &Comment, other: &'a [u8]) -> Style<'a>
     requires { IsFoundSome source.now comment.now }
-    ensures { IsFoundStyle source.now comment.now (style_in result) }
+    ensures { IsFoundStyle source.now comment.now other.now (style_in result) }
 {
     match comment.model {
-        Some(line) => style_of(source, line),
-        None => style_above(source, comment.headed.group),
+        Some(line) => style_of(source, line, other),
+        None => style_above(source, comment.headed.group, other),
     }
 }
 
 // Returns what a comment line has.
-fn style_of(source: &[u8], line: ViewedGroup) -> Style<'_>
+fn style_of<'a>(source: &'a [u8], line: ViewedGroup, other: &'a [u8]) -> Style<'a>
     requires { (g : List HeldLine) × HoldsLine source.now g line }
-    ensures { (g : List HeldLine) → HoldsLine source.now g line → IsStyleOfLine g (style_in result) }
+    ensures { (g : List HeldLine) → HoldsLine source.now g line → IsStyleOfLine other.now g (style_in result) }
 {
     let bytes = bytes_of(source, line);
     let sign = leading_blanks(bytes);
@@ -210,21 +211,21 @@ fn style_of(source: &[u8], line: ViewedGroup) -> Style<'_>
         indent: &bytes[..sign],
         sign: bytes[sign],
         blank: first_blank(&bytes[sign + 1..]),
-        ending: ending_of(source, line),
+        ending: ending_or(source, line, other),
     }
 }
 
 // Returns what the first comment line above a pair has.
-fn style_above(source: &[u8], pair: ViewedGroup) -> Style<'_>
+fn style_above<'a>(source: &'a [u8], pair: ViewedGroup, other: &'a [u8]) -> Style<'a>
     requires { (g : List HeldLine) × HoldsGroup source.now g pair }
-    ensures { (g : List HeldLine) → HoldsGroup source.now g pair → IsStyleAbove g (style_in result) }
+    ensures { (g : List HeldLine) → HoldsGroup source.now g pair → IsStyleAbove other.now g (style_in result) }
 {
     let bytes = bytes_of(source, pair);
     Style {
         indent: &bytes[..leading_blanks(bytes)],
         sign: b'#',
         blank: b" ",
-        ending: ending_of(source, pair),
+        ending: ending_or(source, pair, other),
     }
 }
 
@@ -246,13 +247,45 @@ fn first_blank(bytes: &[u8]) -> &[u8]
     &bytes[..1]
 }
 
-// Returns the line ending of a group, or a line feed if it has none.
-fn ending_of(source: &[u8], group: ViewedGroup) -> &[u8]
+// Returns the line ending of a group, or another if it has none.
+fn ending_or<'a>(source: &'a [u8], group: ViewedGroup, other: &'a [u8]) -> &'a [u8]
     requires { (g : List HeldLine) × HoldsGroup source.now g group }
-    ensures { (g : List HeldLine) → HoldsGroup source.now g group → result.now ≡ ending_of g }
+    ensures { (g : List HeldLine) → HoldsGroup source.now g group → result.now ≡ ending_or other.now g }
 {
     let ending = &source[group.end..group.next];
-    if ending.is_empty() { b"\n" } else { ending }
+    if ending.is_empty() { other } else { ending }
+}
+
+// Returns the last line ending of a body, or a line feed if it has none.
+fn last_ending(body: &[u8]) -> &[u8]
+    ensures { IsLastEndingOf body.now result.now }
+{
+    let mut end = body.len();
+    while end > 0 {
+        match body[end - 1] {
+            b'\n' => return line_feed_after(&body[..end - 1]),
+            b'\r' => return b"\r",
+            _ => end -= 1,
+        }
+    }
+    b"\n"
+}
+
+// Returns the line ending that an LF after these bytes is, or the end of.
+fn line_feed_after(front: &[u8]) -> &[u8]
+    ensures { result.now ≡ line_feed_after front.now }
+{
+    if ends_in_cr(front) { b"\r\n" } else { b"\n" }
+}
+
+// Returns whether these bytes end in a CR.
+fn ends_in_cr(bytes: &[u8]) -> bool
+    ensures { result ≡ ends_in_cr bytes.now }
+{
+    if bytes.is_empty() {
+        return false;
+    }
+    bytes[bytes.len() - 1] == b'\r'
 }
 
 // Appends comment lines with these texts.

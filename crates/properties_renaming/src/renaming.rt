@@ -24,14 +24,14 @@ use std::alloc::{AllocError, Global};
 use std::error::Error;
 use std::fmt;
 
-/// Why [`rename_key`] renamed nothing.
+/// Why [`rename_key`] renamed nothing, or [`set_comment`](crate::set_comment) set nothing.
 #[derive(Debug, Drop)]
 pub enum RenameError {
     /// The source can't be edited, or memory ran out.
     Source(PropertiesError),
     /// No pair has the key.
     NoKey,
-    /// A pair has the new key already: the first one begins in this line.
+    /// A pair has the new key of `rename_key` already: the first one begins in this line.
     KeyTaken(usize),
 }
 

@@ -309,6 +309,27 @@ fn new_comment_lines_look_like_the_old_ones(rt: HostRuntime) -> Result<(), Fail>
 }
 
 #[test]
+fn a_new_line_ends_as_the_source_does(rt: HostRuntime) -> Result<(), Fail> {
+    let rows: [Commented; 8] = [
+        (b"a=1\r\nk=2", "k", "x", b"a=1\r\n# x\r\nk=2"),
+        (b"a=1\nb=2\rk=3", "k", "x", b"a=1\nb=2\r# x\rk=3"),
+        (b"k=1\\\r\n  2", "k", "x", b"# x\r\nk=1\\\r\n  2"),
+        (b"k=1\\\r\n", "k", "x", b"# x\r\nk=1\\\r\n"),
+        (b"# old\r\n\r\n#\r\nk", "k", "x", b"# old\r\n\r\n# x\r\nk"),
+        (b"a=1\r\n# old\nk=2", "k", "x", b"a=1\r\n# x\nk=2"),
+        (b"k=1\nb=2\r\nc", "k", "x", b"# x\nk=1\nb=2\r\nc"),
+        (
+            b"\xef\xbb\xbfa=1\r\nk=2",
+            "k",
+            "x",
+            b"\xef\xbb\xbfa=1\r\n# x\r\nk=2",
+        ),
+    ];
+    let options = SourceOptions::new(Encoding::UTF_8);
+    check_commented(&rt, rt.alloc(), options, rows.as_slice())
+}
+
+#[test]
 fn a_comment_has_what_the_encoding_has(rt: HostRuntime) -> Result<(), Fail> {
     let rows: [Commented; 3] = [
         (b"a=1\n", "a", "\u{e9} \u{3042}", b"# \xe9 \\u3042\na=1\n"),

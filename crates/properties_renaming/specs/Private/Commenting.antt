@@ -2,12 +2,13 @@
 use Rattle.std.specs.Prelude.{◌≡◌, ◌≢◌, ◌⊎◌, ◌++◌, ◌-◌, ℕ, ◌+◌, Bool, false, true, if◌then◌else◌, List, [], ◌∷◌, length, map, Option, Some, None, Result, Ok, Err}
 use Rattle.std.specs.Global.{Vec}
 use Rattle.std.specs.Option.{unwrap_or}
-use Rattle.properties_format.specs.Text.{is_empty}
+use Rattle.properties_format.specs.Text.{crlf, is_empty, lf, line_ending_text}
 use Rattle.properties_format.specs.Encoding.{Encoding, Repertoire, byte_order_mark, in_force}
 use Rattle.properties_format.specs.Lines.{HoldsNoLineEnding, is_comment_line, joined}
-use Rattle.properties_format.specs.Body.{HeldLine, HasKey, NoneHasKey, as_lines, ending_bytes, group_bytes, groups_bytes, last_ending}
+use Rattle.properties_format.specs.Body.{AreGroupsOf, HeldLine, HasKey, NoneHasKey, as_lines, ending_bytes, group_bytes, groups_bytes, last_ending}
 use Rattle.properties_format.specs.Edited.{bom_of, final_group, is_editable}
-use Rattle.properties_format.specs.Computed.Lines.{lines_of, rest_of_end}
+use Rattle.properties_format.specs.Valued.{ending_in}
+use Rattle.properties_format.specs.Computed.Lines.{ends_in_cr, lines_of, rest_of_end}
 use Rattle.properties_text.specs.Printing.{text_bytes}
 use Rattle.properties_text.specs.declared.print.Place.TheVariants.{Prefix}
 use Rattle.properties_text.specs.declared.print.Repertoire as code
@@ -143,10 +144,19 @@ HoldsLine source g group = HoldsGroup source g group × (is_comment_line (group_
 abbrev pub style_in : Style → LineStyle
 style_in style = record { indent = style.indent.now; sign = style.sign; blank = style.blank.now; ending = style.ending.now }
 
--- What new comment lines have.
-abbrev pub IsFoundStyle : List ℕ → Comment → LineStyle → Type 0
-IsFoundStyle source comment style =
-    (e : Encoding) (key : List ℕ) (h : HasFound e source key (Some comment)) → IsStyleFor h.found_is.run h.found_is.group style
+-- What new comment lines have, given the line ending that they have if the pair has none.
+abbrev pub IsFoundStyle : List ℕ → Comment → List ℕ → LineStyle → Type 0
+IsFoundStyle source comment other style =
+    (e : Encoding) (key : List ℕ) (h : HasFound e source key (Some comment)) → IsStyleFor other h.found_is.run h.found_is.group style
+
+-- This is the last line ending of a body, or an LF if it has none.
+abbrev pub IsLastEndingOf : List ℕ → List ℕ → Type 0
+IsLastEndingOf body ending =
+    (e : Encoding) (groups : List (List HeldLine)) → is_editable e ≡ true → AreGroupsOf e body groups → ending ≡ ending_in groups
+
+-- the line ending that an LF after these bytes is, or the end of
+abbrev pub line_feed_after : List ℕ → List ℕ
+line_feed_after front = line_ending_text (if ends_in_cr front then crlf else lf)
 
 -- ---- new lines
 

@@ -11,7 +11,7 @@ pub style_above-requires : goal.style_above-requires
 style_above-requires c = let h = c.requires.1.1 in (h.found_is.group, pair-held h)
 
 pub returns-in-Some : goal.returns-in-Some
-returns-in-Some c = λ e key h. style-as_line h c.in-Some.line (style_in c.style_of.result) c.in-Some.is c.style_of.ensures
+returns-in-Some c = λ e key h. style-as_line h c.args.other.now c.in-Some.line (style_in c.style_of.result) c.in-Some.is c.style_of.ensures
 
 pub returns-in-None : goal.returns-in-None
-returns-in-None c = λ e key h. style-as_pair h (style_in c.style_above.result) c.in-None.is c.style_above.ensures
+returns-in-None c = λ e key h. style-as_pair h c.args.other.now (style_in c.style_above.result) c.in-None.is c.style_above.ensures
