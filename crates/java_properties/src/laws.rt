@@ -22,7 +22,7 @@ ghost use Rattle.java_properties.specs.ReadBack.{IsGoodWriter};
 
 use crate::writer::PropertiesWriter;
 pub use properties_editing::laws::editing;
-pub use properties_renaming::laws::renaming;
+pub use properties_renaming::laws::{commenting, renaming};
 
 /// Reading is unique: what an input means exists and is unique, at each step and for each way in which the input ends.
 ///

@@ -82,7 +82,7 @@ abbrev all_but_first : List (List HeldLine) → List (List HeldLine)
 all_but_first [] = []
 all_but_first (g ∷ gs) = gs
 
-lead-next : (key : List ℕ) (g : List HeldLine) (gs : List (List HeldLine)) → LeadTo key (g ∷ gs) → HasKey key g ⊎ IsCommentGroup g × LeadTo key gs
+pub lead-next : (key : List ℕ) (g : List HeldLine) (gs : List (List HeldLine)) → LeadTo key (g ∷ gs) → HasKey key g ⊎ IsCommentGroup g × LeadTo key gs
 lead-next key g gs h = by h.run h.division h.are_comments
   where
     by : (run : List (List HeldLine)) → g ∷ gs ≡ run ++ h.group ∷ h.after → AreCommentGroups run → HasKey key g ⊎ IsCommentGroup g × LeadTo key gs

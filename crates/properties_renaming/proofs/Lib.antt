@@ -8,3 +8,4 @@ pub mod CommentTexts
 pub mod TextLines
 pub mod FoundComments
 pub mod NewComments
+pub mod CommentedContents

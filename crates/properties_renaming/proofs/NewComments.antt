@@ -118,8 +118,8 @@ sign-at b n within rest line =
     record { less = less; at = more; is_sign = ap (begins is_comment_sign) (sym more ∙ rest) ∙ line }
 
 -- What it has around its text.
-pub style-line : (other : List ℕ) (g : List HeldLine) (b : List ℕ) (style : LineStyle) (n : ℕ) → b ≡ group_bytes g → n ≤ length b → drop n b ≡ without_leading_blanks b
-    → is_comment_line (group_bytes g) ≡ true → style.indent ≡ take n b → style.sign ≡ get_or b n 0
+pub style-line : (other : List ℕ) (g : List HeldLine) (b : List ℕ) (style : LineStyle) (n : ℕ) → b ≡ group_bytes g → n ≤ length b
+    → drop n b ≡ without_leading_blanks b → is_comment_line (group_bytes g) ≡ true → style.indent ≡ take n b → style.sign ≡ get_or b n 0
     → style.blank ≡ first_blank (take (length b - (n + 1)) (drop (n + 1) b)) → style.ending ≡ ending_or other g → IsStyleOfLine other g style
 style-line other g b style n same within rest line indent sign blank ending =
     let s = sign-at b n within rest (ap is_comment_line same ∙ line) in
@@ -147,8 +147,8 @@ style-line other g b style n same within rest line indent sign blank ending =
     ]
 
 -- What the first comment line above a pair has.
-pub style-above : (other : List ℕ) (g : List HeldLine) (b : List ℕ) (style : LineStyle) (n : ℕ) → b ≡ group_bytes g → n ≤ length b → drop n b ≡ without_leading_blanks b
-    → style.indent ≡ take n b → style.sign ≡ 0x23 → style.blank ≡ 0x20 ∷ [] → style.ending ≡ ending_or other g → IsStyleAbove other g style
+pub style-above : (other : List ℕ) (g : List HeldLine) (b : List ℕ) (style : LineStyle) (n : ℕ) → b ≡ group_bytes g → n ≤ length b
+    → drop n b ≡ without_leading_blanks b → style.indent ≡ take n b → style.sign ≡ 0x23 → style.blank ≡ 0x20 ∷ [] → style.ending ≡ ending_or other g → IsStyleAbove other g style
 style-above other g b style n same within rest indent sign blank ending = record {
   rest = drop n b;
   bytes = sym same ∙ sym (take-append-drop n b) ∙ ap (λ v. v ++ drop n b) (sym indent);

@@ -60,12 +60,12 @@ ended-mark : (e : Encoding) (by : LineEnding) (g : List HeldLine) (y : List ℕ)
     → begins_like_bom (group_bytes g ++ y) ≡ begins_like_bom (group_bytes g)
 ended-mark e by g y a = grind (arith, bytes-of, append_assoc, ending-cut, append-nil)
 
-is-nil : (x : List ℕ) → is_empty x ≡ true → x ≡ []
+pub is-nil : (x : List ℕ) → is_empty x ≡ true → x ≡ []
 is-nil [] k = refl
 is-nil (b ∷ x) k = absurd (cc)
 
 -- A group without bytes is no pair.
-no-bytes : (e : Encoding) (o : Option LineEnding) (key : List ℕ) (g : List HeldLine) → AreLinesBy e o g → is_empty (group_bytes g) ≡ true → ¬ (HasKey key g)
+pub no-bytes : (e : Encoding) (o : Option LineEnding) (key : List ℕ) (g : List HeldLine) → AreLinesBy e o g → is_empty (group_bytes g) ≡ true → ¬ (HasKey key g)
 no-bytes e o key g a k =
     has_key-false key g (lf-no_key e o key g a (no-front (unended_bytes g) (ending_bytes (last_ending g)) (sym (bytes-unended g) ∙ is-nil (group_bytes g) k)))
 
@@ -229,15 +229,15 @@ renaming-contents r source old new name result h before sound =
 
 -- ---- the map
 
-abbrev value_of : Content → List ℕ → Option (List ℕ)
+abbrev pub value_of : Content → List ℕ → Option (List ℕ)
 value_of (pair k v) key = if bytes_eq k key then Some v else None
 value_of (comment text) key = None
 
-abbrev value_among : List Content → List ℕ → Option (List ℕ)
+abbrev pub value_among : List Content → List ℕ → Option (List ℕ)
 value_among [] key = None
 value_among (c ∷ cs) key = first_value (value_among cs key) (value_of c key)
 
-value-contents : (entries : List Entry) (key : List ℕ) → value_in entries key ≡ value_among (contents entries) key
+pub value-contents : (entries : List Entry) (key : List ℕ) → value_in entries key ≡ value_among (contents entries) key
 value-contents [] key = refl
 value-contents (entry ∷ entries) key = grind (arith, first-none, value-contents entries key)
 
@@ -283,7 +283,7 @@ module _ (old new : List ℕ) (apart : old ≢ new) where
 -- ---- there and back
 
 -- If no line is a pair with the key, no content is.
-hold-none : (key : List ℕ) (xs : List (List ℕ)) → NoneIsPair key xs → HoldNoPair key (contents_among true xs)
+pub hold-none : (key : List ℕ) (xs : List (List ℕ)) → NoneIsPair key xs → HoldNoPair key (contents_among true xs)
 hold-none key [] h = tt
 hold-none key (x ∷ xs) h = grind (arith, outcome_of-meets x, hold-none key xs h.1)
 
@@ -293,7 +293,7 @@ contents-back old new [] h = refl
 contents-back old new (c ∷ cs) h = grind (arith, other-test, same-test, bytes_eq-Decides, contents-back old new cs)
 
 -- The group without bytes is no pair.
-none-all : (e : Encoding) (key : List ℕ) (all : List (List HeldLine)) → AreInTurn e all → NoneHasKey key (with_bytes all) → NoneHasKey key all
+pub none-all : (e : Encoding) (key : List ℕ) (all : List (List HeldLine)) → AreInTurn e all → NoneHasKey key (with_bytes all) → NoneHasKey key all
 none-all e key [] a n = tt
 none-all e key (g ∷ []) a n = grind (arith, no-bytes e None key g a.0)
 none-all e key (g ∷ h ∷ gs) a n = (n.0, none-all e key (h ∷ gs) a.1 n.1)

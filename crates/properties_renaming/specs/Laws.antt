@@ -1,15 +1,20 @@
--- What a source says after a key was renamed. The new key isn't empty.
+-- What a source says after a key was renamed to one that isn't empty, after the comment of a key was set, and
+-- after a key was removed with its comments.
 -- Source: java.util.Properties of Java SE 7, load (a later pair takes the place of an earlier one).
-use Rattle.std.specs.Prelude.{◌≡◌, ◌≢◌, All, ℕ, bytes_eq, true, if◌then◌else◌, List, [], map, Option, None, Result, Ok, Err}
+use Rattle.std.specs.Prelude.{◌≡◌, ◌≢◌, ◌⊎◌, All, ℕ, bytes_eq, true, if◌then◌else◌, List, [], ◌∷◌, ◌++◌, map, Option, None, Result, Ok, Err}
 use Rattle.std.specs.Global.{Vec}
 use Rattle.properties_format.specs.Text.{scalar}
 use Rattle.properties_format.specs.Encoding.{Repertoire, byte_order_mark}
 use Rattle.properties_format.specs.Lines.{end}
 use Rattle.properties_format.specs.Items.{AreItems, Content, Entry, IsItems, comment, pair}
 use Rattle.properties_format.specs.Maps.{IsMap}
-use Rattle.properties_format.specs.Changed.{contents}
+use Rattle.properties_format.specs.Changed.{HoldNoPair, contents, map_edited}
+use Rattle.properties_format.specs.Edits.{remove}
 use Rattle.properties_format.specs.Edited.{is_editable}
+use Rattle.properties_format.specs.Writing.{HoldsNoBackslash}
 use Rattle.properties_editing.specs.declared.source.SourceOptions.{SourceOptions}
+use Rattle.properties_renaming.specs.Commented.{IsRemovedWithComments}
+use Rattle.properties_renaming.specs.Commenting.{IsCommentSet}
 use Rattle.properties_renaming.specs.Renaming.{IsRenamed, RenamesKey}
 use Rattle.properties_renaming.specs.declared.renaming.RenameError.{RenameError}
 use Rattle.properties_renaming.specs.declared.renaming.RenameError.TheVariants.{Source, NoKey, KeyTaken}
@@ -66,3 +71,60 @@ abbrev pub RenamingAgainIsRefused : SourceOptions → List ℕ → List ℕ → 
 RenamingAgainIsRefused options source old new =
     IsName new → old ≢ new → (bytes : Vec ℕ) → RenamesKey options source old new (Ok bytes)
     → (again : Result (Vec ℕ) RenameError) → RenamesKey options bytes.items old new again → IsRefused again
+
+-- ---- the comment of a key
+
+-- Comments directly above the last pair with the key are replaced by others, and all other contents are unchanged.
+pub record IsCommentChanged (key : List ℕ) (old new : List Content) : Type 0 where
+  pub before : List Content
+  pub old_texts : List (List ℕ)
+  pub new_texts : List (List ℕ)
+  pub value : List ℕ
+  pub after : List Content
+  pub was : old ≡ before ++ (map comment old_texts ++ pair key value ∷ after)
+  pub no_later : HoldNoPair key after
+  pub now : new ≡ before ++ (map comment new_texts ++ pair key value ∷ after)
+
+-- The encoding in force stays. If no entry is malformed then either, which an escape in the text may be, all contents but
+-- the comments above the pair are those of the source, in order.
+abbrev pub SettingTheCommentKeepsTheRest : Repertoire → List ℕ → List ℕ → List ℕ → Type 0
+SettingTheCommentKeepsTheRest r source key text =
+    All scalar text → (result : List ℕ) → IsCommentSet r source key text result → (before : List Entry) → AreSound r source before
+    → ((byte_order_mark r.encoding result).encoding ≡ (byte_order_mark r.encoding source).encoding)
+    × ((after : List Entry) → IsItems r.encoding result end after → AreItems after → IsCommentChanged key (contents before) (contents after))
+
+-- No entry is malformed if the text holds no backslash.
+abbrev pub SettingAPlainCommentBreaksNothing : Repertoire → List ℕ → List ℕ → List ℕ → Type 0
+SettingAPlainCommentBreaksNothing r source key text =
+    All scalar text → HoldsNoBackslash text → (result : List ℕ) → IsCommentSet r source key text result
+    → (before after : List Entry) → AreSound r source before → IsItems r.encoding result end after → AreItems after
+
+-- Every key keeps its value.
+abbrev pub SettingTheCommentKeepsTheMap : Repertoire → List ℕ → List ℕ → List ℕ → Type 0
+SettingTheCommentKeepsTheMap r source key text =
+    All scalar text → (result : List ℕ) → IsCommentSet r source key text result
+    → (before after : List Entry) → AreSound r source before → IsItems r.encoding result end after → AreItems after
+    → (value_at : List ℕ → Option (List ℕ)) → IsMap before value_at → IsMap after value_at
+
+-- Each pair with the key is left out, and comments may be; all other contents are unchanged.
+abbrev pub AreOthersIn : List ℕ → List Content → List Content → Type 0
+AreOthersIn key [] others = others ≡ []
+AreOthersIn key (comment text ∷ cs) others =
+    AreOthersIn key cs others ⊎ (more : List Content) × (others ≡ comment text ∷ more) × AreOthersIn key cs more
+AreOthersIn key (pair name value ∷ cs) others =
+    (name ≡ key) × AreOthersIn key cs others ⊎ (name ≢ key) × (more : List Content) × (others ≡ pair name value ∷ more) × AreOthersIn key cs more
+
+-- A key is removed with its comments: the encoding in force stays, no entry is malformed, and pairs with other keys are
+-- those of the source, in order.
+abbrev pub RemovingWithTheCommentKeepsTheRest : Repertoire → List ℕ → List ℕ → Type 0
+RemovingWithTheCommentKeepsTheRest r source key =
+    (result : List ℕ) → IsRemovedWithComments r.encoding source key result → (before : List Entry) → AreSound r source before
+    → ((byte_order_mark r.encoding result).encoding ≡ (byte_order_mark r.encoding source).encoding)
+    × ((after : List Entry) → IsItems r.encoding result end after → AreItems after × AreOthersIn key (contents before) (contents after))
+
+-- So the key has no value, and every other key keeps its own.
+abbrev pub RemovingWithTheCommentTakesTheValue : Repertoire → List ℕ → List ℕ → Type 0
+RemovingWithTheCommentTakesTheValue r source key =
+    (result : List ℕ) → IsRemovedWithComments r.encoding source key result
+    → (before after : List Entry) → AreSound r source before → IsItems r.encoding result end after
+    → (value_at : List ℕ → Option (List ℕ)) → IsMap before value_at → IsMap after (map_edited (remove key) value_at)

@@ -5,7 +5,7 @@
 ghost use Rattle.std.specs.Prelude.{ℕ, List};
 ghost use Rattle.properties_format.specs.Encoding.{Repertoire};
 ghost use Rattle.properties_editing.specs.declared.source.SourceOptions.{SourceOptions};
-ghost use Rattle.properties_renaming.specs.Laws.{RenamingAgainIsRefused, RenamingBackGivesTheContents, RenamingChangesTheKey, RenamingMovesTheValue};
+ghost use Rattle.properties_renaming.specs.Laws.{RenamingAgainIsRefused, RenamingBackGivesTheContents, RenamingChangesTheKey, RenamingMovesTheValue, RemovingWithTheCommentKeepsTheRest, RemovingWithTheCommentTakesTheValue, SettingAPlainCommentBreaksNothing, SettingTheCommentKeepsTheMap, SettingTheCommentKeepsTheRest};
 
 /// What a source says after a key was renamed to one that isn't empty, if none of its entries was malformed. The
 /// encoding in force stays, and no entry is malformed. The comments, and the pairs with their values, are those of the
@@ -24,4 +24,26 @@ pub fn renaming()
     ensures map { (r : Repertoire) (source old new : List ℕ) → RenamingMovesTheValue r source old new }
     ensures back { (r : Repertoire) (source old new : List ℕ) → RenamingBackGivesTheContents r source old new }
     ensures again { (options : SourceOptions) (source old new : List ℕ) → RenamingAgainIsRefused options source old new }
+{}
+
+/// What a source says after the comment of a key was set, and after a key was removed with its comments, if none of its
+/// entries was malformed. The encoding in force stays.
+///
+/// After [`set_comment`](crate::set_comment), the comments directly above the last pair with the key are others. All
+/// other comments, and the pairs with their values, are those of the source, in order, so every key keeps its value. This
+/// holds if no entry of the result is malformed, and none is if the text holds no backslash.
+///
+/// After [`remove_with_comment`](crate::remove_with_comment), no entry is malformed, and the pairs with other keys are
+/// those of the source, in order. So the key has no value, and every other key keeps its own.
+///
+/// ```text
+/// laws::commenting();
+/// // A proof that comes after may take the map of a source to be the one before its comment was set.
+/// ```
+pub fn commenting()
+    ensures set { (r : Repertoire) (source key text : List ℕ) → SettingTheCommentKeepsTheRest r source key text }
+    ensures sound { (r : Repertoire) (source key text : List ℕ) → SettingAPlainCommentBreaksNothing r source key text }
+    ensures map { (r : Repertoire) (source key text : List ℕ) → SettingTheCommentKeepsTheMap r source key text }
+    ensures removed { (r : Repertoire) (source key : List ℕ) → RemovingWithTheCommentKeepsTheRest r source key }
+    ensures removed_map { (r : Repertoire) (source key : List ℕ) → RemovingWithTheCommentTakesTheValue r source key }
 {}

@@ -45,7 +45,8 @@ returns c = λ key h.
     ∙ c.in_ok-print_lines.ensures
     ∙ ap (λ w. w ++ flat_map (line_bytes repertoire style) lines) c.new-new.ensures
     ∙ lines-printed (in_force r source) repertoire style lines prints in
-    let body = take_all (length source - c.encoding_in_force-encoding.result.1) (drop c.encoding_in_force-encoding.result.1 source) (let size = length-drop c.encoding_in_force-encoding.result.1 source in omega arith)
+    let start = c.encoding_in_force-encoding.result.1 in
+    let body = take_all (length source - start) (drop start source) (let size = length-drop start source in omega arith)
     ∙ ap (λ w. let f : InForce = w in f.body) (sym c.encoding_in_force-encoding.ensures.in_force) in
     let look = subst (λ w. IsStyleFor w h.found_is.run h.found_is.group (style_in style))
     (ending-found h _ c.last_ending.result.now body c.last_ending.ensures) (c.style_for-style.ensures (encoding_of c.args.options.encoding) key h) in
