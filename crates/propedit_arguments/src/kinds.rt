@@ -1,7 +1,8 @@
 // The kinds of findings that a check leaves out.
 
 use crate::command_line::{CommandRow, is_continued};
-use crate::mistake::{Mistake, have_same_letters, show_meant};
+use crate::labels::have_same_letters;
+use crate::mistake::{Mistake, show_meant};
 use properties_tools::messages::Escaped;
 use properties_tools::propedit::kinds::{Ignored, Kind};
 use std::fmt;

@@ -14,10 +14,13 @@
 mod command_line;
 mod edits;
 mod kinds;
+mod labels;
 pub mod mistake;
 mod not_utf_8;
 mod options;
 pub mod parse;
+mod wrong_edits;
+mod wrong_options;
 
 pub use command_line::{CommandName, CommandRow, OptionName, OptionRow, TypedOption};
 pub use not_utf_8::{explain_name, explain_not_utf_8, marked_words, name_of_marked};

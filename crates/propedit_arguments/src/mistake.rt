@@ -1,10 +1,16 @@
 // Why words ask for nothing.
 
-use crate::command_line::{
-    CommandName, CommandRow, OptionName, TypedOption, Usage, allowed, command_meant, command_named,
-    name_in, option_in, option_meant,
-};
+use crate::command_line::{CommandName, CommandRow, OptionName, TypedOption, Usage, command_named};
 use crate::kinds::show_no_kind;
+use crate::labels::{TARGETS, show_ascii_encoding, show_no_target, show_unknown_encoding};
+use crate::wrong_edits::{
+    show_no_edit, show_no_new_key, show_no_text, show_no_value, show_option_for_key_of,
+    show_two_assignments,
+};
+use crate::wrong_options::{
+    show_not_with, show_option_after, show_option_for_key, show_taken, show_two_files,
+    show_unknown_option,
+};
 use properties_tools::messages::Escaped;
 use std::alloc::{AllocError, AllocFailed};
 use std::fmt;
@@ -226,8 +232,6 @@ impl fmt::Display for EscapedBytes<'_> {
     }
 }
 
-const TARGETS: &str = "utf-8, iso-8859-1, windows-1252 or ascii";
-
 impl fmt::Display for Mistake<'_> {
     fn fmt<W: fmt::Write>(&self, f: &mut fmt::Formatter<W>) -> fmt::Result {
         match *self {
@@ -324,92 +328,6 @@ pub(crate) fn show_meant<W: fmt::Write>(
     write!(f, "; did you mean '{dashes}{name}'?")
 }
 
-// Prints that an option took a command as its value.
-fn show_taken<W: fmt::Write>(
-    f: &mut fmt::Formatter<W>,
-    option: TypedOption,
-    command: &str,
-) -> fmt::Result {
-    write!(f, "; the option '{option}' took '{command}' as its value")
-}
-
-// Prints that a word is no option, or none of this command, and what may be meant.
-fn show_unknown_option<W: fmt::Write>(
-    f: &mut fmt::Formatter<W>,
-    word: &str,
-    command: Option<&'static CommandRow>,
-) -> fmt::Result {
-    let option = option_in(word, command);
-    match (word.starts_with("--"), command, allowed(option, command)) {
-        (true, _, _) => write!(f, "unknown option '{}'", Escaped(name_in(word)))?,
-        (false, Some(_), None) => write!(f, "unknown option '{}'", Escaped(word))?,
-        _ => write!(f, "unknown option in '{}'", Escaped(word))?,
-    }
-    if let Some(row) = command {
-        write!(f, " of '{}'", row.name)?;
-        show_dashes(f, row)?;
-        if let Some(option) = option {
-            show_reading(f, option.option, row)?;
-        }
-    }
-    match (option_meant(word, command), command) {
-        (Some(row), _) => show_meant(f, "--", row.long),
-        (None, Some(row)) => show_other(f, name_in(word), row),
-        (None, None) => Ok(()),
-    }
-}
-
-// Prints what else may be meant by a long option that this command doesn't take.
-fn show_other<W: fmt::Write>(
-    f: &mut fmt::Formatter<W>,
-    word: &str,
-    row: &'static CommandRow,
-) -> fmt::Result {
-    match (row.command, word) {
-        // What sets a comment is a command of its own.
-        (CommandName::Comment, "--set") | (CommandName::Set, "--comment") => {
-            show_meant(f, "", "set-comment")
-        }
-        (CommandName::Remove, "--comment" | "--comments") => show_meant(f, "--", "with-comment"),
-        _ => Ok(()),
-    }
-}
-
-// Prints how the first argument of a command is given if it looks like an option.
-fn show_dashes<W: fmt::Write>(f: &mut fmt::Formatter<W>, row: &'static CommandRow) -> fmt::Result {
-    match row.first_argument() {
-        Some(what) => write!(f, "; a {what} that begins with a dash comes after '--'"),
-        None => Ok(()),
-    }
-}
-
-// Prints that a command has no use for an option, and how a file is read that was to be edited.
-fn show_not_with<W: fmt::Write>(
-    f: &mut fmt::Formatter<W>,
-    option: TypedOption,
-    row: &'static CommandRow,
-) -> fmt::Result {
-    write!(
-        f,
-        "the option '{option}' cannot be used with '{}'",
-        row.name
-    )?;
-    show_reading(f, option.row.option, row)
-}
-
-// Prints that files after a command exclude this option.
-fn show_two_files<W: fmt::Write>(
-    f: &mut fmt::Formatter<W>,
-    option: TypedOption,
-    row: &'static CommandRow,
-) -> fmt::Result {
-    let name = row.name;
-    write!(
-        f,
-        "the option '{option}' cannot be used with '{name} FILE ..'"
-    )
-}
-
 // Prints that standard input can't have the pairs too, and how the file to change is named.
 fn show_input_twice<W: fmt::Write>(
     f: &mut fmt::Formatter<W>,
@@ -446,20 +364,6 @@ fn show_one_input<W: fmt::Write>(
     )
 }
 
-// Prints where an option belongs that comes too late.
-fn show_option_after<W: fmt::Write>(
-    f: &mut fmt::Formatter<W>,
-    word: &str,
-    row: &'static CommandRow,
-) -> fmt::Result {
-    let word = Escaped(word);
-    let name = row.name;
-    write!(
-        f,
-        "unexpected '{word}': options of '{name}' come before the first argument"
-    )
-}
-
 // Prints that a command has no use for a word, and how a file is named.
 fn show_surplus<W: fmt::Write>(
     f: &mut fmt::Formatter<W>,
@@ -479,63 +383,6 @@ fn show_surplus<W: fmt::Write>(
     Ok(())
 }
 
-// Prints how a command reads a file that this option would edit.
-fn show_reading<W: fmt::Write>(
-    f: &mut fmt::Formatter<W>,
-    option: OptionName,
-    row: &'static CommandRow,
-) -> fmt::Result {
-    if option == OptionName::InPlace && row.options.contains(&OptionName::File) {
-        return f.write_str("; '-f FILE' reads a file");
-    }
-    Ok(())
-}
-
-// Prints that a word is no edit, and which one may be meant, or what comes after an edit.
-fn show_no_edit<W: fmt::Write>(f: &mut fmt::Formatter<W>, word: &str) -> fmt::Result {
-    write!(f, "unknown edit '{}'", Escaped(word))?;
-    match command_meant(word) {
-        Some(row) if row.is_edit() => show_meant(f, "", row.name),
-        _ => f.write_str(
-            ": each edit begins with set, remove, rename or set-comment, \
-            options come before the first KEY, and a text of several words needs quotes",
-        ),
-    }
-}
-
-// Prints that a command has no key, and how to write one that was taken for an option.
-fn show_option_for_key<W: fmt::Write>(
-    f: &mut fmt::Formatter<W>,
-    row: &'static CommandRow,
-) -> fmt::Result {
-    write!(f, "'{}' requires a KEY", row.name)?;
-    show_dashes(f, row)
-}
-
-// Prints that an edit of a key has no second text, and how to write a key that was taken for an option.
-fn show_option_for_key_of<W: fmt::Write>(
-    f: &mut fmt::Formatter<W>,
-    key: &str,
-    row: &'static CommandRow,
-) -> fmt::Result {
-    match row.command {
-        CommandName::Rename => show_no_new_key(f, key)?,
-        CommandName::SetComment => show_no_text(f, key)?,
-        _ => write!(f, "'set {}' requires a VALUE", Escaped(key))?,
-    }
-    show_dashes(f, row)
-}
-
-// Prints that the renaming of a key has no new key.
-fn show_no_new_key<W: fmt::Write>(f: &mut fmt::Formatter<W>, key: &str) -> fmt::Result {
-    write!(f, "'rename {}' requires a new KEY", Escaped(key))
-}
-
-// Prints that the comment of a key has no text.
-fn show_no_text<W: fmt::Write>(f: &mut fmt::Formatter<W>, key: &str) -> fmt::Result {
-    write!(f, "'set-comment {}' requires a TEXT", Escaped(key))
-}
-
 // Prints that a key is the name of a file, and how to read that file.
 fn show_file_as_key<W: fmt::Write>(f: &mut fmt::Formatter<W>, name: &str) -> fmt::Result {
     let name = Escaped(name);
@@ -545,150 +392,10 @@ fn show_file_as_key<W: fmt::Write>(f: &mut fmt::Formatter<W>, name: &str) -> fmt
     )
 }
 
-// Prints that the setting of a key has no value, and how to write one that is joined to the key.
-fn show_no_value<W: fmt::Write>(f: &mut fmt::Formatter<W>, key: &str) -> fmt::Result {
-    write!(f, "'set {}' requires a VALUE", Escaped(key))?;
-    match key.split_once('=') {
-        Some((key, value)) => {
-            f.write_str("; did you mean '")?;
-            show_setting(f, key, value)?;
-            f.write_str("'?")
-        }
-        None => Ok(()),
-    }
-}
-
-// Prints that a key and a value look like two settings, how to write these, and how to write the key.
-fn show_two_assignments<W: fmt::Write>(
-    f: &mut fmt::Formatter<W>,
-    key: &str,
-    value: &str,
-) -> fmt::Result {
-    write!(
-        f,
-        "'set {} {}': did you mean '",
-        Escaped(key),
-        Escaped(value)
-    )?;
-    show_assignment(f, key)?;
-    f.write_str(" ")?;
-    show_assignment(f, value)?;
-    write!(f, "'? For the key '{}', write 'set -- ", Escaped(key))?;
-    show_argument(f, key)?;
-    f.write_str(" ")?;
-    show_argument(f, value)?;
-    f.write_str("'")
-}
-
-// Prints the setting that a text in the form NAME=TEXT is meant for.
-fn show_assignment<W: fmt::Write>(f: &mut fmt::Formatter<W>, text: &str) -> fmt::Result {
-    let (key, value) = text.split_once('=').unwrap_or((text, ""));
-    show_setting(f, key, value)
-}
-
-fn show_setting<W: fmt::Write>(f: &mut fmt::Formatter<W>, key: &str, value: &str) -> fmt::Result {
-    f.write_str(if key.starts_with('-') {
-        "set -- "
-    } else {
-        "set "
-    })?;
-    show_argument(f, key)?;
-    f.write_str(" ")?;
-    show_argument(f, value)
-}
-
-// Prints an argument, in quotes if a shell would take it for none or for several.
-fn show_argument<W: fmt::Write>(f: &mut fmt::Formatter<W>, text: &str) -> fmt::Result {
-    if text.is_empty() || text.contains(' ') {
-        write!(f, "\"{}\"", Escaped(text))
-    } else {
-        write!(f, "{}", Escaped(text))
-    }
-}
-
 // Prints that a command has no argument, and what it may be.
 fn show_no_word<W: fmt::Write>(f: &mut fmt::Formatter<W>, row: &'static CommandRow) -> fmt::Result {
     match row.command {
         CommandName::Convert => write!(f, "'{}' requires an ENCODING: {TARGETS}", row.name),
         _ => write!(f, "'{}' requires a {}", row.name, row.words),
     }
-}
-
-// Prints that no conversion is to this encoding, and which one may be meant, or which there are.
-fn show_no_target<W: fmt::Write>(f: &mut fmt::Formatter<W>, word: &str) -> fmt::Result {
-    write!(f, "cannot convert to '{}'; ", Escaped(word))?;
-    match target_meant(word) {
-        Some(hint) => f.write_str(hint),
-        None => write!(f, "use {TARGETS}"),
-    }
-}
-
-// Prints that no encoding has this label, and which one may be meant, or which there are.
-fn show_unknown_encoding<W: fmt::Write>(f: &mut fmt::Formatter<W>, label: &str) -> fmt::Result {
-    write!(f, "unknown encoding '{}'", Escaped(label))?;
-    match label_meant(label) {
-        Some(meant) => show_meant(f, "", meant),
-        None => f.write_str("; use utf-8, iso-8859-1, windows-1252, utf-16le or utf-16be"),
-    }
-}
-
-// Prints what a label that means ASCII stands for, and how to find what isn't ASCII.
-fn show_ascii_encoding<W: fmt::Write>(f: &mut fmt::Formatter<W>, label: &str) -> fmt::Result {
-    write!(
-        f,
-        "encoding '{}': ASCII is read as windows-1252; write '-e windows-1252' if that is meant, \
-        or '-a check' to find non-ASCII characters",
-        Escaped(label)
-    )
-}
-
-// Returns what is said of an encoding that no conversion is to: which one may be meant.
-fn target_meant(word: &str) -> Option<&'static str> {
-    if means_ascii(word) {
-        return Some("did you mean 'ascii'?");
-    }
-    match label_meant(word) {
-        Some("utf-8") => Some("did you mean 'utf-8'?"),
-        Some("windows-1252" | "cp1252") => Some("did you mean 'windows-1252'?"),
-        Some("latin1" | "iso-8859-1") => Some("did you mean 'iso-8859-1'?"),
-        _ => None,
-    }
-}
-
-/// Returns whether this label means ASCII to people who write it.
-pub(crate) fn means_ascii(label: &str) -> bool {
-    ASCII_LABELS
-        .iter()
-        .any(|ascii| have_same_letters(ascii, label))
-}
-
-const ASCII_LABELS: &[&str] = &["ascii", "us-ascii", "ansi_x3.4-1968"];
-
-// Labels that people write with other signs between their letters and digits.
-const LABELS: &[&str] = &[
-    "windows-1252",
-    "utf-8",
-    "utf-16le",
-    "utf-16be",
-    "utf-16",
-    "latin1",
-    "iso-8859-1",
-    "cp1252",
-];
-
-// Returns the label that has the letters and digits of this one.
-fn label_meant(label: &str) -> Option<&'static str> {
-    LABELS
-        .iter()
-        .find(|meant| have_same_letters(meant, label))
-        .copied()
-}
-
-/// Returns whether two names have the same letters and digits, in any case.
-pub(crate) fn have_same_letters(one: &str, other: &str) -> bool {
-    let letters = one.bytes().filter(u8::is_ascii_alphanumeric);
-    let others = other.bytes().filter(u8::is_ascii_alphanumeric);
-    letters
-        .map(|letter| letter.to_ascii_lowercase())
-        .eq(others.map(|letter| letter.to_ascii_lowercase()))
 }

@@ -3,7 +3,8 @@
 use crate::command_line::{
     CommandRow, OptionName, TypedOption, allowed, command_named, is_latin_1, option_in, option_of,
 };
-use crate::mistake::{Mistake, NoRequest, means_ascii};
+use crate::labels::means_ascii;
+use crate::mistake::{Mistake, NoRequest};
 use java_properties::{Encoding, Spelling};
 use properties_tools::propedit::request::{
     AbsentKeys, Command, Destination, Form, Job, Missing, Report, Request, Source, Terminator,
