@@ -6,8 +6,8 @@
 SEEDS seeds, 3 if left out, with SOURCES sources each, 20,000 if left out: short ones in windows-1252 and UTF-8, many
 with joins, malformed escapes, ill-formed bytes or a byte order mark. They become rows of tables, whose right sides the
 model makes: kinds, lines, raw texts, all places, malformed escapes with line and column, and ill-formed lines. PROGRAM
-is a built `properties_vectors`, as `crates/properties_vectors/out/properties_vectors`; without it the program is built
-and not proved. Exit status 1 if a row doesn't hold.
+is a built `editing_vectors`, as `crates/editing_vectors/out/editing_vectors`; without it the program is built and not
+proved. Exit status 1 if a row doesn't hold.
 """
 import os
 import random
@@ -219,7 +219,7 @@ def main():
             tables.append(f"{work}/seed_{seed}.txt")
             with open(tables[-1], "w", encoding="utf-8") as table:
                 table.write(table_of(seed, count))
-        ran = subprocess.run(program + ["quick"] + tables, cwd=f"{ROOT}/crates/properties_vectors", stdout=subprocess.PIPE, text=True)
+        ran = subprocess.run(program + tables, cwd=f"{ROOT}/crates/editing_vectors", stdout=subprocess.PIPE, text=True)
     printed = [line.replace(work + "/", "") for line in ran.stdout.splitlines()]
     print("\n".join(printed[:40]))
     sys.exit(sum(line.endswith(f": {count} rows hold") for line in printed) != seeds)

@@ -33,13 +33,16 @@ CRATES = {
     "properties_changing": (0, "library", "a file changed in place"),
     "properties_tools": (1, "library", "what the programs do"),
     "properties_tests": (2, "test", "tests of the library"),
-    "properties_vectors": (3, "test", "tables of examples"),
+    "vector_notation": (3, "test", "rows of examples"),
+    "*_vectors": (3, "test", "examples: read, write, edit"),
     "calling": (0, "test", "the examples of the pages"),
     "propedit_arguments": (1, "library", "the arguments of propedit"),
     "propfilter": (2, "public", "a program"),
     "propedit": (1, "public", "a program"),
     "program_tests": (2, "test", "tests of the programs"),
 }
+# Crates that share a box, under this name.
+SHARED = {"reading_vectors": "*_vectors", "writing_vectors": "*_vectors", "editing_vectors": "*_vectors"}
 KINDS = {
     "public": "for users",
     "library": "parts of these",
@@ -108,7 +111,8 @@ def uses():
     for line in (TOP / "crates.txt").read_text().splitlines():
         if ":" in line and not line.startswith("#"):
             front, used = line.split(":", 1)
-            listed[front.split()[0]] = used.split()
+            crate = front.split()[0]
+            listed.setdefault(SHARED.get(crate, crate), {}).update(dict.fromkeys(used.split()))
     return {crate: [name for name in used if name in listed] for crate, used in listed.items()}
 
 

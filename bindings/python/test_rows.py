@@ -1,5 +1,5 @@
 #!/usr/bin/env python3
-"""Runs the rows of the tables of crates/properties_vectors through the module todrenval, and tries what no row says.
+"""Runs the rows of the tables of crates/*_vectors through the module todrenval, and tries what no row says.
 
     TODRENVAL_LIBRARY=FOLDER/libtodrenval.so.2 bindings/python/test_rows.py [LENGTH]
 
@@ -35,7 +35,7 @@ import todrenval  # noqa: E402
 from todrenval import Comment, Pair, PropertiesError, RemoveKey, SetKey, SetValue, Status  # noqa: E402
 
 TOP = pathlib.Path(__file__).resolve().parent.parent.parent
-TABLES = TOP / "crates/properties_vectors/data"
+PROGRAMS = "crates/*_vectors"
 KINDS = {
     Status.NOT_ENOUGH_DIGITS: "NotEnoughDigits",
     Status.NOT_HEX: "NotHex",
@@ -489,7 +489,7 @@ class Count:
 
 def run_tables(count):
     rows, reasons = 0, {}
-    for path in sorted(TABLES.glob("*.txt")):
+    for path in sorted(TOP.glob(f"{PROGRAMS}/data/*.txt")):
         function, encodings = None, []
         for number, line in enumerate(path.read_text(encoding="utf-8").split("\n"), 1):
             line = line.strip()
@@ -510,7 +510,7 @@ def run_tables(count):
                     reasons[str(why)] = reasons.get(str(why), 0) + 1
                 except Exception as error:  # noqa: BLE001
                     count.check(False, f"{place}: {error!r}")
-    stored = re.findall(r": (\d+) rows hold", (TABLES.parent / "stdout").read_text())
+    stored = re.findall(r": (\d+) rows hold", "".join(path.read_text() for path in TOP.glob(f"{PROGRAMS}/stdout")))
     count.check(rows == sum(map(int, stored)), f"{rows} rows of tables")
     run = rows - sum(reasons.values())
     print(f"{run} of {rows} rows of tables were run. Left out:")

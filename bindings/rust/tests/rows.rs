@@ -1,4 +1,4 @@
-//! Runs the rows of the tables of `crates/properties_vectors`, as far as this crate has calls for them, and says how many it
+//! Runs the rows of the tables of `crates/*_vectors`, as far as this crate has calls for them, and says how many it
 //! leaves out. docs/TABLES.md has the notation.
 #![allow(clippy::format_push_string, clippy::unnecessary_wraps)]
 mod streams;
@@ -486,11 +486,24 @@ fn run(kind: &str, encoding: Encoding, left: &str, right: &str) -> Row {
     }
 }
 
+/// The programs that run the tables.
+const PROGRAMS: [&str; 3] = ["editing_vectors", "reading_vectors", "writing_vectors"];
+
+/// How many rows of each table a program says to hold.
+fn counts(stdout: &str) -> Vec<usize> {
+    stdout
+        .lines()
+        .map(|line| line.split(' ').nth(1).unwrap().parse().unwrap())
+        .collect()
+}
+
 #[test]
 fn rows_hold() {
-    let crate_folder = Path::new(env!("CARGO_MANIFEST_DIR")).join("../../crates/properties_vectors");
-    let mut tables: Vec<_> = fs::read_dir(crate_folder.join("data"))
-        .unwrap()
+    let crates = Path::new(env!("CARGO_MANIFEST_DIR")).join("../../crates");
+    let programs = PROGRAMS.map(|name| crates.join(name));
+    let mut tables: Vec<_> = programs
+        .iter()
+        .flat_map(|program| fs::read_dir(program.join("data")).unwrap())
         .map(|entry| entry.unwrap().path())
         .collect();
     tables.sort();
@@ -526,9 +539,9 @@ fn rows_hold() {
         }
     }
     println!("{rows} rows, of which are left out: {left_out:?}");
-    let stored = fs::read_to_string(crate_folder.join("stdout")).unwrap();
-    let stored = stored
-        .lines()
-        .map(|line| line.split(' ').nth(1).unwrap().parse::<usize>().unwrap());
-    assert_eq!((wrong, rows), (0, stored.sum()));
+    let stored: usize = programs
+        .iter()
+        .flat_map(|program| counts(&fs::read_to_string(program.join("stdout")).unwrap()))
+        .sum();
+    assert_eq!((wrong, rows), (0, stored));
 }
