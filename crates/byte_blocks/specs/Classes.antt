@@ -2,8 +2,8 @@
 use Rattle.std.specs.Prelude.{ℕ, ◌==◌, ◌||◌, ◌%◌, nat_le, nat_lt, Bool, List, get_or}
 
 -- a CR or an LF
-abbrev pub is_line_ending : ℕ → Bool
-is_line_ending b = b == 0x0a || b == 0x0d
+abbrev pub is_ending_byte : ℕ → Bool
+is_ending_byte b = b == 0x0a || b == 0x0d
 
 -- a byte below the space
 abbrev pub is_control : ℕ → Bool

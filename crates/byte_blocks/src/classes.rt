@@ -1,7 +1,7 @@
 // Classes of bytes.
 
 ghost use Rattle.std.specs.Prelude.{◌≡◌, ◌==◌, ◌||◌, ◌&&◌, ℕ, nat_le, Bool, not, map};
-ghost use Rattle.byte_blocks.specs.Classes.{is_line_ending, is_control, is_non_ascii, matches_table};
+ghost use Rattle.byte_blocks.specs.Classes.{is_ending_byte, is_control, is_non_ascii, matches_table};
 
 use super::marks::Marks;
 use std::marker::PhantomData;
@@ -82,7 +82,7 @@ pub struct LineEndings;
 static LINE_ENDS: [u8; 16] = [1, 0, 0, 0, 0, 0, 0, 0, 0, 0, b'\n', 0, 0, b'\r', 0, 0];
 
 impl ByteClass for LineEndings {
-    ghost holds = { is_line_ending };
+    ghost holds = { is_ending_byte };
 
     #[inline(always)]
     fn marks(block: u8x16) -> Marks {

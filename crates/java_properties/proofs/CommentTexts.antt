@@ -7,12 +7,12 @@ use Rattle.properties_format.specs.Items.{Outcome, broken, given, ignored}
 use Rattle.properties_format.specs.Items as content
 use Rattle.properties_format.specs.Split.{Logical, IsSplit}
 use Rattle.properties_format.specs.Computed.Body.{is_pair_with, outcome_key}
-use Rattle.properties_format.specs.Computed.Edited.{IsSound}
+use Rattle.properties_format.specs.Computed.Edited.{IsSoundOutcome}
 use Rattle.properties_format.specs.Computed.Items.{outcome_of}
 use Rattle.properties_format.proofs.Items.Unique.{outcome_of-only}
 use Rattle.properties_format.proofs.Valued.Parts.{comment_line-no_pair}
 use Rattle.properties_items.specs.BorrowedItems.{outcome_pair}
-use Rattle.properties_editing.specs.Views.{kind_of}
+use Rattle.properties_editing.specs.Views.{group_kind}
 use Rattle.properties_editing.specs.declared.group.GroupKind.{GroupKind}
 use Rattle.properties_editing.specs.declared.group.GroupKind.TheVariants as kind
 use Rattle.properties_editing.specs.declared.source.Comments.TheVariants.{PassedOver}
@@ -33,10 +33,10 @@ no-key key (broken why) h = refl
 pub no-pair : (key : List ℕ) (k : GroupKind) (x : List ℕ) → IsKindOf k x → (k ≡ kind.Pair → ⊥) → (false ≡ is_pair_with key (outcome_of x)) × IsSoundLine x
 no-pair key k x (what, s, is) other = by what s is
   where
-    by : (w : Logical) → IsSplit x w → k ≡ kind_of w → (false ≡ is_pair_with key (outcome_of x)) × IsSoundLine x
+    by : (w : Logical) → IsSplit x w → k ≡ group_kind w → (false ≡ is_pair_with key (outcome_of x)) × IsSoundLine x
     by Logical.blank s is =
         let o : outcome_of x ≡ ignored = sym (outcome_of-only x ignored s) in
-        (sym (ap (is_pair_with key) o), inl (subst IsSound (sym o) tt))
+        (sym (ap (is_pair_with key) o), inl (subst IsSoundOutcome (sym o) tt))
     by (Logical.comment text) s is =
         let line = shown-comment k x (Logical.comment text, s, is) (ap is_comment is) in
         (no-key key (outcome_of x) (passed-no_pair PassedOver x line).0, inr line)
@@ -46,7 +46,7 @@ no-pair key k x (what, s, is) other = by what s is
 pub pair-line : (k : GroupKind) (x : List ℕ) → IsKindOf k x → k ≡ kind.Pair → is_comment_line x ≡ false
 pair-line k x (what, s, is) pair = by what s (sym is ∙ pair)
   where
-    by : (w : Logical) → IsSplit x w → kind_of w ≡ kind.Pair → is_comment_line x ≡ false
+    by : (w : Logical) → IsSplit x w → group_kind w ≡ kind.Pair → is_comment_line x ≡ false
     by Logical.blank s h = absurd (cc)
     by (Logical.comment text) s h = absurd (cc)
     by (Logical.pair name value) s h = elim (cases_Bool (is_comment_line x)) [
@@ -63,7 +63,7 @@ pub found-pair : (key k v : List ℕ) (x : List ℕ) (same : Bool) → Some (k, 
     → (same ≡ is_pair_with key (outcome_of x)) × IsSoundLine x
 found-pair key k v x same is eq = by (outcome_of x) is
   where
-    by : (o : Outcome) → Some (k, v) ≡ outcome_pair o → (same ≡ is_pair_with key o) × (IsSound o ⊎ (is_comment_line x ≡ true))
+    by : (o : Outcome) → Some (k, v) ≡ outcome_pair o → (same ≡ is_pair_with key o) × (IsSoundOutcome o ⊎ (is_comment_line x ≡ true))
     by ignored h = absurd (cc)
     by (given (content.comment t)) h = absurd (cc)
     by (given (content.pair l w)) h = (eq ∙ ap (λ u. bytes_eq u key) (ap first_text h), inl tt)
@@ -71,5 +71,5 @@ found-pair key k v x same is eq = by (outcome_of x) is
 
 pub found-none : (key x : List ℕ) (c : content.Content) → outcome_of x ≡ given c → None ≡ outcome_pair (outcome_of x)
     → (false ≡ is_pair_with key (outcome_of x)) × IsSoundLine x
-found-none key x (content.comment t) o none = (sym (ap (is_pair_with key) o), inl (subst IsSound (sym o) tt))
+found-none key x (content.comment t) o none = (sym (ap (is_pair_with key) o), inl (subst IsSoundOutcome (sym o) tt))
 found-none key x (content.pair k v) o none = let h = none ∙ ap outcome_pair o in absurd (cc)

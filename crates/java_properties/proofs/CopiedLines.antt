@@ -36,7 +36,7 @@ use Rattle.properties_text.specs.declared.escape.UnescapeError.TheVariants as er
 use Rattle.properties_text.specs.declared.parse.ParsedSpans.{ParsedSpans}
 use Rattle.properties_text.specs.declared.parse.ParsedSpans.TheVariants as spans
 use Rattle.properties_text.specs.declared.parse.Span.{Span}
-use Rattle.properties_text.specs.PrintedTexts.{key_of, value_of}
+use Rattle.properties_text.specs.PrintedTexts.{key_meaning, value_meaning}
 use Rattle.properties_text.specs.declared.print.Pair.{Pair}
 use Rattle.properties_items.specs.Errors.{IsUnresolvedError}
 use Rattle.properties_items.specs.BorrowedItems.{IsNoItem}
@@ -46,7 +46,7 @@ use Rattle.properties_items.proofs.FoundItems.{blank-item}
 use Rattle.properties_items.proofs.Scalars.{chars-scalars}
 use Rattle.java_properties.specs.Copying.{HasScalars}
 use Rattle.java_properties.specs.Private.LineByLine.{HasBuilt, IsNoPair, BuildsLine}
-use Rattle.java_properties.specs.Private.Engine.{line_bytes, takes_span, BuildsPair, NumbersLine}
+use Rattle.java_properties.specs.Private.Engine.{engine_line_bytes, takes_span, BuildsPair, NumbersLine}
 use Rattle.java_properties.specs.declared.writer.engine.Engine.{Engine}
 
 -- ---- the parts of a line
@@ -237,12 +237,12 @@ module _ (e : LineEncoding) (line bytes : List ℕ) (key value : Span) (f : AreF
   pub value-well : IsWell e (bytes_in bytes value)
   value-well = subst (IsWell e) (sym same-value) (well-in e line value f.well (λ u. (f.spans u).1))
 
-  module _ (old w : Engine) (p : Pair) (k : key_of p ≡ meaning_of (text_in e (bytes_in bytes key)))
-      (v : value_of p ≡ meaning_of (text_in e (bytes_in bytes value))) where
-    key-means : meaning_of (text_in e (bytes_in line key)) ≡ key_of p
+  module _ (old w : Engine) (p : Pair) (k : key_meaning p ≡ meaning_of (text_in e (bytes_in bytes key)))
+      (v : value_meaning p ≡ meaning_of (text_in e (bytes_in bytes value))) where
+    key-means : meaning_of (text_in e (bytes_in line key)) ≡ key_meaning p
     key-means = sym (k ∙ ap (λ x. meaning_of (text_in e x)) same-key)
 
-    value-means : meaning_of (text_in e (bytes_in line value)) ≡ value_of p
+    value-means : meaning_of (text_in e (bytes_in line value)) ≡ value_meaning p
     value-means = sym (v ∙ ap (λ x. meaning_of (text_in e x)) same-value)
 
     -- the line of a pair was built
@@ -260,7 +260,7 @@ module _ (e : LineEncoding) (line bytes : List ℕ) (key value : Span) (f : AreF
           outcome = o;
           scalars = pair-scalars text b.0 b.1 scalars o;
           numbers = subst (λ a. NumbersLine w a number) accepts numbers;
-          built = b.4 ∙ sym (ap (λ (x : Engine). line_bytes x (pair b.0 b.1)) same);
+          built = b.4 ∙ sym (ap (λ (x : Engine). engine_line_bytes x (pair b.0 b.1)) same);
         }
 
     -- or the pair is malformed, or memory ran out

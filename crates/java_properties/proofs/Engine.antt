@@ -17,7 +17,7 @@ use Rattle.properties_items.specs.declared.error.ErrorKind.{ErrorKind}
 use Rattle.properties_items.specs.declared.error.ErrorKind.TheVariants as kind
 use Rattle.properties_items.specs.declared.error.ErrorKind.TheVariants.{Io}
 use Rattle.properties_items.specs.declared.error.PropertiesError.{PropertiesError}
-use Rattle.java_properties.specs.Private.Engine.{writing, NumbersLine, SendsLine, repertoire_in, repertoire_of, line_bytes, comment_bytes, BuildsPair}
+use Rattle.java_properties.specs.Private.Engine.{writing, NumbersLine, SendsLine, repertoire_in, engine_repertoire, engine_line_bytes, comment_bytes, BuildsPair}
 use Rattle.properties_format.specs.Encoding.{Encoding, utf_8}
 use Rattle.properties_format.specs.Encoding as meant
 use Rattle.properties_format.specs.Settings.{repertoire_of as format_repertoire}
@@ -96,7 +96,7 @@ readable-alike true e after_blanks text =
 
 -- the value that is written, with readable output off
 plain-chosen : (w : Engine) (value : List ℕ) → w.settings.readable ≡ false
-    → puts_of (repertoire_of w) value ≡ encoded_text (line_of w.encoding) (written_value (line_of w.encoding) w.settings value)
+    → puts_of (engine_repertoire w) value ≡ encoded_text (line_of w.encoding) (written_value (line_of w.encoding) w.settings value)
 plain-chosen w value off =
     let e = line_of w.encoding in
     let s = w.settings in
@@ -106,7 +106,7 @@ plain-chosen w value off =
 
 -- and on
 readable-chosen : (w : Engine) (value : List ℕ) → w.settings.readable ≡ true
-    → value_bytes (repertoire_of w) (is_blanks w.settings.kv_separator) value
+    → value_bytes (engine_repertoire w) (is_blanks w.settings.kv_separator) value
     ≡ encoded_text (line_of w.encoding) (written_value (line_of w.encoding) w.settings value)
 readable-chosen w value on =
     let e = line_of w.encoding in
@@ -119,7 +119,7 @@ readable-chosen w value on =
 
 -- a comment, and then its line ending
 pub comment-built : (w : Engine) (text cleared printed all ending : List ℕ) → cleared ≡ [] → printed ≡ cleared ++ comment_bytes w text
-    → ending ≡ ending_bytes w → all ≡ printed ++ ending → all ≡ line_bytes w (comment text)
+    → ending ≡ ending_bytes w → all ≡ printed ++ ending → all ≡ engine_line_bytes w (comment text)
 comment-built w text cleared printed all ending h k m n =
     let e = line_of w.encoding in
     let front = encoded_text e (printed_characters (format_repertoire e w.settings) in_prefix w.settings.comment_prefix) in
@@ -132,8 +132,8 @@ comment-built w text cleared printed all ending h k m n =
 parts-built : (w : Engine) (key value cleared separator valued ending all : List ℕ) → cleared ≡ []
     → separator ≡ encoded_text (line_of w.encoding) w.settings.kv_separator → ending ≡ ending_bytes w
     → valued ≡ encoded_text (line_of w.encoding) (written_value (line_of w.encoding) w.settings value)
-    → all ≡ cleared ++ (key_bytes (repertoire_of w) (w.lines == 0) key ++ (separator ++ (valued ++ ending)))
-    → all ≡ line_bytes w (pair key value)
+    → all ≡ cleared ++ (key_bytes (engine_repertoire w) (w.lines == 0) key ++ (separator ++ (valued ++ ending)))
+    → all ≡ engine_line_bytes w (pair key value)
 parts-built w key value cleared separator valued ending all h s m v n =
     let named = key-alike w.settings.ascii_only w.encoding (w.lines == 0) key in
     rw (n, h, named, s, v, m) (sym (printed-pair (line_of w.encoding) w.settings (w.lines == 0) key value))
@@ -141,25 +141,25 @@ parts-built w key value cleared separator valued ending all h s m v n =
 -- with readable output off,
 pub pair-built : (w : Engine) (key value cleared separator ending all : List ℕ) → w.settings.readable ≡ false → cleared ≡ []
     → separator ≡ encoded_text (line_of w.encoding) w.settings.kv_separator → ending ≡ ending_bytes w
-    → all ≡ cleared ++ (key_bytes (repertoire_of w) (w.lines == 0) key ++ (separator ++ (puts_of (repertoire_of w) value ++ ending)))
-    → all ≡ line_bytes w (pair key value)
+    → all ≡ cleared ++ (key_bytes (engine_repertoire w) (w.lines == 0) key ++ (separator ++ (puts_of (engine_repertoire w) value ++ ending)))
+    → all ≡ engine_line_bytes w (pair key value)
 pair-built w key value cleared separator ending all off h s m n =
-    parts-built w key value cleared separator (puts_of (repertoire_of w) value) ending all h s m (plain-chosen w value off) n
+    parts-built w key value cleared separator (puts_of (engine_repertoire w) value) ending all h s m (plain-chosen w value off) n
 
 -- and on
 pub readable-built : (w : Engine) (key value cleared separator ending all : List ℕ) → w.settings.readable ≡ true → cleared ≡ []
     → separator ≡ encoded_text (line_of w.encoding) w.settings.kv_separator → chars separator ≡ w.settings.kv_separator → ending ≡ ending_bytes w
-    → all ≡ cleared ++ (key_bytes (repertoire_of w) (w.lines == 0) key
-    ++ (separator ++ (value_bytes (repertoire_of w) (is_blanks (chars separator)) value ++ ending)))
-    → all ≡ line_bytes w (pair key value)
+    → all ≡ cleared ++ (key_bytes (engine_repertoire w) (w.lines == 0) key
+    ++ (separator ++ (value_bytes (engine_repertoire w) (is_blanks (chars separator)) value ++ ending)))
+    → all ≡ engine_line_bytes w (pair key value)
 readable-built w key value cleared separator ending all on h s t m n =
-    let valued = ap (λ x. value_bytes (repertoire_of w) (is_blanks x) value) t ∙ readable-chosen w value on in
-    parts-built w key value cleared separator (value_bytes (repertoire_of w) (is_blanks (chars separator)) value) ending all h s m valued n
+    let valued = ap (λ x. value_bytes (engine_repertoire w) (is_blanks x) value) t ∙ readable-chosen w value on in
+    parts-built w key value cleared separator (value_bytes (engine_repertoire w) (is_blanks (chars separator)) value) ending all h s m valued n
 
 -- the pair that a spelling means, with readable output off,
 pub spelt-built : (w : Engine) (p : Pair) (cleared separator ending new : List ℕ) → w.settings.readable ≡ false → cleared ≡ []
     → separator ≡ encoded_text (line_of w.encoding) w.settings.kv_separator → ending ≡ ending_bytes w
-    → (result : Result Unit UnescapeError) → PrintsPair (repertoire_of w) (w.lines == 0) (puts_of (repertoire_of w)) cleared p separator ending result new
+    → (result : Result Unit UnescapeError) → PrintsPair (engine_repertoire w) (w.lines == 0) (puts_of (engine_repertoire w)) cleared p separator ending result new
     → BuildsPair w p result new
 spelt-built w p cleared separator ending new off c s e (Ok done) h =
     (h.key, h.value, h.key_means, h.value_means, pair-built w h.key h.value cleared separator ending new off c s e h.printed)
@@ -170,7 +170,7 @@ spelt-built w p cleared separator ending new off c s e (Err error.Memory) h = tt
 pub readable_spelt-built : (w : Engine) (p : Pair) (cleared separator ending new : List ℕ) → w.settings.readable ≡ true → cleared ≡ []
     → separator ≡ encoded_text (line_of w.encoding) w.settings.kv_separator → chars separator ≡ w.settings.kv_separator → ending ≡ ending_bytes w
     → (result : Result Unit UnescapeError)
-    → PrintsPair (repertoire_of w) (w.lines == 0) (value_bytes (repertoire_of w) (is_blanks (chars separator))) cleared p separator ending result new
+    → PrintsPair (engine_repertoire w) (w.lines == 0) (value_bytes (engine_repertoire w) (is_blanks (chars separator))) cleared p separator ending result new
     → BuildsPair w p result new
 readable_spelt-built w p cleared separator ending new on c s t e (Ok done) h =
     (h.key, h.value, h.key_means, h.value_means, readable-built w h.key h.value cleared separator ending new on c s t e h.printed)
@@ -202,7 +202,7 @@ module _ {W : Type 0} (w : Engine) (from : W) (line : Content) where
 -- ---- a line that is sent
 
 module _ {W : Type 0} {sink : Sink W} (w built : Engine) (from : W) (line : Content) (number : ℕ) (after : Writing W) (takes : TakesLine (writing w from) line)
-    (next : number ≡ w.lines + 1) (same : built ≡ record w { line = built.line }) (bytes : built.line ≡ line_bytes w line) where
+    (next : number ≡ w.lines + 1) (same : built ≡ record w { line = built.line }) (bytes : built.line ≡ engine_line_bytes w line) where
   pub sent-line : SendsLine sink (writing built from) built.line number (Ok tt) after → HasWrittenLine sink (writing w from) line after
   sent-line h = record {
     takes = takes;

@@ -1,7 +1,7 @@
 -- Bytes have no more line endings than there are of them, so a slice never has as many lines as there are numbers.
 use Rattle.std.proofs.Common.{◌≡◌, ℕ, ◌+◌, ◌^◌, ◌≤◌, List, [], ◌∷◌, ◌++◌, length, refl, ap, inl, inr, append-nil, length-append, length-drop, arith}
 use Rattle.std.proofs.lemmas.Bool.{cases_Bool}
-use Rattle.properties_format.specs.Text.{LineEnding, lf, cr, crlf, line_ending_text, Piece, characters}
+use Rattle.properties_format.specs.Text.{LineEnding, lf, cr, crlf, line_ending_text, Piece, piece_characters}
 use Rattle.properties_format.specs.Encoding.{Encoding, IsPieces, begins_with, byte_order_mark, utf_8, utf_8_bom, utf_16be_bom, utf_16le_bom}
 use Rattle.properties_format.specs.Lines.{Ended, Line, Lines, IsLines, fault, line_endings, numbered, put_together}
 use Rattle.properties_format.specs.Items.{last_entries}
@@ -39,7 +39,7 @@ text-ends text lines h =
     omega arith
 
 -- each character is of a byte at least
-characters-within : (e : Encoding) (d : List ℕ) (ps : List Piece) → IsPieces e d ps → length (characters ps) ≤ length d
+characters-within : (e : Encoding) (d : List ℕ) (ps : List Piece) → IsPieces e d ps → length (piece_characters ps) ≤ length d
 characters-within e d [] h = omega arith
 characters-within e d (p ∷ ps) (rest, same, is, others) =
     let further = characters-within e rest ps others in
@@ -87,7 +87,7 @@ ends-passed e bytes n lines h =
     let same : n + 1 ≡ (start e).passed + line_endings h.all + 1 = cc in
     let number : n + 1 ≡ 0 + line_endings h.all + 1 = same in
     let ends = text-ends h.text h.all h.divided in
-    let text : length (characters h.pieces) ≡ length h.text = ap length h.after_end in
+    let text : length (piece_characters h.pieces) ≡ length h.text = ap length h.after_end in
     let decoded = characters-within m.encoding m.body h.pieces h.are_pieces in
     let body = body-within e (bytes ++ []) in
     let whole : length (bytes ++ []) ≡ length bytes = ap length (append-nil bytes) in
@@ -110,7 +110,7 @@ few-passed e bytes h = elim (cases_Bool h.last.is_done) [
         text = text_to_come h.last [];
         all = all;
         are_pieces = pieces_of-meets f.encoding f.body;
-        after_end = rest_of_end-meets h.last.after_cr (characters (pieces_of f.encoding f.body));
+        after_end = rest_of_end-meets h.last.after_cr (piece_characters (pieces_of f.encoding f.body));
         divided = lines_of-meets (text_to_come h.last []);
         are_lines = refl;
         are_last = refl;

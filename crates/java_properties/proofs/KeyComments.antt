@@ -16,18 +16,18 @@ use Rattle.properties_format.proofs.Split.Blanks.{without_leading_blanks-blanks,
 use Rattle.properties_format.proofs.Split.Unique.{sign-full}
 use Rattle.properties_format.proofs.Valued.Parts.{comment_line-no_pair}
 use Rattle.properties_editing.specs.Private.Sound.{AreSound}
-use Rattle.properties_editing.specs.Views.{kind_of}
+use Rattle.properties_editing.specs.Views.{group_kind}
 use Rattle.properties_editing.specs.declared.group.GroupKind.{GroupKind}
 use Rattle.properties_editing.specs.declared.group.GroupKind.TheVariants as kind
 use Rattle.properties_editing.specs.declared.source.Comments.TheVariants.{PassedOver}
 use Rattle.properties_editing.proofs.PassedOver.{sound-join}
 use Rattle.properties_renaming.specs.CommentLines.{AreCommentGroups, AreCommentTexts, IsCommentGroup, IsCommentLine, is_comment}
-use Rattle.java_properties.specs.Commented.{AreTextsOf}
-use Rattle.java_properties.specs.Private.PassedGroups.{ArePassed, IsKindOf, IsSoundLine, Texts, after_other}
+use Rattle.java_properties.specs.Commented.{AreTextsOfComment}
+use Rattle.java_properties.specs.Private.PassedGroups.{ArePassed, IsKindOf, IsSoundLine, PassedTexts, after_other}
 
 -- ---- comment lines
 
-line-kind : (x : List ℕ) (what : Logical) → is_comment_line x ≡ true → IsSplit x what → kind_of what ≡ kind.Comment
+line-kind : (x : List ℕ) (what : Logical) → is_comment_line x ≡ true → IsSplit x what → group_kind what ≡ kind.Comment
 line-kind x Logical.blank c s = let none : false ≡ true = ap (begins is_comment_sign) (sym (without_leading_blanks-blanks x s)) ∙ c in absurd (cc)
 line-kind x (Logical.comment text) c s = refl
 line-kind x (Logical.pair key value) c s = absurd (comment_line-no_pair x key value c s)
@@ -41,7 +41,7 @@ comment-line x text h =
 pub shown-comment : (k : GroupKind) (x : List ℕ) → IsKindOf k x → is_comment k ≡ true → is_comment_line x ≡ true
 shown-comment k x (what, s, is) c = by what s (sym (ap is_comment is) ∙ c)
   where
-    by : (w : Logical) → IsSplit x w → is_comment (kind_of w) ≡ true → is_comment_line x ≡ true
+    by : (w : Logical) → IsSplit x w → is_comment (group_kind w) ≡ true → is_comment_line x ≡ true
     by Logical.blank s h = absurd (cc)
     by (Logical.comment text) s h = comment-line x text s
     by (Logical.pair key value) s h = absurd (cc)
@@ -107,8 +107,8 @@ none-more key [] g n h = (h, tt)
 none-more key (f ∷ gs) g n h = (n.0, none-more key gs g n.1 h)
 
 -- A group that isn't a pair with the key leaves its comment as it is.
-pub texts-more : (key : List ℕ) (gs : List (List HeldLine)) (g : List HeldLine) (texts : Option (List (List ℕ))) → ¬ (HasKey key g) → AreTextsOf gs key texts
-    → AreTextsOf (gs ++ g ∷ []) key texts
+pub texts-more : (key : List ℕ) (gs : List (List HeldLine)) (g : List HeldLine) (texts : Option (List (List ℕ))) → ¬ (HasKey key g) → AreTextsOfComment gs key texts
+    → AreTextsOfComment (gs ++ g ∷ []) key texts
 texts-more key gs g None h t = none-more key gs g t h
 texts-more key gs g (Some texts) h (is, t) = (
   record {
@@ -139,14 +139,14 @@ above-more (f ∷ gs) g texts text (first, more, is, whole, rest) h =
 -- ---- the groups that were passed
 
 -- These texts are what is known after these groups, in the pairs of which no escape is malformed.
-pub record HavePassed (key : List ℕ) (passed : List (List HeldLine)) (texts : Texts) : Type 0 where
+pub record HavePassed (key : List ℕ) (passed : List (List HeldLine)) (texts : PassedTexts) : Type 0 where
   pub before : List (List HeldLine)
   pub run : List (List HeldLine)
   pub division : passed ≡ before ++ run
   pub are_comments : AreCommentGroups run
   pub no_earlier : ¬ (IsCommentGroup (final_group before))
   pub are_above : AreCommentTexts run texts.above
-  pub are_texts : AreTextsOf passed key texts.comment
+  pub are_texts : AreTextsOfComment passed key texts.comment
   pub sound : AreSound passed
 
 pub passed-none : (key : List ℕ) → HavePassed key [] (record { above = []; comment = None })
@@ -162,7 +162,7 @@ passed-none key = record {
 }
 
 -- a comment line
-passed-line : {key : List ℕ} {passed : List (List HeldLine)} {texts : Texts} (g : List HeldLine) (text : List ℕ) → HavePassed key passed texts → IsCommentGroup g
+passed-line : {key : List ℕ} {passed : List (List HeldLine)} {texts : PassedTexts} (g : List HeldLine) (text : List ℕ) → HavePassed key passed texts → IsCommentGroup g
     → IsCommentLine (joined (as_lines g)) text → HavePassed key (passed ++ g ∷ []) (record { above = texts.above ++ text ∷ []; comment = texts.comment })
 passed-line {key} {passed} {texts} g text h c is = record {
   before = h.before;
@@ -176,8 +176,8 @@ passed-line {key} {passed} {texts} g text h c is = record {
 }
 
 -- another group
-passed-other : {key : List ℕ} {passed : List (List HeldLine)} {texts : Texts} (g : List HeldLine) (comment : Option (List (List ℕ))) → HavePassed key passed texts
-    → ¬ (IsCommentGroup g) → IsSoundLine (joined (as_lines g)) → AreTextsOf (passed ++ g ∷ []) key comment
+passed-other : {key : List ℕ} {passed : List (List HeldLine)} {texts : PassedTexts} (g : List HeldLine) (comment : Option (List (List ℕ))) → HavePassed key passed texts
+    → ¬ (IsCommentGroup g) → IsSoundLine (joined (as_lines g)) → AreTextsOfComment (passed ++ g ∷ []) key comment
     → HavePassed key (passed ++ g ∷ []) (record { above = []; comment = comment })
 passed-other {key} {passed} {texts} g comment h other sound are = record {
   before = passed ++ g ∷ [];
@@ -191,8 +191,8 @@ passed-other {key} {passed} {texts} g comment h other sound are = record {
 }
 
 -- A pair with the key has the comment lines directly above it.
-texts-above : {key : List ℕ} {passed : List (List HeldLine)} {texts : Texts} (g : List HeldLine) → HavePassed key passed texts → HasKey key g
-    → AreTextsOf (passed ++ g ∷ []) key (Some texts.above)
+texts-above : {key : List ℕ} {passed : List (List HeldLine)} {texts : PassedTexts} (g : List HeldLine) → HavePassed key passed texts → HasKey key g
+    → AreTextsOfComment (passed ++ g ∷ []) key (Some texts.above)
 texts-above {key} {passed} {texts} g h k = (
   record {
     before = h.before;
@@ -209,7 +209,7 @@ texts-above {key} {passed} {texts} g h k = (
 )
 
 -- One more group was passed.
-pub passed-more : {key : List ℕ} {passed : List (List HeldLine)} {old : Texts} (k : GroupKind) (count : ℕ) (g : List HeldLine) (new : Texts) → HavePassed key passed old
+pub passed-more : {key : List ℕ} {passed : List (List HeldLine)} {old : PassedTexts} (k : GroupKind) (count : ℕ) (g : List HeldLine) (new : PassedTexts) → HavePassed key passed old
     → IsKindOf k (joined (as_lines g)) → count ≡ length g → ArePassed (is_comment k && (count == 1)) (joined (as_lines g)) key old new
     → HavePassed key (passed ++ g ∷ []) new
 passed-more {key} {passed} {old} k count g new h is size p = elim (cases_Bool (is_comment k && (count == 1))) [
@@ -228,6 +228,6 @@ passed-more {key} {passed} {old} k count g new h is size p = elim (cases_Bool (i
 ]
 
 -- A group that isn't a comment line, given whether it is a pair with the key.
-pub passed-pair : (key x : List ℕ) (is_line has : Bool) (old new : Texts) → is_line ≡ false → (has ≡ is_pair_with key (outcome_of x)) × IsSoundLine x
+pub passed-pair : (key x : List ℕ) (is_line has : Bool) (old new : PassedTexts) → is_line ≡ false → (has ≡ is_pair_with key (outcome_of x)) × IsSoundLine x
     → new ≡ after_other has old → ArePassed is_line x key old new
 passed-pair key x is_line has old new l h n = rw l (h.1, n ∙ ap (λ b. after_other b old) h.0)

@@ -37,8 +37,8 @@ use Rattle.properties_items.specs.BorrowedItems.{found_content, FindsIn, IsNoIte
 use Rattle.properties_items.specs.declared.found.Found as found
 use Rattle.properties_items.proofs.FoundItems.{found-item}
 use Rattle.properties_items.proofs.TextMaps.Values.{at_chars-sorted, at_chars-updated}
-use Rattle.java_properties.specs.Findings.{KeyPlace, keys_from, HasNoKey, HasFirstNumber, KeyEntry, AreFirstsOf, AreKeyLines, key_line_entry, key_line_entries}
-use Rattle.java_properties.specs.Findings.{HasKeys}
+use Rattle.java_properties.specs.Findings.{KeyPlace, keys_from, HasNoKeyPlace, HasFirstNumber, KeyEntry, AreFirstsOf, AreKeyLines, key_line_entry, key_line_entries}
+use Rattle.java_properties.specs.Findings.{HasKeyLines}
 use Rattle.java_properties.specs.Private.LineByLine.{number_at, KeepsFirst, AddsKeyLine, AddsIfKey, PushesKey, Collected}
 use Rattle.properties_items.specs.declared.findings.KeyLine as code
 use Rattle.java_properties.proofs.MalformedEscapes.{collected-start, collected-next}
@@ -74,7 +74,7 @@ first_place (k ∷ ks) key = if bytes_eq k.key key then Some k.number else first
 
 -- what is said of it
 abbrev Finds : List KeyPlace → List ℕ → Option ℕ → Type 0
-Finds keys key None = HasNoKey key keys
+Finds keys key None = HasNoKeyPlace key keys
 Finds keys key (Some number) = HasFirstNumber keys key number
 
 finds-later : (k : KeyPlace) (ks : List KeyPlace) (key : List ℕ) (o : Option ℕ) → k.key ≢ key → Finds ks key o → Finds (k ∷ ks) key o
@@ -93,7 +93,7 @@ finds-meets (k ∷ ks) key = elim (cases_Bool (bytes_eq k.key key)) [
   | inr other ↦ rw other (finds-later k ks key (first_place ks key) (not_same k.key key other) (finds-meets ks key))
 ]
 
-first-in : (before : List KeyPlace) (number : ℕ) (key : List ℕ) (after : List KeyPlace) → HasNoKey key before
+first-in : (before : List KeyPlace) (number : ℕ) (key : List ℕ) (after : List KeyPlace) → HasNoKeyPlace key before
     → first_place (before ++ (record { number = number; key = key } ∷ after)) key ≡ Some number
 first-in [] number key after h = let same = (bytes_eq-Decides key key).1 refl in rw same refl
 first-in (k ∷ before) number key after h = let other = other-test k.key key h.0 in rw other (first-in before number key after h.1)
@@ -365,7 +365,7 @@ module _ {Z : Type 0} {e : Encoding} {source : List ℕ} where
 
   -- no more came
   pub keys-all : {left : List ℕ} {found : List code.KeyLine} {firsts : List (String Z × ℕ)} {s : ReaderState} → FoundKeys e source found firsts s left
-      → s.is_done ≡ true → HasKeys e source found
+      → s.is_done ≡ true → HasKeyLines e source found
   unfolding key_lines_of
   keys-all {found = found} h done =
       let is : key_line_entries found ≡ key_lines_of e source = h.entries ∙ ap (λ v. key_entries (keys_in v)) (slice-groups h.collected done) in

@@ -17,7 +17,7 @@ use Rattle.properties_format.specs.Found.{MalformedEscape, escapes_from}
 use Rattle.properties_format.specs.Edited.{IsFirstMalformed}
 use Rattle.properties_format.specs.Edits.{AreInComments, IsFirstInPair, pair_from}
 use Rattle.properties_format.specs.ItemsToCome.{ReaderState, start}
-use Rattle.properties_format.specs.Computed.Edited.{IsSound}
+use Rattle.properties_format.specs.Computed.Edited.{IsSoundOutcome}
 use Rattle.properties_format.specs.Computed.Items.{outcome_of, followed, entries_of, items_of}
 use Rattle.properties_format.specs.Computed.ItemsToCome.{natural_to_come}
 use Rattle.properties_format.specs.Computed.Found.{found_in, escapes_in}
@@ -77,7 +77,7 @@ faults-append : (comments : Comments) (gs hs : List (List Line)) → faults_in c
 faults-append comments gs hs = found_in-append (faults_from comments) (from-append comments) gs hs
 
 -- A sound line has none,
-from-sound : (comments : Comments) (number : ℕ) (x : List ℕ) (o : Outcome) → IsSound o ⊎ (passes_over comments x ≡ true)
+from-sound : (comments : Comments) (number : ℕ) (x : List ℕ) (o : Outcome) → IsSoundOutcome o ⊎ (passes_over comments x ≡ true)
     → faults_from comments number x o [] ≡ []
 from-sound comments number x ignored h = refl
 from-sound comments number x (given content) h = refl
@@ -267,7 +267,7 @@ module _ {T : Type 0} {Has : T → (List ℕ → Option (List ℕ)) → Type 0} 
   pub taken-blank : {to next : Bor (List ℕ)} {old : T} {s : ReaderState} (number : ℕ) (new : LineState)
       → HasTaken Has comments e from old s to.now → JoinsNext slice_reader s to number new next → outcome_of (chars new.line) ≡ ignored
       → HasTaken Has comments e from old new.state next.now
-  taken-blank number new h n blank = taken-none number new h n (inl (subst IsSound (sym blank) tt)) (ap outcome_pair blank)
+  taken-blank number new h n blank = taken-none number new h n (inl (subst IsSoundOutcome (sym blank) tt)) (ap outcome_pair blank)
 
   -- an item came, and was taken if it is a pair
   pub taken-item : {to next : Bor (List ℕ)} {old : T} {s : ReaderState} (number : ℕ) (new : LineState) (later : T) (f : Found)
@@ -276,7 +276,7 @@ module _ {T : Type 0} {Has : T → (List ℕ → Option (List ℕ)) → Type 0} 
       → HasTaken Has comments e from later new.state next.now
   taken-item number new later f h n is takes =
       let item = found-item new.line f is in
-      taken-next number new later h n (inl (subst IsSound (sym item) tt)) (λ values has. rw item (takes values has))
+      taken-next number new later h n (inl (subst IsSoundOutcome (sym item) tt)) (λ values has. rw item (takes values has))
 
   -- one came that has no item
   pub taken-refused : {to next : Bor (List ℕ)} {taker : T} {s : ReaderState} (error : PropertiesError) (number : ℕ) (new : LineState)

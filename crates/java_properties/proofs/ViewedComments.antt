@@ -12,7 +12,7 @@ use Rattle.properties_format.specs.Edits.{AreInComments, EscapesAre, IsFirstInPa
 use Rattle.properties_format.specs.Items as content
 use Rattle.properties_format.specs.Computed.Cut.{decoded_line}
 use Rattle.properties_format.specs.Computed.Body.{unended_bytes}
-use Rattle.properties_format.specs.Computed.Edited.{IsSound}
+use Rattle.properties_format.specs.Computed.Edited.{IsSoundOutcome}
 use Rattle.properties_format.specs.Computed.Items.{outcome_of}
 use Rattle.properties_format.proofs.Body.Decoded.{decoded-nil}
 use Rattle.properties_format.proofs.Body.Groups.{held_groups_of-only}
@@ -25,14 +25,14 @@ use Rattle.properties_items.specs.Errors.{IsBareError, IsMalformed}
 use Rattle.properties_items.specs.declared.error.ErrorKind.TheVariants as reason
 use Rattle.properties_items.specs.declared.error.PropertiesError.{PropertiesError}
 use Rattle.properties_editing.specs.Private.Sound.{AreSound, IsResult, IsSoundFor}
-use Rattle.properties_editing.specs.Views.{GivesNext, IsViewOf, OpenView, TakesNext, line_of, with_bytes}
+use Rattle.properties_editing.specs.Views.{GivesNext, IsViewOf, OpenView, TakesNext, viewed_line, with_bytes}
 use Rattle.properties_editing.specs.declared.group.ViewedGroup.{ViewedGroup}
 use Rattle.properties_editing.specs.declared.source.Comments.TheVariants.{PassedOver}
 use Rattle.properties_editing.proofs.PassedOver.{from-after, from-fault, from-sound, result-groups, result_for-meets, result_from, sound-join}
 use Rattle.std.specs.declared.alloc.AllocError.{AllocError}
-use Rattle.java_properties.specs.Commented.{AreTextsOf, HasComment, IsCommentError, RefusesComment}
+use Rattle.java_properties.specs.Commented.{AreTextsOfComment, HasComment, IsCommentError, RefusesComment}
 use Rattle.properties_renaming.specs.CommentLines.{is_line_of_comment}
-use Rattle.java_properties.specs.Private.PassedGroups.{ArePassed, IsUnsound, Texts}
+use Rattle.java_properties.specs.Private.PassedGroups.{ArePassed, IsUnsoundPassed, PassedTexts}
 use Rattle.java_properties.proofs.KeyComments.{HavePassed, passed-more, passed-none, texts-more}
 
 -- ---- a last group without bytes
@@ -86,7 +86,7 @@ last-blank e body gs g ok are none =
     blank-line e a.0 g a.1 (unended-some e a.0 g a.1 bare)
 
 blank-sound : (g : List HeldLine) → joined (as_lines g) ≡ [] → IsSoundFor PassedOver (joined (as_lines g))
-blank-sound g b = inl (subst IsSound (sym (ap outcome_of b ∙ outcome-empty)) tt)
+blank-sound g b = inl (subst IsSoundOutcome (sym (ap outcome_of b ∙ outcome-empty)) tt)
 
 blank-no_key : (key : List ℕ) (g : List HeldLine) → joined (as_lines g) ≡ [] → ¬ (HasKey key g)
 blank-no_key key g b = λ h.
@@ -96,7 +96,7 @@ blank-no_key key g b = λ h.
 -- ---- the groups that a view showed
 
 -- These are the groups of the source that came before, and what is known after them.
-pub record HaveShown (requested : Encoding) (source key : List ℕ) (v : OpenView) (texts : Texts) : Type 0 where
+pub record HaveShown (requested : Encoding) (source key : List ℕ) (v : OpenView) (texts : PassedTexts) : Type 0 where
   pub passed : List (List HeldLine)
   pub encoding : (byte_order_mark requested source).encoding ≡ v.encoding
   pub editable : is_editable v.encoding ≡ true
@@ -120,8 +120,8 @@ shown-none {requested} {source} {v} key w = record {
 }
 
 -- One more group was shown, and passed.
-pub shown-more : {requested : Encoding} {source key : List ℕ} {v w : OpenView} {old : Texts} (group : ViewedGroup) (new : Texts) → HaveShown requested source key v old
-    → TakesNext v group w → ArePassed (is_line_of_comment group) (line_of w) key old new → HaveShown requested source key w new
+pub shown-more : {requested : Encoding} {source key : List ℕ} {v w : OpenView} {old : PassedTexts} (group : ViewedGroup) (new : PassedTexts) → HaveShown requested source key v old
+    → TakesNext v group w → ArePassed (is_line_of_comment group) (viewed_line w) key old new → HaveShown requested source key w new
 shown-more {requested} {source} {key} {v} {w} group new h t p =
     let g = w.group in
     let i = t.is_group in
@@ -167,13 +167,13 @@ source-broken e source before g after how ok held sound unmarked breaks =
     ∙ from-after PassedOver 1 before (g ∷ after) [] sound ∙ from-fault PassedOver n g after [] how breaks unmarked in
     (subst (IsResult PassedOver e source Makes) r (result_for-meets PassedOver e source [] Makes tt)).1
 
-in_force-editable : {requested : Encoding} {source key : List ℕ} {v : OpenView} {texts : Texts} → HaveShown requested source key v texts
+in_force-editable : {requested : Encoding} {source key : List ℕ} {v : OpenView} {texts : PassedTexts} → HaveShown requested source key v texts
     → is_editable (byte_order_mark requested source).encoding ≡ true
 in_force-editable h = subst (λ e. is_editable e ≡ true) (sym h.encoding) h.editable
 
 -- The next group is malformed, or memory ran out.
-pub shown-unsound : {requested : Encoding} {source key : List ℕ} {v w : OpenView} {texts : Texts} (group : ViewedGroup) (error : PropertiesError)
-    → HaveShown requested source key v texts → TakesNext v group w → IsUnsound group.line_number (line_of w) error → IsCommentError requested source error
+pub shown-unsound : {requested : Encoding} {source key : List ℕ} {v w : OpenView} {texts : PassedTexts} (group : ViewedGroup) (error : PropertiesError)
+    → HaveShown requested source key v texts → TakesNext v group w → IsUnsoundPassed group.line_number (viewed_line w) error → IsCommentError requested source error
 shown-unsound {requested} {source} {key} {v} {w} group error h t (unmarked, inr memory) = inr memory
 shown-unsound {requested} {source} {key} {v} {w} group error h t (unmarked, inl (how, breaks, is)) =
     let rest = w.to_come ++ left_out h.all in
@@ -191,8 +191,8 @@ shown-unsound {requested} {source} {key} {v} {w} group error h t (unmarked, inl 
       is = subst (λ n. IsMalformed how n error) same is;
     })
 
-pub shown-refused : {requested : Encoding} {source key : List ℕ} {v w : OpenView} {texts : Texts} (group : ViewedGroup) (error : PropertiesError)
-    → HaveShown requested source key v texts → TakesNext v group w → IsUnsound group.line_number (line_of w) error ⊎ IsBareError reason.Memory error
+pub shown-refused : {requested : Encoding} {source key : List ℕ} {v w : OpenView} {texts : PassedTexts} (group : ViewedGroup) (error : PropertiesError)
+    → HaveShown requested source key v texts → TakesNext v group w → IsUnsoundPassed group.line_number (viewed_line w) error ⊎ IsBareError reason.Memory error
     → RefusesComment requested source error
 shown-refused group error h t (inl u) = inr (in_force-editable h, shown-unsound group error h t u)
 shown-refused group error h t (inr memory) = inr (in_force-editable h, inr memory)
@@ -204,7 +204,7 @@ none-left v w None g other = g.0
 none-left v w (Some group) g other = absurd (other group refl)
 
 -- All groups were shown.
-pub shown-all : {requested : Encoding} {source key : List ℕ} {v : OpenView} {texts : Texts} → HaveShown requested source key v texts → v.to_come ≡ []
+pub shown-all : {requested : Encoding} {source key : List ℕ} {v : OpenView} {texts : PassedTexts} → HaveShown requested source key v texts → v.to_come ≡ []
     → HasComment requested source key texts.comment
 shown-all {requested} {source} {key} {v} {texts} h none =
     let e = (byte_order_mark requested source).encoding in
@@ -212,15 +212,15 @@ shown-all {requested} {source} {key} {v} {texts} h none =
     let ok = in_force-editable h in
     let given : with_bytes h.all ≡ h.passed = h.given ∙ ap (λ u. h.passed ++ u) none ∙ append-nil h.passed in
     let whole : h.all ≡ h.passed ++ left_out h.all = all-given h.all ∙ ap (λ u. u ++ left_out h.all) given in
-    let both : AreTextsOf h.all key texts.comment × AreSound h.all =
+    let both : AreTextsOfComment h.all key texts.comment × AreSound h.all =
     elim (left-out h.all) [
       | inl k ↦
           let same : h.passed ≡ h.all = sym (whole ∙ ap (λ u. h.passed ++ u) k ∙ append-nil h.passed) in
-          (subst (λ u. AreTextsOf u key texts.comment) same h.known.are_texts, subst AreSound same h.known.sound)
+          (subst (λ u. AreTextsOfComment u key texts.comment) same h.known.are_texts, subst AreSound same h.known.sound)
       | inr (g, k, empty) ↦
           let same : h.all ≡ h.passed ++ g ∷ [] = whole ∙ ap (λ u. h.passed ++ u) k in
           let blank = last-blank e body h.passed g ok (subst (AreGroupsOf e body) same h.held) empty in (
-            subst (λ u. AreTextsOf u key texts.comment) (sym same) (texts-more key h.passed g texts.comment (blank-no_key key g blank) h.known.are_texts),
+            subst (λ u. AreTextsOfComment u key texts.comment) (sym same) (texts-more key h.passed g texts.comment (blank-no_key key g blank) h.known.are_texts),
             subst AreSound (sym same) (sound-join PassedOver h.passed (g ∷ []) h.known.sound (blank-sound g blank, tt)),
           )
     ] in

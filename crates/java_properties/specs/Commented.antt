@@ -16,9 +16,9 @@ use Rattle.properties_renaming.specs.CommentLines.{AreCommentTexts, IsCommentOf}
 use Rattle.java_properties.specs.Findings.{IsFirstPairError}
 
 -- The texts of the comment of the key, or none if no pair has the key.
-abbrev pub AreTextsOf : List (List HeldLine) → List ℕ → Option (List (List ℕ)) → Type 0
-AreTextsOf groups key None = NoneHasKey key groups
-AreTextsOf groups key (Some texts) = (is : IsCommentOf groups key) × AreCommentTexts is.run texts
+abbrev pub AreTextsOfComment : List (List HeldLine) → List ℕ → Option (List (List ℕ)) → Type 0
+AreTextsOfComment groups key None = NoneHasKey key groups
+AreTextsOfComment groups key (Some texts) = (is : IsCommentOf groups key) × AreCommentTexts is.run texts
 
 -- ---- what is told of it
 
@@ -28,7 +28,7 @@ pub record HasComment (e : Encoding) (source key : List ℕ) (texts : Option (Li
   pub escapes : EscapesAre e source AreInComments
   pub groups : List (List HeldLine)
   pub held : AreGroupsOf (byte_order_mark e source).encoding (byte_order_mark e source).body groups
-  pub are_texts : AreTextsOf groups key texts
+  pub are_texts : AreTextsOfComment groups key texts
 
 -- A pair has a malformed escape, and this is the error of the first; or memory ran out.
 abbrev pub IsCommentError : Encoding → List ℕ → PropertiesError → Type 0

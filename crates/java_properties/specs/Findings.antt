@@ -61,22 +61,22 @@ keys_from number (given (pair key value)) rest = record { number = number; key =
 keys_from number other rest = rest
 
 -- These are the keys of an input in an encoding.
-abbrev pub AreKeys : Encoding → List ℕ → List KeyPlace → Type 0
-AreKeys e bytes keys = AreFound (λ number x. keys_from number) e bytes end keys
+abbrev pub ArePlacedKeys : Encoding → List ℕ → List KeyPlace → Type 0
+ArePlacedKeys e bytes keys = AreFound (λ number x. keys_from number) e bytes end keys
 
 -- ---- where a key comes first
 
 -- None of the places has this key.
-abbrev pub HasNoKey : List ℕ → List KeyPlace → Type 0
-HasNoKey key [] = Unit {0}
-HasNoKey key (k ∷ ks) = (k.key ≢ key) × HasNoKey key ks
+abbrev pub HasNoKeyPlace : List ℕ → List KeyPlace → Type 0
+HasNoKeyPlace key [] = Unit {0}
+HasNoKeyPlace key (k ∷ ks) = (k.key ≢ key) × HasNoKeyPlace key ks
 
 -- The first of these places with this key has this number.
 pub record HasFirstNumber (keys : List KeyPlace) (key : List ℕ) (number : ℕ) : Type 0 where
   pub before : List KeyPlace
   pub after : List KeyPlace
   pub division : keys ≡ before ++ (record { number = number; key = key } ∷ after)
-  pub none : HasNoKey key before
+  pub none : HasNoKeyPlace key before
 
 -- a key, the number of its pair's first line, and the number of the first pair with this key
 pub record KeyEntry : Type 0 where
@@ -94,7 +94,7 @@ AreFirstsOf keys (k ∷ ks) lines =
 -- The keys of an input, each with its line number and the number of the line where it comes first.
 pub record AreKeyLines (e : Encoding) (bytes : List ℕ) (lines : List KeyEntry) : Type 0 where
   pub keys : List KeyPlace
-  pub are_keys : AreKeys e bytes keys
+  pub are_keys : ArePlacedKeys e bytes keys
   pub are_firsts : AreFirstsOf keys keys lines
 
 -- ---- the result of finding them
@@ -107,13 +107,13 @@ abbrev pub key_line_entries : List code.KeyLine → List KeyEntry
 key_line_entries lines = map key_line_entry lines
 
 -- These are the keys of a source, each with its line and the line in which it comes first, and the only ones.
-pub record HasKeys (e : Encoding) (source : List ℕ) (found : List code.KeyLine) : Type 0 where
+pub record HasKeyLines (e : Encoding) (source : List ℕ) (found : List code.KeyLine) : Type 0 where
   pub are : AreKeyLines e source (key_line_entries found)
   pub only : (others : List KeyEntry) → AreKeyLines e source others → others ≡ key_line_entries found
 
 -- The result of finding them. It fails only if memory runs out.
 abbrev pub FindsKeysIn : {Z : Type 0} → Encoding → List ℕ → Result (Vec code.KeyLine Z) PropertiesError → Type 0
-FindsKeysIn e source (Ok found) = HasKeys e source found.items
+FindsKeysIn e source (Ok found) = HasKeyLines e source found.items
 FindsKeysIn e source (Err error) = IsBareError kind.Memory error
 
 -- ---- The value of a key in a source.

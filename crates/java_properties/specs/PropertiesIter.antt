@@ -113,8 +113,8 @@ pub data ComeNext (old : ReaderState) (bytes : List ℕ) (lines : List NaturalLi
   at_last : new.is_done ≡ true → AreLinesToCome old bytes end lines [] → ComeNext old bytes lines new
 
 -- a logical line, which begins in the line with this number, from its bytes in UTF-8
-abbrev pub logical_line : ℕ → List ℕ → NaturalLine
-logical_line number bytes = record { number = number; text = chars bytes }
+abbrev pub joined_line : ℕ → List ℕ → NaturalLine
+joined_line number bytes = record { number = number; text = chars bytes }
 
 -- The logical line is spelt as the input spells it, with its escapes: the natural lines that came end in its group, and
 -- its text is that of the group, joined. The group is whole; or it ends open, and the input ended.
@@ -133,7 +133,7 @@ abbrev pub AdvancesTo : {R : Type 0} → Reader R → Iteration R → Option (Re
 AdvancesTo reader old None new = GivesNone reader old.state old.reader new.state new.reader
 AdvancesTo reader old (Some (Ok found)) new =
     (entry : GivesEntry reader old.state old.reader (found_entry new.line found) new.state new.reader)
-    × IsFoundIn new.line found × IsSpelt old.state entry.bytes (logical_line found.line_number new.line) new.state
+    × IsFoundIn new.line found × IsSpelt old.state entry.bytes (joined_line found.line_number new.line) new.state
 AdvancesTo reader old (Some (Err e)) new =
     (old.state.is_done ≡ false) × (new.state.is_done ≡ true) × GivesError reader old.state old.reader e new.reader
 
@@ -147,7 +147,7 @@ abbrev pub BorrowsItem : {R : Type 0} → Reader R → Iteration R → Option (R
 BorrowsItem reader old None new = GivesNone reader old.state old.reader new.state new.reader
 BorrowsItem reader old (Some (Ok line)) new =
     (entry : GivesEntry reader old.state old.reader (borrowed_entry line) new.state new.reader)
-    × BorrowsPlain (chars new.line) line.content × IsSpelt old.state entry.bytes (logical_line line.line_number new.line) new.state
+    × BorrowsPlain (chars new.line) line.content × IsSpelt old.state entry.bytes (joined_line line.line_number new.line) new.state
 BorrowsItem reader old (Some (Err e)) new =
     (old.state.is_done ≡ false) × (new.state.is_done ≡ true) × GivesError reader old.state old.reader e new.reader
 

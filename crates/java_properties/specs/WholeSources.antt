@@ -91,7 +91,7 @@ pub record FailsInWrite {W : Type 0} (sink : Sink W) (old : W) (bytes : List ℕ
   pub is : IsError kind.Io None (cause_of_write cause) error
 
 -- All bytes were written, but the flush failed. The error holds the sink's error.
-pub record FailsInFlush {W : Type 0} (sink : Sink W) (old : W) (bytes : List ℕ) (error : PropertiesError) (new : W) : Type 0 where
+pub record FailsInSourceFlush {W : Type 0} (sink : Sink W) (old : W) (bytes : List ℕ) (error : PropertiesError) (new : W) : Type 0 where
   pub middle : W
   pub written : HasWritten sink old bytes middle
   pub cause : Error
@@ -101,4 +101,4 @@ pub record FailsInFlush {W : Type 0} (sink : Sink W) (old : W) (bytes : List ℕ
 -- the result of writing a whole source
 abbrev pub WritesSource : {W : Type 0} → Sink W → W → List ℕ → Result Unit PropertiesError → W → Type 0
 WritesSource sink old bytes (Ok done) new = PutsWhole sink old bytes new
-WritesSource sink old bytes (Err error) new = FailsInWrite sink old bytes error new ⊎ FailsInFlush sink old bytes error new
+WritesSource sink old bytes (Err error) new = FailsInWrite sink old bytes error new ⊎ FailsInSourceFlush sink old bytes error new

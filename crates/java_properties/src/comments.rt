@@ -6,7 +6,7 @@ ghost use Rattle.properties_format.specs.Lines.{is_comment_line};
 ghost use Rattle.properties_text.specs.Encoding.{encoding_of};
 ghost use Rattle.properties_renaming.specs.CommentLines.{is_line_of_comment};
 ghost use Rattle.java_properties.specs.Commented.{TellsComment};
-ghost use Rattle.java_properties.specs.Private.PassedGroups.{AddsLine, IsKindOf, PassesGroup, TellsKey, after_other, texts_of};
+ghost use Rattle.java_properties.specs.Private.PassedGroups.{AddsPassedLine, IsKindOf, PassesGroup, TellsKey, after_other, passed_texts};
 
 use properties_editing::{GroupKind, View, ViewedGroup};
 use properties_items::error::PropertiesError;
@@ -71,7 +71,7 @@ impl Passed {
     ) -> Result<(), PropertiesError>
         requires kind { IsKindOf group.kind (chars line.now) }
         ensures { PassesGroup (is_line_of_comment group) group.line_number (chars line.now) (chars key.now)
-            (texts_of self.old) result (texts_of self.new) }
+            (passed_texts self.old) result (passed_texts self.new) }
     {
         if is_comment_line(group) {
             return Ok(self.add_line(alloc, line)?);
@@ -87,7 +87,7 @@ impl Passed {
     // Adds the text of a comment line.
     fn add_line(&mut self, alloc: Global, line: &str) -> Result<(), AllocError>
         requires { is_comment_line (chars line.now) ≡ true }
-        ensures { OnOk result (AddsLine (chars line.now) (texts_of self.old) (texts_of self.new)) }
+        ensures { OnOk result (AddsPassedLine (chars line.now) (passed_texts self.old) (passed_texts self.new)) }
     {
         self.above
             .push(String::from_str(alloc, comment_text(line))?)?;
@@ -96,7 +96,7 @@ impl Passed {
 
     // Makes the comment lines that came last the comment of the key.
     fn keep(&mut self, alloc: Global)
-        ensures { texts_of self.new ≡ after_other true (texts_of self.old) }
+        ensures { passed_texts self.new ≡ after_other true (passed_texts self.old) }
     {
         let above = mem::replace(&mut self.above, Vec::new(alloc));
         self.comment = Some(above);

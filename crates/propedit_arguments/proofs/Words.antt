@@ -7,17 +7,17 @@ use Rattle.std.specs.List.{list_any}
 use Rattle.std.proofs.lemmas.Grind.{common_steps}
 use Rattle.std.proofs.lemmas.List.{length-append, length-map, map-append, nil_from_length}
 use Rattle.propedit_arguments.specs.Private.Edits.{Edit, Meant, set, remove, rename, set_comment, Form, plain, literal, WrittenEdit, MayBeWritten, IsAssignment}
-use Rattle.propedit_arguments.specs.Private.Edits.{asked_edit, asked_edits, in_characters, edit_words, words_of, IsMistakeAt, no_edit, no_key, no_value, no_new_key, no_text}
+use Rattle.propedit_arguments.specs.Private.Edits.{asked_edit, asked_edits, meant_edit, edit_words, written_words, IsMistakeAt, no_edit, no_key, no_value, no_new_key, no_text}
 use Rattle.propedit_arguments.specs.Private.Edits.{AreWrong, assignments, is_sign}
 use Rattle.propedit_arguments.proofs.Assignments.{has-sign}
 use Rattle.propedit_arguments.specs.declared.edits.AskedEdit.{AskedEdit}
 use Rattle.propedit_arguments.specs.declared.mistake.Mistake.{Mistake}
 
 -- the words of one edit more
-words-more : (ws : List WrittenEdit) (w : WrittenEdit) → words_of (ws ++ (w ∷ [])) ≡ words_of ws ++ edit_words w.form w.edit
+words-more : (ws : List WrittenEdit) (w : WrittenEdit) → written_words (ws ++ (w ∷ [])) ≡ written_words ws ++ edit_words w.form w.edit
 words-more [] w = append-nil (edit_words w.form w.edit)
 words-more (v ∷ vs) w =
-    ap (λ u. edit_words v.form v.edit ++ u) (words-more vs w) ∙ sym (append_assoc (edit_words v.form v.edit) (words_of vs) (edit_words w.form w.edit))
+    ap (λ u. edit_words v.form v.edit ++ u) (words-more vs w) ∙ sym (append_assoc (edit_words v.form v.edit) (written_words vs) (edit_words w.form w.edit))
 
 -- the first word, if there is one
 first-word : List (List ℕ) → List ℕ
@@ -69,12 +69,12 @@ no-none : (f : Form) (e : Edit) (a : List (List ℕ)) → edit_words f e ++ a �
 no-none f e a h = cc
 
 -- what comes after some edits, where all words are those of edits, are words of edits
-rest-of : (done all : List WrittenEdit) (rest : List (List ℕ)) → words_of all ≡ words_of done ++ rest → (others : List WrittenEdit) × (rest ≡ words_of others)
+rest-of : (done all : List WrittenEdit) (rest : List (List ℕ)) → written_words all ≡ written_words done ++ rest → (others : List WrittenEdit) × (rest ≡ written_words others)
 rest-of [] all rest e = (all, sym e)
-rest-of (w ∷ done) [] rest e = absurd (no-none w.form w.edit (words_of done ++ rest) (sym (e ∙ append_assoc (edit_words w.form w.edit) (words_of done) rest)))
+rest-of (w ∷ done) [] rest e = absurd (no-none w.form w.edit (written_words done ++ rest) (sym (e ∙ append_assoc (edit_words w.form w.edit) (written_words done) rest)))
 rest-of (w ∷ done) (v ∷ all) rest e =
-    rest-of done all rest (same-rest v.form w.form v.edit w.edit (words_of all) (words_of done ++ rest) v.may w.may
-    (e ∙ append_assoc (edit_words w.form w.edit) (words_of done) rest))
+    rest-of done all rest (same-rest v.form w.form v.edit w.edit (written_words all) (written_words done ++ rest) v.may w.may
+    (e ∙ append_assoc (edit_words w.form w.edit) (written_words done) rest))
 
 -- ---- the front of some texts
 
@@ -120,8 +120,8 @@ shorter rest others form edit is =
 -- Edits were found and are made, and these words are left.
 pub record HasMade (words : List (List ℕ)) (edits : List Meant) (rest : List (List ℕ)) : Type 0 where
   pub done : List WrittenEdit
-  pub is : words ≡ words_of done ++ rest
-  pub made : edits ≡ map (λ w. in_characters w.edit) done
+  pub is : words ≡ written_words done ++ rest
+  pub made : edits ≡ map (λ w. meant_edit w.edit) done
 
 -- none of them yet
 pub made-none : (words : List (List ℕ)) (edits : List AskedEdit) → edits ≡ [] → HasMade words (asked_edits edits) words
@@ -130,15 +130,15 @@ made-none words edits none = record { done = []; is = refl; made = ap asked_edit
 -- one more
 pub made-more : {more : List AskedEdit} (words : List (List ℕ)) (edits : List AskedEdit) (rest others : List (List ℕ))
     (form : Form) (edit : Edit) (made : AskedEdit) → HasMade words (asked_edits edits) rest → MayBeWritten form edit
-    → rest ≡ edit_words form edit ++ others → asked_edit made ≡ in_characters edit → more ≡ edits ++ (made ∷ []) → HasMade words (asked_edits more) others
+    → rest ≡ edit_words form edit ++ others → asked_edit made ≡ meant_edit edit → more ≡ edits ++ (made ∷ []) → HasMade words (asked_edits more) others
 made-more words edits rest others form edit made h may next same is = record {
   done = h.done ++ (w ∷ []);
   is =
-      h.is ∙ ap (λ v. words_of h.done ++ v) next ∙ sym (append_assoc (words_of h.done) (edit_words form edit) others)
+      h.is ∙ ap (λ v. written_words h.done ++ v) next ∙ sym (append_assoc (written_words h.done) (edit_words form edit) others)
       ∙ ap (λ v. v ++ others) (sym (words-more h.done w));
   made =
       ap asked_edits is ∙ map-append asked_edit edits (made ∷ []) ∙ ap (λ v. asked_edits edits ++ (v ∷ [])) same
-      ∙ ap (λ v. v ++ (in_characters edit ∷ [])) h.made ∙ sym (map-append (λ v. in_characters v.edit) h.done (w ∷ []));
+      ∙ ap (λ v. v ++ (meant_edit edit ∷ [])) h.made ∙ sym (map-append (λ v. meant_edit v.edit) h.done (w ∷ []));
 }
   where
     w : WrittenEdit
@@ -215,19 +215,19 @@ some-wrong words mistake (no_text key form is first m) e = cc
 some-wrong words mistake (assignments key value rest is a b m) e = cc
 
 -- Where something is wrong behind some edits, the words are those of no edits.
-no-edits : (words : List (List ℕ)) (mistake : Mistake) → AreWrong words mistake → (all : List WrittenEdit) → words ≡ words_of all → ⊥
+no-edits : (words : List (List ℕ)) (mistake : Mistake) → AreWrong words mistake → (all : List WrittenEdit) → words ≡ written_words all → ⊥
 no-edits words mistake h all is = left (rest-of h.before all h.rest (sym is ∙ h.is))
   where
-    left : (others : List WrittenEdit) × (h.rest ≡ words_of others) → ⊥
-    left o = elim o.0 as (λ others. h.rest ≡ words_of others → ⊥) [
+    left : (others : List WrittenEdit) × (h.rest ≡ written_words others) → ⊥
+    left o = elim o.0 as (λ others. h.rest ≡ written_words others → ⊥) [
       | [] ↦ some-wrong h.rest mistake h.wrong
-      | (w ∷ others) ↦ none-at h.rest mistake w.form w.edit (words_of others) w.may h.wrong
+      | (w ∷ others) ↦ none-at h.rest mistake w.form w.edit (written_words others) w.may h.wrong
     ] o.1
 
 -- An error that says what is wrong behind some edits is what the words give.
 pub refused : (words : List (List ℕ)) (edits : List Meant) (rest : List (List ℕ)) (mistake : Mistake)
     → HasMade words edits rest → rest ≢ [] → (rest ≢ [] → IsMistakeAt rest mistake)
-    → AreWrong words mistake × ((all : List WrittenEdit) → words ≡ words_of all → ⊥)
+    → AreWrong words mistake × ((all : List WrittenEdit) → words ≡ written_words all → ⊥)
 refused words edits rest mistake h some wrong = (w, no-edits words mistake w)
   where
     w : AreWrong words mistake

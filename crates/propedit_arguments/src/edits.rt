@@ -3,7 +3,7 @@
 ghost use Rattle.std.specs.Prelude.{◌∷◌, ◌≡◌, codes, map, string_bytes, IfOk, MatchBool};
 ghost use Rattle.std.specs.List.{list_any};
 ghost use Rattle.properties_format.specs.Text.{is_blank};
-ghost use Rattle.propedit_arguments.specs.Private.Edits.{asked_edit, borrowed_edit, in_characters, IsAssignment};
+ghost use Rattle.propedit_arguments.specs.Private.Edits.{asked_edit, borrowed_edit, meant_edit, IsAssignment};
 ghost use Rattle.propedit_arguments.specs.Private.Edits.{AreAfterDashes, GivesEdits, RefusesAssignments, TakesEdit};
 
 use crate::mistake::Mistake;
@@ -52,7 +52,7 @@ enum BorrowedEdit<'a> {
 
 impl BorrowedEdit<'_> {
     fn into_edit(self) -> Result<AskedEdit, AllocError>
-        ensures { IfOk result (λ edit. asked_edit edit ≡ in_characters (borrowed_edit self.entry)) }
+        ensures { IfOk result (λ edit. asked_edit edit ≡ meant_edit (borrowed_edit self.entry)) }
     {
         match self {
             BorrowedEdit::Set(key, value) => {

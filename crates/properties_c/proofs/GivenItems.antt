@@ -21,10 +21,10 @@ use Rattle.java_properties.specs.Private.LineByLine.{Collected}
 use Rattle.java_properties.proofs.MalformedEscapes.{collected-start, collected-next, collected-on, collected-lines}
 use Rattle.java_properties.proofs.Readings.{reading-of}
 use Rattle.java_properties.proofs.SliceReads.{collected-slice, slice_of, slice_reader, slice-read, slice-whole}
-use Rattle.properties_c.specs.Crossing.{Crossing, Crosses, Delivers, Refuses}
-use Rattle.properties_c.specs.Items.{AreAsked, AreGiven, GivesAsked, GivesGroups, GivesItems, GivesLine, GivesPart, GivesSource}
+use Rattle.properties_c.specs.Crossing.{Crossing, Crosses, Delivers, RefusesCall}
+use Rattle.properties_c.specs.Items.{AreAsked, AreAskedEntries, GivesAsked, GivesGroups, GivesItems, GivesAskedLine, GivesPart, GivesSource}
 use Rattle.properties_c.specs.Packed.{item_record, packed, packed_items, reading_line, reading_status}
-use Rattle.properties_c.specs.Private.Results.{Appends, HasItems, PacksGroups, PushesLine}
+use Rattle.properties_c.specs.Private.Results.{AppendsOutcome, HasItems, PacksGroups, PushesLine}
 use Rattle.properties_c.specs.Statuses.{line_or_none, malformed_status, status_of_kind}
 use Rattle.properties_c.specs.declared.asked.Asked.{Asked}
 use Rattle.properties_c.specs.declared.asked.Texts.TheVariants.{Read}
@@ -33,7 +33,7 @@ use Rattle.properties_c.specs.declared.status.Status.TheVariants.{Done, NoMemory
 
 -- ---- where all is read
 
-read-line : (a : Asked) (x : List ℕ) (o : Outcome) → a.comments ≡ Read → a.pairs ≡ Read → GivesLine a x o → IsOutcome x o
+read-line : (a : Asked) (x : List ℕ) (o : Outcome) → a.comments ≡ Read → a.pairs ≡ Read → GivesAskedLine a x o → IsOutcome x o
 read-line a x o c p (Logical.blank, h, is) = rw is h
 read-line a x o c p (Logical.comment text, h, is) = rw c at is
 read-line a x o c p (Logical.pair key value, h, is) = rw p at is
@@ -44,14 +44,14 @@ followed-as number ignored P Q entries f h = f entries h
 followed-as number (given content) P Q entries f h = (h.0, h.1, f h.0 h.2)
 followed-as number (broken how) P Q entries f h = h
 
-read-entries : (a : Asked) (n : ℕ) (groups : List (List Line)) (entries : List Entry) → a.comments ≡ Read → a.pairs ≡ Read → AreGiven a groups entries
+read-entries : (a : Asked) (n : ℕ) (groups : List (List Line)) (entries : List Entry) → a.comments ≡ Read → a.pairs ≡ Read → AreAskedEntries a groups entries
     → AreEntries n end groups entries
 read-entries a n [] entries c p h = h
 read-entries a n (g ∷ gs) entries c p h =
-    (h.0, read-line a (joined g) h.0 c p h.1, followed-as (first_number g) h.0 (AreGiven a gs) (AreEntries n end gs) entries (λ rest k. read-entries a n gs rest c p k) h.2)
+    (h.0, read-line a (joined g) h.0 c p h.1, followed-as (first_number g) h.0 (AreAskedEntries a gs) (AreEntries n end gs) entries (λ rest k. read-entries a n gs rest c p k) h.2)
 
 pub asked-of : {a : Asked} {e : Encoding} {source : List ℕ} {groups : List (List Line)} {entries : List Entry} → HasGroups e source end groups
-    → AreGiven a groups entries → AreAsked a e source entries
+    → AreAskedEntries a groups entries → AreAsked a e source entries
 asked-of {a} {e} {source} {groups} {entries} has are = record {
   groups = groups;
   has_groups = has;
@@ -67,13 +67,13 @@ asked-of {a} {e} {source} {groups} {entries} has are = record {
 -- These bytes are packed of them, and the rest of what comes after them.
 pub record Given (a : Asked) (groups : List (List Line)) (bytes : List ℕ) (rest : List Entry) : Type 0 where
   pub entries : List Entry
-  pub are : AreGiven a groups entries
+  pub are : AreAskedEntries a groups entries
   pub packed : packed_items entries ≡ bytes ++ packed_items rest
   pub status : reading_status entries ≡ reading_status rest
   pub line : reading_line entries ≡ reading_line rest
 
 abbrev pub ComeBefore : Asked → List (List Line) → List ℕ → Type 0
-ComeBefore a groups bytes = (later : List (List Line)) (rest : List Entry) → AreGiven a later rest → Given a (groups ++ later) bytes rest
+ComeBefore a groups bytes = (later : List (List Line)) (rest : List Entry) → AreAskedEntries a later rest → Given a (groups ++ later) bytes rest
 
 pub record HasPacked (a : Asked) (e : Encoding) (from bytes : List ℕ) (state : ReaderState) (to : List ℕ) : Type 0 where
   pub groups : List (List Line)
@@ -81,9 +81,9 @@ pub record HasPacked (a : Asked) (e : Encoding) (from bytes : List ℕ) (state :
   pub before : ComeBefore a groups bytes
 
 -- one group more
-one-more : (a : Asked) (old new : List ℕ) (g : List Line) (later : List (List Line)) (rest : List Entry) (o : Outcome) → GivesLine a (joined g) o
-    → Appends (first_number g) o old new → AreGiven a later rest
-    → (entries : List Entry) × AreGiven a (g ∷ later) entries × (old ++ packed_items entries ≡ new ++ packed_items rest)
+one-more : (a : Asked) (old new : List ℕ) (g : List Line) (later : List (List Line)) (rest : List Entry) (o : Outcome) → GivesAskedLine a (joined g) o
+    → AppendsOutcome (first_number g) o old new → AreAskedEntries a later rest
+    → (entries : List Entry) × AreAskedEntries a (g ∷ later) entries × (old ++ packed_items entries ≡ new ++ packed_items rest)
     × (reading_status entries ≡ reading_status rest) × (reading_line entries ≡ reading_line rest)
 one-more a old new g later rest ignored gives is h = (rest, (ignored, gives, h), ap (λ v. v ++ packed_items rest) (sym is), refl, refl)
 one-more a old new g later rest (given content) gives is h =
@@ -97,7 +97,7 @@ one-more a old new g later rest (given content) gives is h =
 one-more a old new g later rest (broken how) gives is h = absurd is
 
 before-next : (a : Asked) (groups : List (List Line)) (old new : List ℕ) (g : List Line) (o : Outcome) → ComeBefore a groups old
-    → GivesLine a (joined g) o → Appends (first_number g) o old new → ComeBefore a (groups ++ g ∷ []) new
+    → GivesAskedLine a (joined g) o → AppendsOutcome (first_number g) o old new → ComeBefore a (groups ++ g ∷ []) new
 before-next a groups old new g o before gives is = λ later rest h.
     let more = one-more a old new g later rest o gives is h in
     let all = before (g ∷ later) more.0 more.1 in
@@ -140,7 +140,7 @@ module _ {a : Asked} {e : Encoding} {from : List ℕ} where
 
   -- one more came
   pub packed-next : {to next : Bor (List ℕ)} {old : List ℕ} {s : ReaderState} (number : ℕ) (new : LineState) (bytes : List ℕ) (o : Outcome)
-      → HasPacked a e from old s to.now → JoinsNext slice_reader s to number new next → GivesLine a (chars new.line) o → Appends number o old bytes
+      → HasPacked a e from old s to.now → JoinsNext slice_reader s to number new next → GivesAskedLine a (chars new.line) o → AppendsOutcome number o old bytes
       → HasPacked a e from bytes new.state next.now
   packed-next number new bytes o h n gives is =
       let g = n.group.first ∷ n.group.others in
@@ -167,7 +167,7 @@ module _ {a : Asked} {e : Encoding} {from : List ℕ} where
 
   -- one came with a malformed escape
   pub packed-broken : {to next : Bor (List ℕ)} {bytes : List ℕ} {s : ReaderState} (number : ℕ) (new : LineState) (how : Malformed) (found : PackedItems)
-      → HasPacked a e from bytes s to.now → JoinsNext slice_reader s to number new next → GivesLine a (chars new.line) (broken how)
+      → HasPacked a e from bytes s to.now → JoinsNext slice_reader s to number new next → GivesAskedLine a (chars new.line) (broken how)
       → found.bytes.items ≡ bytes → found.status ≡ malformed_status how → found.line ≡ number → HasItems a e from found
   packed-broken number new how found h n gives bytes status line =
       let g = n.group.first ∷ n.group.others in
@@ -208,7 +208,7 @@ items-across a e source bytes found x h is plain d =
     subst (λ v. GivesAsked a v e source x) (sym plain) given
 
 pub spans-across : (a : Asked) (e : Encoding) (source : List ℕ) (result : Result (Vec ℕ) PropertiesError) (x : Crossing) → PacksGroups a e source result
-    → a.has_spans ≡ true → Crosses result x → GivesAsked a a.has_spans e source x ⊎ Refuses NoMemory 0 x
+    → a.has_spans ≡ true → Crosses result x → GivesAsked a a.has_spans e source x ⊎ RefusesCall NoMemory 0 x
 spans-across a e source (Ok bytes) x (view, is, packed) spans d =
     let given : GivesGroups a e source x =
     inl (record { view = view; is_view = is; bytes = bytes.items; packed = packed; delivered = d }) in

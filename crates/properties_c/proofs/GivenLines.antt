@@ -20,7 +20,7 @@ use Rattle.properties_items.specs.declared.borrowed.LineRef.{LineRef}
 use Rattle.properties_items.specs.declared.error.PropertiesError.{PropertiesError}
 use Rattle.properties_items.specs.declared.found.Found.{Found}
 use Rattle.properties_items.proofs.FoundItems.{found-item}
-use Rattle.properties_c.specs.Items.{standing, texts_of, GivesLine, IsShown, IsShownAs, IsTaken, shown}
+use Rattle.properties_c.specs.Items.{standing, asked_texts, GivesAskedLine, IsShown, IsShownAs, TakesOutcome, shown}
 use Rattle.properties_c.specs.Packed.{packed}
 use Rattle.properties_c.specs.Private.Results.{PushesLine, PushesRead, Resolves, passes, reads, standing_record}
 use Rattle.properties_c.specs.declared.asked.Asked.{Asked}
@@ -58,7 +58,7 @@ pub blank-line : (a : Asked) (number : ℕ) (x bytes : List ℕ) → IsSplit x b
 blank-line a number x bytes h = (ignored, (blank, h, refl), refl)
 
 -- nor does one that is passed over.
-pub passed-line : (a : Asked) (number : ℕ) (x bytes : List ℕ) (what : Logical) (t : Texts) → IsSplit x what → texts_of a what ≡ t → passes t ≡ true
+pub passed-line : (a : Asked) (number : ℕ) (x bytes : List ℕ) (what : Logical) (t : Texts) → IsSplit x what → asked_texts a what ≡ t → passes t ≡ true
     → PushesLine a number x bytes (Ok tt) bytes
 passed-line a number x bytes what PassedOver h is passed = (ignored, (what, h, rw is refl), refl)
 passed-line a number x bytes what Raw h is passed = absurd (cc)
@@ -70,7 +70,7 @@ is-read Raw h = absurd (cc)
 is-read PassedOver h = absurd (cc)
 
 -- One that is read gives what it is read as,
-pub read-line : (a : Asked) (number : ℕ) (x old new : List ℕ) (what : Logical) (result : Result Unit PropertiesError) → IsSplit x what → texts_of a what ≡ Read
+pub read-line : (a : Asked) (number : ℕ) (x old new : List ℕ) (what : Logical) (result : Result Unit PropertiesError) → IsSplit x what → asked_texts a what ≡ Read
     → PushesRead number x old result new → PushesLine a number x old result new
 read-line a number x old new what (Ok done) h reads p = (outcome_of x, (what, h, rw reads (outcome_of-meets x)), p)
 read-line a number x old new what (Err e) h reads (inl (inl broke, same)) =
@@ -79,15 +79,15 @@ read-line a number x old new what (Err e) h reads (inl (inr memory, same)) = inr
 read-line a number x old new what (Err e) h reads (inr memory) = inr memory
 
 -- and so does one without a backslash, as it stands.
-taken : (a : Asked) (x : List ℕ) (what : Logical) (t : Texts) (escaped : Bool) → texts_of a what ≡ t → IsSplit x what → passes t ≡ false
-    → (escaped && reads t) ≡ false → (escaped ≡ false → holds_backslash x ≡ false) → IsTaken (texts_of a what) x what (standing what)
+taken : (a : Asked) (x : List ℕ) (what : Logical) (t : Texts) (escaped : Bool) → asked_texts a what ≡ t → IsSplit x what → passes t ≡ false
+    → (escaped && reads t) ≡ false → (escaped ≡ false → holds_backslash x ≡ false) → TakesOutcome (asked_texts a what) x what (standing what)
 taken a x what PassedOver escaped is h other plain none = absurd (cc)
 taken a x what Raw escaped is h other plain none = rw is refl
 taken a x what Read true is h other plain none = absurd (cc)
 taken a x what Read false is h other plain none = rw is (subst (IsOutcome x) (plain-outcome x what h (none refl)) (outcome_of-meets x))
 
 pub standing-line : (a : Asked) (number : ℕ) (line old new : List ℕ) (parts : ParsedSpans) (t : Texts) (escaped : Bool)
-    → IsSplit (chars line) (in_characters (spanned line (Some parts))) → texts_of a (in_characters (spanned line (Some parts))) ≡ t → passes t ≡ false
+    → IsSplit (chars line) (in_characters (spanned line (Some parts))) → asked_texts a (in_characters (spanned line (Some parts))) ≡ t → passes t ≡ false
     → (escaped && reads t) ≡ false → (escaped ≡ false → holds_backslash (chars line) ≡ false)
     → new ≡ old ++ packed (standing_record number (in_characters (spanned line (Some parts)))) → PushesLine a number (chars line) old (Ok tt) new
 standing-line a number line old new (spans.Comment text) t escaped h is other plain none same =
@@ -108,9 +108,9 @@ item-outcome line f item h same =
 
 -- A line that isn't resolved shows its texts as they stand.
 pub shown-standing : (a : Asked) (x : List ℕ) (what : Logical) → IsSplit x what
-    → (texts_of a what ≡ Read → (holds_backslash x ≡ false) ⊎ ((outcome_of x ≡ ignored) ⊎ ((how : Malformed) × (outcome_of x ≡ broken how))))
+    → (asked_texts a what ≡ Read → (holds_backslash x ≡ false) ⊎ ((outcome_of x ≡ ignored) ⊎ ((how : Malformed) × (outcome_of x ≡ broken how))))
     → IsShown a x (standing what)
-shown-standing a x what h why = (what, h, by (texts_of a what) refl)
+shown-standing a x what h why = (what, h, by (asked_texts a what) refl)
   where
     unread : (o : Outcome) → outcome_of x ≡ o → shown what o ≡ standing what → IsShownAs Read x what (standing what)
     unread o is same = (o, subst (IsOutcome x) is (outcome_of-meets x), sym same)
@@ -120,7 +120,7 @@ shown-standing a x what h why = (what, h, by (texts_of a what) refl)
     plain (Logical.comment text) = refl
     plain (Logical.pair key value) = refl
 
-    by : (t : Texts) → texts_of a what ≡ t → IsShownAs t x what (standing what)
+    by : (t : Texts) → asked_texts a what ≡ t → IsShownAs t x what (standing what)
     by PassedOver is = refl
     by Raw is = refl
     by Read is = unresolved (why is)
@@ -137,7 +137,7 @@ no-item x None h none = h
 no-item x (Some item) h none = absurd (none item refl)
 
 -- An item that was resolved is shown.
-pub shown-read : (a : Asked) (x : List ℕ) (what : Logical) (content : Content) → IsSplit x what → texts_of a what ≡ Read → outcome_of x ≡ given content
+pub shown-read : (a : Asked) (x : List ℕ) (what : Logical) (content : Content) → IsSplit x what → asked_texts a what ≡ Read → outcome_of x ≡ given content
     → IsShown a x (given content)
 shown-read a x what content h reads is =
     let by : IsShownAs Read x what (given content) = (given content, subst (IsOutcome x) is (outcome_of-meets x), refl) in

@@ -8,7 +8,7 @@ use Rattle.properties_format.specs.Split.{Logical, blank, IsSplit}
 use Rattle.properties_format.specs.Computed.Encoding.{decoded_of}
 use Rattle.properties_format.specs.Computed.Lines.{groups_in, groups_of, lines_of}
 use Rattle.properties_format.specs.Computed.Split.{split_of}
-use Rattle.properties_format.specs.Text.{characters}
+use Rattle.properties_format.specs.Text.{piece_characters}
 use Rattle.properties_format.proofs.Encodings.Pieces.{decoded_of-meets, decoded_of-only, pieces_of-nil}
 use Rattle.properties_format.proofs.Groups.Meets.{groups_of-meets}
 use Rattle.properties_format.proofs.Groups.Only.{groups_of-only}
@@ -17,9 +17,9 @@ use Rattle.properties_format.proofs.Lines.Meets.{lines_of-meets}
 use Rattle.properties_format.proofs.Lines.Only.{lines_of-only}
 use Rattle.properties_format.proofs.Split.Unique.{split_of-only}
 use Rattle.properties_c.specs.Crossing.{Crossing, Delivers}
-use Rattle.properties_c.specs.Items.{AreAsked, AreGiven, GivesFront, GivesLine}
+use Rattle.properties_c.specs.Items.{AreAsked, AreAskedEntries, GivesFront, GivesAskedLine}
 use Rattle.properties_c.specs.Packed.{end_bytes, end_record, packed, packed_items, reading_status}
-use Rattle.properties_c.specs.Parts.{IsDivided, IsLineEnd, followed_by, later}
+use Rattle.properties_c.specs.Parts.{IsDivided, IsLineEnd, followed_by, later_entry}
 use Rattle.properties_c.specs.Private.Results.{HasFront, HasItems}
 use Rattle.properties_c.specs.declared.asked.Asked.{Asked}
 use Rattle.properties_c.specs.declared.items.PackedItems.{PackedItems}
@@ -37,18 +37,18 @@ unfolding split_of
 empty-split what h = split_of-only [] what h
 
 -- It gives nothing.
-empty-gives : (a : Asked) (x : List ℕ) (o : Outcome) → x ≡ [] → GivesLine a x o → o ≡ ignored
+empty-gives : (a : Asked) (x : List ℕ) (o : Outcome) → x ≡ [] → GivesAskedLine a x o → o ≡ ignored
 empty-gives a x o none (what, split, taken) =
     let is = empty-split what (rw none at split) in
     rw is at taken
 
-empty-first : (a : Asked) (n : ℕ) (gs : List (List Line)) (entries : List Entry) → AreGiven a ((record { number = n; text = [] } ∷ []) ∷ gs) entries
-    → AreGiven a gs entries
+empty-first : (a : Asked) (n : ℕ) (gs : List (List Line)) (entries : List Entry) → AreAskedEntries a ((record { number = n; text = [] } ∷ []) ∷ gs) entries
+    → AreAskedEntries a gs entries
 empty-first a n gs entries (o, gives, h) = rw (empty-gives a [] o refl gives) at h
 
 -- ---- what groups give
 
-given-both : (a : Asked) (gs hs : List (List Line)) (es os : List Entry) → AreGiven a gs es → AreGiven a hs os → AreGiven a (gs ++ hs) (followed_by es os)
+given-both : (a : Asked) (gs hs : List (List Line)) (es os : List Entry) → AreAskedEntries a gs es → AreAskedEntries a hs os → AreAskedEntries a (gs ++ hs) (followed_by es os)
 given-both a [] hs es os h k = rw h k
 given-both a (g ∷ gs) hs es os (ignored, gives, h) k = (ignored, gives, given-both a gs hs es os h k)
 given-both a (g ∷ gs) hs es os (given content, gives, (rest, is, h)) k =
@@ -56,7 +56,7 @@ given-both a (g ∷ gs) hs es os (given content, gives, (rest, is, h)) k =
 given-both a (g ∷ gs) hs es os (broken how, gives, is) k = (broken how, gives, ap (λ v. followed_by v os) is)
 
 -- After a malformed escape, no group gives more.
-given-all : (a : Asked) (gs hs : List (List Line)) (es : List Entry) → AreGiven a gs es → reading_status es ≢ Done → AreGiven a (gs ++ hs) es
+given-all : (a : Asked) (gs hs : List (List Line)) (es : List Entry) → AreAskedEntries a gs es → reading_status es ≢ Done → AreAskedEntries a (gs ++ hs) es
 given-all a [] hs es h stops = absurd (stops (ap reading_status h))
 given-all a (g ∷ gs) hs es (ignored, gives, h) stops = (ignored, gives, given-all a gs hs es h stops)
 given-all a (g ∷ gs) hs es (given content, gives, (rest, is, h)) stops =
@@ -64,19 +64,19 @@ given-all a (g ∷ gs) hs es (given content, gives, (rest, is, h)) stops =
 given-all a (g ∷ gs) hs es (broken how, gives, is) stops = (broken how, gives, is)
 
 -- The number of the first line is the number of what a group gives.
-gives-later : (a : Asked) (k : ℕ) (g : List Line) (o : Outcome) → GivesLine a (joined g) o → GivesLine a (joined (map (lines.later k) g)) o
-gives-later a k g o gives = subst (λ v. GivesLine a v o) (sym (joined-later k g)) gives
+gives-later : (a : Asked) (k : ℕ) (g : List Line) (o : Outcome) → GivesAskedLine a (joined g) o → GivesAskedLine a (joined (map (lines.later k) g)) o
+gives-later a k g o gives = subst (λ v. GivesAskedLine a v o) (sym (joined-later k g)) gives
 
-given-later : (a : Asked) (k : ℕ) (gs : List (List Line)) (es : List Entry) → AreGiven a gs es → AreGiven a (map (map (lines.later k)) gs) (map (later k) es)
+given-later : (a : Asked) (k : ℕ) (gs : List (List Line)) (es : List Entry) → AreAskedEntries a gs es → AreAskedEntries a (map (map (lines.later k)) gs) (map (later_entry k) es)
 given-later a k [] es h = rw h refl
 given-later a k (g ∷ gs) es (ignored, gives, h) = (ignored, gives-later a k g ignored gives, given-later a k gs es h)
 given-later a k ([] ∷ gs) es (given content, gives, h) = absurd (cc (empty-gives a [] (given content) refl gives))
 given-later a k ([] ∷ gs) es (broken how, gives, h) = absurd (cc (empty-gives a [] (broken how) refl gives))
 given-later a k ((l ∷ ls) ∷ gs) es (given content, gives, (rest, is, h)) =
-    (given content, gives-later a k (l ∷ ls) (given content) gives, (map (later k) rest, ap (map (later k)) is, given-later a k gs rest h))
-given-later a k ((l ∷ ls) ∷ gs) es (broken how, gives, is) = (broken how, gives-later a k (l ∷ ls) (broken how) gives, ap (map (later k)) is)
+    (given content, gives-later a k (l ∷ ls) (given content) gives, (map (later_entry k) rest, ap (map (later_entry k)) is, given-later a k gs rest h))
+given-later a k ((l ∷ ls) ∷ gs) es (broken how, gives, is) = (broken how, gives-later a k (l ∷ ls) (broken how) gives, ap (map (later_entry k)) is)
 
-later-none : (es : List Entry) → map (later 0) es ≡ es
+later-none : (es : List Entry) → map (later_entry 0) es ≡ es
 later-none [] = refl
 later-none (item n content ∷ es) = let same : 0 + n ≡ n = omega arith in ap₂ (λ m v. item m content ∷ v) same (later-none es)
 later-none (malformed how n ∷ es) = let same : 0 + n ≡ n = omega arith in ap₂ (λ m v. malformed how m ∷ v) same (later-none es)
@@ -101,14 +101,14 @@ groups-are : {e : Encoding} {source : List ℕ} {gs : List (List Line)} → HasG
 groups-are {e} {source} {gs} h =
     groups_of-only (numbered_lines h.lines end) end gs h.grouped ∙ ap (λ v. groups_of (numbered_lines v end) end) (lines-are h)
 
-given-in : {a : Asked} {e : Encoding} {source : List ℕ} {entries : List Entry} → AreAsked a e source entries → AreGiven a (groups_in e source end) entries
-given-in {a} {e} {source} {entries} h = subst (λ v. AreGiven a v entries) (groups-are h.has_groups) h.are_given
+given-in : {a : Asked} {e : Encoding} {source : List ℕ} {entries : List Entry} → AreAsked a e source entries → AreAskedEntries a (groups_in e source end) entries
+given-in {a} {e} {source} {entries} h = subst (λ v. AreAskedEntries a v entries) (groups-are h.has_groups) h.are_given
 
 -- ---- a part
 
 abbrev pub GoesOn : Asked → Encoding → List ℕ → List ℕ → List Entry → ℕ → Type 0
 GoesOn a e front rest entries n = (after : List ℕ) (others : List Entry) → AreAsked a (byte_order_mark e front).encoding (rest ++ after) others
-    → AreAsked a e (front ++ (rest ++ after)) (followed_by entries (map (later n) others))
+    → AreAsked a e (front ++ (rest ++ after)) (followed_by entries (map (later_entry n) others))
 
 goes-on : (a : Asked) (e : Encoding) (front rest : List ℕ) (entries : List Entry) (h : AreAsked a e front entries)
     → IsLineEnd (byte_order_mark e front).encoding (byte_order_mark e front).body rest → GoesOn a e front rest entries (line_endings h.has_groups.lines)
@@ -117,12 +117,12 @@ goes-on a e front rest entries h place after others k =
     let f = (byte_order_mark e front).encoding in
     let n = line_endings (lines_of (decoded_of e front)) in
     let parts = two.groups in
-    let second = empty-first a 1 parts.groups others (subst (λ v. AreGiven a v others) parts.second (given-in k)) in
+    let second = empty-first a 1 parts.groups others (subst (λ v. AreAskedEntries a v others) parts.second (given-in k)) in
     let both = given-both a (groups_in e front end) _ entries _ (given-in h) (given-later a n parts.groups others second) in
     let whole : groups_in e (front ++ (rest ++ after)) end ≡ groups_in e front end ++ map (map (lines.later n)) parts.groups =
     ap (λ v. groups_of (numbered_lines (lines_of v) end) end) two.text ∙ parts.together in
-    let given = subst (λ v. AreGiven a v (followed_by entries (map (later n) others))) (sym whole) both in
-    subst (λ m. AreAsked a e (front ++ (rest ++ after)) (followed_by entries (map (later m) others))) (ap line_endings (sym (lines-are h.has_groups)))
+    let given = subst (λ v. AreAskedEntries a v (followed_by entries (map (later_entry n) others))) (sym whole) both in
+    subst (λ m. AreAsked a e (front ++ (rest ++ after)) (followed_by entries (map (later_entry m) others))) (ap line_endings (sym (lines-are h.has_groups)))
     (asked-of (groups-meet e (front ++ (rest ++ after))) given)
 
 -- The groups of a part and of what follows it.
@@ -138,15 +138,15 @@ stops-there : (a : Asked) (e : Encoding) (front rest : List ℕ) (entries : List
 stops-there a e front rest entries h place stops after =
     let whole = whole-groups e front rest after place in
     asked-of (groups-meet e (front ++ (rest ++ after)))
-    (subst (λ v. AreGiven a v entries) (sym whole.1) (given-all a (groups_in e front end) whole.0 entries (given-in h) stops))
+    (subst (λ v. AreAskedEntries a v entries) (sym whole.1) (given-all a (groups_in e front end) whole.0 entries (given-in h) stops))
 
 -- Nothing comes of an empty front.
 nothing : (a : Asked) (e : Encoding) (entries : List Entry) → AreAsked a e [] entries → (entries ≡ []) × (line_endings (lines_of (decoded_of e [])) ≡ 0)
 nothing a e entries h =
-    let text : decoded_of e [] ≡ [] = ap characters (pieces_of-nil e) in
+    let text : decoded_of e [] ≡ [] = ap piece_characters (pieces_of-nil e) in
     let groups : groups_in e [] end ≡ (record { number = 1; text = [] } ∷ []) ∷ [] =
     ap (λ v. groups_of (numbered_lines (lines_of v) end) end) text ∙ groups_of-closed (record { number = 1; text = [] }) [] end refl in
-    (empty-first a 1 [] entries (subst (λ v. AreGiven a v entries) groups (given-in h)), ap (λ v. line_endings (lines_of v)) text)
+    (empty-first a 1 [] entries (subst (λ v. AreAskedEntries a v entries) groups (given-in h)), ap (λ v. line_endings (lines_of v)) text)
 
 none-goes-on : (a : Asked) (e : Encoding) (rest : List ℕ) (entries : List Entry) (h : AreAsked a e [] entries)
     → GoesOn a e [] rest entries (line_endings h.has_groups.lines)

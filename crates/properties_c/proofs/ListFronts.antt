@@ -4,8 +4,8 @@ use Rattle.std.proofs.lemmas.List.{append-nil, drop_at, map-append, take_at}
 use Rattle.std.proofs.lemmas.List.Concat.{flat_map-append}
 use Rattle.properties_editing.specs.declared.edit.Edit.{Edit}
 use Rattle.java_properties.specs.Editing.{edit_in, edits_in}
-use Rattle.properties_c.specs.Packed.{Meaning, edits, AreMeant, Begins, Record, IsSized, packed}
-use Rattle.properties_c.specs.Private.Lists.{header_bytes, header_of, Splits, IsFirst, RefusesFirst, RefusesRecord}
+use Rattle.properties_c.specs.Packed.{Meaning, edits, AreMeant, BeginsList, Record, IsSized, packed}
+use Rattle.properties_c.specs.Private.Lists.{header_bytes, header_of, Splits, IsFirstThing, RefusesFirst, RefusesRecord}
 use Rattle.properties_c.specs.declared.status.Status.{Status}
 use Rattle.properties_c.specs.declared.status.Status.TheVariants.{NoMemory, NotUtf8, BadList}
 use Rattle.properties_c.proofs.Packing.{packed-header, sizes}
@@ -30,7 +30,7 @@ AreMeant-more m rs things r thing meant sized means = absurd meant
 
 -- A list begins with one thing more.
 pub Begins-more : {A : Type 0} {m : Meaning A} {list rest after : List ℕ} {things : List A} {thing : A}
-    → Begins m list things rest → IsFirst m rest thing after → Begins m list (things ++ thing ∷ []) after
+    → BeginsList m list things rest → IsFirstThing m rest thing after → BeginsList m list (things ++ thing ∷ []) after
 Begins-more {A} {m} {list} {rest} {after} {things} {thing} before next = record {
   records = before.records ++ next.first ∷ [];
   division = before.division ∙ rw next.splits.division (simp (flat_map-append, append-nil, append_assoc));
@@ -38,7 +38,7 @@ Begins-more {A} {m} {list} {rest} {after} {things} {thing} before next = record 
 }
 
 -- What comes after the first thing is shorter.
-pub IsFirst-shorter : {A : Type 0} {m : Meaning A} {list rest : List ℕ} {thing : A} → IsFirst m list thing rest → length rest < length list
+pub IsFirst-shorter : {A : Type 0} {m : Meaning A} {list rest : List ℕ} {thing : A} → IsFirstThing m list thing rest → length rest < length list
 IsFirst-shorter {A} {m} {list} {rest} h =
     grind (arith, sizes, h.splits.division)
 
@@ -58,7 +58,7 @@ first-texts {list} {r} {rest} splits =
 -- ---- edits
 
 pub edits-more : {list rest after : List ℕ} (found : List Edit) (edit : Edit)
-    → Begins edits list (edits_in found) rest → IsFirst edits rest (edit_in edit) after → Begins edits list (edits_in (found ++ edit ∷ [])) after
+    → BeginsList edits list (edits_in found) rest → IsFirstThing edits rest (edit_in edit) after → BeginsList edits list (edits_in (found ++ edit ∷ [])) after
 edits-more {list} {rest} {after} found edit before next =
     rw (map-append edit_in found (edit ∷ [])) (Begins-more before next)
 

@@ -3,7 +3,7 @@ use Rattle.std.proofs.Common.{◌≡◌, ℕ, List, [], ◌∷◌, ◌++◌, len
 use Rattle.std.proofs.lemmas.List.{nil_from_length}
 use Rattle.properties_format.specs.Edits.{Edit, put, remove, set_value}
 use Rattle.properties_format.specs.Items.{Content, comment, pair}
-use Rattle.properties_c.specs.Packed.{Meaning, MeansEdit, MeansLine, AreMeant, Begins, IsPackedList, Record, packed_all}
+use Rattle.properties_c.specs.Packed.{Meaning, MeansEdit, MeansLine, AreMeant, BeginsList, IsPackedList, Record, packed_all}
 use Rattle.properties_c.proofs.Packing.{length-packed}
 use Rattle.properties_c.proofs.Splitting.{packed-only}
 
@@ -30,7 +30,7 @@ module _ {A : Type 0} (m : Meaning A) (one : (r : Record) (a b : A) → m.Means 
       cc
   meant-once rs ss xs ys e f g = absurd (omega (arith, ap length e, length-append {A = ℕ}, length-packed))
 
-  pub list-read : {list : List ℕ} {things : List A} (rest : List ℕ) → length rest ≡ 0 → Begins m list things rest
+  pub list-read : {list : List ℕ} {things : List A} (rest : List ℕ) → length rest ≡ 0 → BeginsList m list things rest
       → IsPackedList m list things
   list-read {list} {things} rest none h =
       let whole = rw (nil_from_length rest none) at h in record {

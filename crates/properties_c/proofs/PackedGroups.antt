@@ -6,11 +6,11 @@ use Rattle.std.proofs.lemmas.Str.{encodes-chars}
 use Rattle.properties_format.specs.Items.{Outcome}
 use Rattle.properties_format.specs.Split.{Logical, blank, comment, pair, IsSplit}
 use Rattle.properties_format.proofs.Split.Unique.{split_of-only}
-use Rattle.properties_editing.specs.Views.{OpenView, GivesNext, TakesNext, IsGroup, IsRawKey, IsRawValue, kind_of, line_of, value_in}
+use Rattle.properties_editing.specs.Views.{OpenView, GivesNext, TakesNext, IsGroup, IsRawKey, IsRawValue, group_kind, viewed_line, text_or_value}
 use Rattle.properties_editing.specs.declared.group.GroupKind.{GroupKind}
 use Rattle.properties_editing.specs.declared.group.GroupKind.TheVariants as group
 use Rattle.properties_editing.specs.declared.group.ViewedGroup.{ViewedGroup}
-use Rattle.properties_c.specs.Items.{ArePacked, IsPackedGroup, IsShown, key_in, kind_number, standing, texts_of}
+use Rattle.properties_c.specs.Items.{ArePacked, IsPackedGroup, IsShown, key_in, kind_number, standing, asked_texts}
 use Rattle.properties_c.specs.Items as given
 use Rattle.properties_c.specs.Private.Results.{AreNumbersOf, PushesGroup, is_read, reads}
 use Rattle.properties_c.specs.declared.asked.Asked.{Asked}
@@ -54,34 +54,34 @@ none-left old new (Some group) h none = absurd (none group refl)
 pub same-split : (x : List ℕ) (p q : Logical) → IsSplit x p → IsSplit x q → p ≡ q
 same-split x p q h k = split_of-only x p h ∙ sym (split_of-only x q k)
 
-pub raw-value : (x text : List ℕ) (what : Logical) → IsSplit x what → IsRawValue x text → text ≡ given.value_in (standing what)
-raw-value x text what h raw = raw.2 ∙ ap value_in (same-split x raw.0 what raw.1 h) ∙ by what
+pub raw-value : (x text : List ℕ) (what : Logical) → IsSplit x what → IsRawValue x text → text ≡ given.outcome_value (standing what)
+raw-value x text what h raw = raw.2 ∙ ap text_or_value (same-split x raw.0 what raw.1 h) ∙ by what
   where
-    by : (what : Logical) → value_in what ≡ given.value_in (standing what)
+    by : (what : Logical) → text_or_value what ≡ given.outcome_value (standing what)
     by blank = refl
     by (comment text) = refl
     by (pair key value) = refl
 
-pub raw-key : (x key : List ℕ) (what : Logical) → IsSplit x what → IsRawKey x key → (kind_of what ≡ group.Comment → ⊥) → key ≡ key_in (standing what)
+pub raw-key : (x key : List ℕ) (what : Logical) → IsSplit x what → IsRawKey x key → (group_kind what ≡ group.Comment → ⊥) → key ≡ key_in (standing what)
 raw-key x key what h (blank, k) other = k.1 ∙ ap (λ w. key_in (standing w)) (same-split x blank what k.0 h)
-raw-key x key what h (comment text, k) other = absurd (other (ap kind_of (same-split x what (comment text) h k.0)))
+raw-key x key what h (comment text, k) other = absurd (other (ap group_kind (same-split x what (comment text) h k.0)))
 raw-key x key what h (pair name value, k) other = k.1 ∙ ap (λ w. key_in (standing w)) (same-split x (pair name value) what k.0 h)
 
 -- The sign of a comment is no key.
-pub no-key : (what : Logical) → kind_of what ≡ group.Comment → key_in (standing what) ≡ []
+pub no-key : (what : Logical) → group_kind what ≡ group.Comment → key_in (standing what) ≡ []
 no-key blank h = refl
 no-key (comment text) h = refl
 no-key (pair key value) h = absurd (cc)
 
 -- ---- whether it is read
 
-pub read-texts : (a : Asked) (what : Logical) → is_read a (kind_of what) ≡ true → texts_of a what ≡ Read
+pub read-texts : (a : Asked) (what : Logical) → is_read a (group_kind what) ≡ true → asked_texts a what ≡ Read
 read-texts a blank h = absurd (cc)
 read-texts a (comment text) h = is-read a.comments h
 read-texts a (pair key value) h = is-read a.pairs h
 
 -- A blank line is not read, nor is another whose texts aren't.
-pub is-not-read : (a : Asked) (what : Logical) → is_read a (kind_of what) ≡ false → texts_of a what ≡ Read → ⊥
+pub is-not-read : (a : Asked) (what : Logical) → is_read a (group_kind what) ≡ false → asked_texts a what ≡ Read → ⊥
 is-not-read a blank h k = absurd (cc)
 is-not-read a (comment text) h k = let is : true ≡ false = ap reads (sym k) ∙ h in absurd (cc)
 is-not-read a (pair key value) h k = let is : true ≡ false = ap reads (sym k) ∙ h in absurd (cc)
@@ -90,17 +90,17 @@ is-not-read a (pair key value) h k = let is : true ≡ false = ap reads (sym k) 
 
 pub standing-record : (group : ViewedGroup) (what : Logical) (kind : ℕ) (key key_text value value_text : List ℕ) → kind ≡ kind_number group.kind
     → key ≡ key_text → IsUtf8 key_text → chars key_text ≡ key_in (standing what)
-    → value ≡ value_text → IsUtf8 value_text → chars value_text ≡ given.value_in (standing what)
+    → value ≡ value_text → IsUtf8 value_text → chars value_text ≡ given.outcome_value (standing what)
     → let r : Record = record { kind = kind; line = group.line_number; key = key; value = value } in
-    r ≡ record { kind = kind_number group.kind; line = group.line_number; key = encode_utf8_all (key_in (standing what)); value = encode_utf8_all (given.value_in (standing what)) }
+    r ≡ record { kind = kind_number group.kind; line = group.line_number; key = encode_utf8_all (key_in (standing what)); value = encode_utf8_all (given.outcome_value (standing what)) }
 standing-record group what kind key key_text value value_text k i u is j w also =
     let in_key : key ≡ encode_utf8_all (key_in (standing what)) = i ∙ sym (encodes-chars key_text u) ∙ ap encode_utf8_all is in
-    let in_value : value ≡ encode_utf8_all (given.value_in (standing what)) = j ∙ sym (encodes-chars value_text w) ∙ ap encode_utf8_all also in
+    let in_value : value ≡ encode_utf8_all (given.outcome_value (standing what)) = j ∙ sym (encodes-chars value_text w) ∙ ap encode_utf8_all also in
     rw (k, in_key, in_value) refl
 
 pub group-packed : (a : Asked) (v : OpenView) (group : ViewedGroup) (numbers : List ℕ) (r : Record) (shows : Outcome) → IsGroup v group
-    → AreNumbersOf v group numbers → IsShown a (line_of v) shows
-    → r ≡ record { kind = kind_number group.kind; line = group.line_number; key = encode_utf8_all (key_in shows); value = encode_utf8_all (given.value_in shows) }
+    → AreNumbersOf v group numbers → IsShown a (viewed_line v) shows
+    → r ≡ record { kind = kind_number group.kind; line = group.line_number; key = encode_utf8_all (key_in shows); value = encode_utf8_all (given.outcome_value shows) }
     → IsPackedGroup a v (spanned r numbers)
 group-packed a v group numbers r shows g (places, are, ordered, (flaw, tells, (ill_formed, told, same))) s is = record {
   group = group;

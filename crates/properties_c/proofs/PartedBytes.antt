@@ -2,7 +2,7 @@
 use Rattle.std.proofs.Common.{arith, ◌≡◌, ℕ, ◌<◌, ◌==◌, true, false, List, [], ◌∷◌, ◌++◌, refl, ap, ap₂, sym, subst, ◌∙◌, inl, inr, append_assoc, append-nil, lit<}
 use Rattle.std.proofs.lemmas.Bool.{cases_Bool}
 use Rattle.std.proofs.lemmas.Bool.Decides.{eqb_tells}
-use Rattle.properties_format.specs.Text.{line_feed, carriage_return, backslash, is_line_ending, line_ending_text, Piece, characters}
+use Rattle.properties_format.specs.Text.{line_feed, carriage_return, backslash, is_line_ending, line_ending_text, Piece, piece_characters}
 use Rattle.properties_format.specs.Encoding.{Encoding, windows_1252, utf_8, utf_16le, utf_16be, IsPieces, IsAligned, ascii_bytes, byte_order_mark, begins_like_bom}
 use Rattle.properties_format.specs.Lines.{Ended, put_together, is_open, without_last}
 use Rattle.properties_format.specs.Computed.Encoding.{pieces_of, decoded_of}
@@ -45,19 +45,19 @@ mark-part e front f c y h =
 
 decoded-part : (e : Encoding) (front : List ℕ) (c : ℕ) (y : List ℕ) → c < 0x80 → (let f = byte_order_mark e front in IsAligned f.encoding f.body)
     → (let f = byte_order_mark e front in
-    decoded_of e (front ++ (ascii_bytes f.encoding c ++ y)) ≡ decoded_of e front ++ c ∷ characters (pieces_of f.encoding y))
+    decoded_of e (front ++ (ascii_bytes f.encoding c ++ y)) ≡ decoded_of e front ++ c ∷ piece_characters (pieces_of f.encoding y))
 decoded-part e front c y h aligned =
     let f = byte_order_mark e front in
-    ap (λ v. characters (pieces_of v.encoding v.body)) (mark-part e front f.encoding c y h)
-    ∙ ap characters (pieces_of-cut_ascii f.encoding c f.body y h aligned) ∙ characters-append (pieces_of f.encoding f.body) _
+    ap (λ v. piece_characters (pieces_of v.encoding v.body)) (mark-part e front f.encoding c y h)
+    ∙ ap piece_characters (pieces_of-cut_ascii f.encoding c f.body y h aligned) ∙ characters-append (pieces_of f.encoding f.body) _
 
-decoded-rest : (e : Encoding) (c : ℕ) (y : List ℕ) → c < 0x80 → decoded_of e (ascii_bytes e c ++ y) ≡ c ∷ characters (pieces_of e y)
+decoded-rest : (e : Encoding) (c : ℕ) (y : List ℕ) → c < 0x80 → decoded_of e (ascii_bytes e c ++ y) ≡ c ∷ piece_characters (pieces_of e y)
 decoded-rest e c y h =
-    ap (λ v. characters (pieces_of v.encoding v.body)) (mark-part e [] e c y h) ∙ ap characters (pieces_of-ascii e c y h)
+    ap (λ v. piece_characters (pieces_of v.encoding v.body)) (mark-part e [] e c y h) ∙ ap piece_characters (pieces_of-ascii e c y h)
 
 -- ---- the last character
 
-last-piece : (ps : List Piece) (x : List ℕ) (c : ℕ) → characters ps ≡ x ++ c ∷ []
+last-piece : (ps : List Piece) (x : List ℕ) (c : ℕ) → piece_characters ps ≡ x ++ c ∷ []
     → (qs : List Piece) × (p : Piece) × (ps ≡ qs ++ p ∷ []) × (p.character ≡ c)
 last-piece [] [] c h = absurd (cc)
 last-piece [] (a ∷ x) c h = absurd (cc)
@@ -70,7 +70,7 @@ last-piece (p ∷ q ∷ ps) (a ∷ x) c h =
     (p ∷ rest.0, rest.1, ap (λ v. p ∷ v) rest.2, rest.3)
 
 -- A text that ends in an ASCII character is that of bytes that end in it.
-ends-in : (e : Encoding) (d x : List ℕ) (c : ℕ) → c < 0x80 → characters (pieces_of e d) ≡ x ++ c ∷ [] → EndsIn e c d
+ends-in : (e : Encoding) (d x : List ℕ) (c : ℕ) → c < 0x80 → piece_characters (pieces_of e d) ≡ x ++ c ∷ [] → EndsIn e c d
 ends-in e d x c h is =
     let last = last-piece (pieces_of e d) x c is in
     let cut = pieces-cut e d last.0 last.1 [] (subst (IsPieces e d) last.2 (pieces_of-meets e d)) in
@@ -128,7 +128,7 @@ module _ (e : Encoding) (front : List ℕ) where
       λ k. let b = ends-cr x k in whole (ends-in f.encoding f.body b.0 carriage_return (lit< tt) b.1) in
       rw division (record {
         text = decoded-part e front c (more ++ after) small aligned ∙ ap (λ v. x ++ v) (sym second);
-        groups = subst (ArePartGroups x) (sym second) (part-groups x c (characters (pieces_of f.encoding (more ++ after))) ends entire shut);
+        groups = subst (ArePartGroups x) (sym second) (part-groups x c (piece_characters (pieces_of f.encoding (more ++ after))) ends entire shut);
       })
 
   pub two-parts : (rest after : List ℕ) → (let f = byte_order_mark e front in IsLineEnd f.encoding f.body rest) → AreTwoParts e front (rest ++ after)

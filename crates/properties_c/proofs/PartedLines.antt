@@ -2,7 +2,7 @@
 use Rattle.std.proofs.Common.{◌≡◌, ◌≤◌, ℕ, suc, ◌+◌, ◌==◌, true, false, inl, inr, List, [], ◌∷◌, ◌++◌, length, None, refl, ap, sym, ◌∙◌, arith}
 use Rattle.std.proofs.lemmas.Bool.{cases_Bool, false_from_ne_true}
 use Rattle.memchr.specs.Find.{IsFirstByte, is_byte}
-use Rattle.properties_format.specs.Text.{carriage_return, characters, line_feed}
+use Rattle.properties_format.specs.Text.{carriage_return, piece_characters, line_feed}
 use Rattle.properties_format.specs.Encoding.{Encoding, InForce, byte_order_mark}
 use Rattle.properties_format.specs.ItemsToCome.{ReaderState, start}
 use Rattle.properties_format.specs.Lines.{Ended, line_endings}
@@ -13,8 +13,8 @@ use Rattle.properties_format.specs.Computed.Lines.{character_before, lines_of}
 use Rattle.properties_format.proofs.Cut.Byline.{decoded_ended, decoded_lines-cut}
 use Rattle.properties_text.specs.Encoding.{encoding_of}
 use Rattle.properties_text.specs.declared.encoding.Encoding as code
-use Rattle.properties_lines.specs.Private.HeldLines.{lines_left}
-use Rattle.properties_lines.specs.Scanner.{Fits, GivesLine, scanner_state}
+use Rattle.properties_lines.specs.Private.HeldLines.{held_lines_left}
+use Rattle.properties_lines.specs.Scanner.{Fits, GivesScannedLine, scanner_state}
 use Rattle.properties_lines.specs.declared.scanner.Scanner.{Scanner}
 use Rattle.properties_lines.proofs.HeldLines.{body-lines_left}
 use Rattle.properties_c.specs.Private.Results.{feeds}
@@ -25,7 +25,7 @@ use Rattle.properties_tables.proofs.FlawedLines.{found-scanning, lines-body, sca
 -- The lines before the scanner's place and those to come are the lines of the body.
 pub record IsCounting (e : Encoding) (body : List ℕ) (s : Scanner) : Type 0 where
   pub scanning : IsScanning body s
-  pub count : s.passed + length (lines_left body s) ≡ length (held_lines_of e body)
+  pub count : s.passed + length (held_lines_left body s) ≡ length (held_lines_of e body)
 
 -- at the start
 pub count-start : (e : Encoding) (source body : List ℕ) (s : Scanner) (f : code.Encoding)
@@ -40,7 +40,7 @@ count-start e source body s f in_force same fits at stands =
     }
 
 -- after a line
-pub count-next : {e : Encoding} {body : List ℕ} (s new : Scanner) → IsCounting e body s → GivesLine s body true new → IsCounting e body new
+pub count-next : {e : Encoding} {body : List ℕ} (s new : Scanner) → IsCounting e body s → GivesScannedLine s body true new → IsCounting e body new
 count-next {e} {body} s new h g = record {
   scanning = found-scanning body s new h.scanning g;
   count = omega (arith, h.count, g.number, ap length (body-lines_left s new body h.scanning.in_body g));
@@ -91,7 +91,7 @@ decoded-length e (l ∷ ls) = omega (arith, decoded-length e ls)
 pub cut-lines : (e f : Encoding) (source body : List ℕ) → byte_order_mark e source ≡ record { encoding = f; body = body }
     → line_endings (lines_of (decoded_of e source)) ≡ line_endings (cut_of f body)
 cut-lines e f source body in_force =
-    ap (λ v. let w : InForce = v in line_endings (lines_of (characters (pieces_of w.encoding w.body)))) in_force
+    ap (λ v. let w : InForce = v in line_endings (lines_of (piece_characters (pieces_of w.encoding w.body)))) in_force
     ∙ ap line_endings (sym (decoded_lines-cut f body)) ∙ decoded-length f (cut_of f body).ended
 
 pub count-end : (e f : Encoding) (source body : List ℕ) (s : Scanner) → byte_order_mark e source ≡ record { encoding = f; body = body } → IsCounting f body s

@@ -14,7 +14,7 @@ use Rattle.java_properties.specs.ReadLines.{IsReading, ReadsWhole, StopsMalforme
 use Rattle.properties_items.specs.declared.error.PropertiesError.{PropertiesError}
 use Rattle.java_properties.proofs.SliceReads.{slice_reader, slice-read, slice-whole}
 use Rattle.properties_c.specs.Packed.{escape_bytes, escape_kind, finding_bytes}
-use Rattle.properties_c.specs.Private.Results.{found_bytes, kind_of_finding}
+use Rattle.properties_c.specs.Private.Results.{malformed_bytes, kind_of_finding}
 
 found-same : (how : Malformed) (number more : ℕ) → finding_bytes (kind_of_finding (malformed_kind how)) number more [] ≡ finding_bytes (escape_kind how) number more []
 found-same not_enough_digits number more = refl
@@ -22,10 +22,10 @@ found-same not_hex number more = refl
 found-same invalid_character number more = refl
 
 -- The records of escapes have the bytes of the escapes.
-pub found_bytes-escapes : (escapes : List format.MalformedEscape) → flat_map found_bytes (escape_records escapes) ≡ flat_map escape_bytes escapes
+pub found_bytes-escapes : (escapes : List format.MalformedEscape) → flat_map malformed_bytes (escape_records escapes) ≡ flat_map escape_bytes escapes
 found_bytes-escapes [] = refl
 found_bytes-escapes (escape ∷ escapes) =
-    ap (λ v. v ++ flat_map found_bytes (escape_records escapes)) (found-same escape.kind escape.number (if escape.in_comment then 1 else 0))
+    ap (λ v. v ++ flat_map malformed_bytes (escape_records escapes)) (found-same escape.kind escape.number (if escape.in_comment then 1 else 0))
     ∙ ap (λ v. escape_bytes escape ++ v) (found_bytes-escapes escapes)
 
 pub ruleset finding = (found_bytes-escapes)

@@ -12,10 +12,10 @@ use Rattle.properties_items.specs.declared.error.ErrorKind.TheVariants as kind
 use Rattle.properties_items.specs.declared.error.PropertiesError.{PropertiesError}
 use Rattle.std.specs.Prelude.{Ok}
 use Rattle.std.specs.Global.{Vec}
-use Rattle.properties_c.specs.Crossing.{Crossing, Delivers, Refuses}
+use Rattle.properties_c.specs.Crossing.{Crossing, Delivers, RefusesCall}
 use Rattle.properties_c.specs.Packed.{WithList, lines}
 use Rattle.properties_c.specs.Private.Lists.{RefusesList}
-use Rattle.properties_c.specs.Private.Results.{RefusesCalls, SetsAll, WritesOn, has_refused_call, opening}
+use Rattle.properties_c.specs.Private.Results.{RefusesCalls, SetsSettings, WritesOn, has_refused_call, opening}
 use Rattle.properties_c.specs.Statuses.{status_of_kind}
 use Rattle.properties_c.specs.Writing.{WritesLines, has_refused, lines_before}
 use Rattle.properties_c.specs.declared.status.Status.{Status}
@@ -23,14 +23,14 @@ use Rattle.properties_c.specs.declared.status.Status.TheVariants.{Done, NoMemory
 
 pub prefix-refused : {V W : Type 0} (w : Writing V) (old new : Writing W) (s : Settings) (text : List ℕ) (error : PropertiesError)
     → s.comment_prefix ≡ text → SetsText (IsGoodPrefix text) kind.BadCommentPrefix text old old (Err error) new
-    → SetsAll w s (Err (status_of_kind (kind_of error)))
+    → SetsSettings w s (Err (status_of_kind (kind_of error)))
 prefix-refused w old new s text error same (inl h) = rw (h.refuses.its_kind, same) h.bad
 prefix-refused w old new s text error same (inr h) = rw h.is.its_kind tt
 
 pub separator-refused : {V W : Type 0} (w : Writing V) (old new : Writing W) (s : Settings) (text : List ℕ) (error : PropertiesError)
     → IsGoodPrefix s.comment_prefix → s.kv_separator ≡ text
     → SetsText (IsGoodSeparator text) kind.BadKvSeparator text old old (Err error) new
-    → SetsAll w s (Err (status_of_kind (kind_of error)))
+    → SetsSettings w s (Err (status_of_kind (kind_of error)))
 separator-refused w old new s text error good same (inl h) = rw h.refuses.its_kind (good, rw same h.bad)
 separator-refused w old new s text error good same (inr h) = rw h.is.its_kind tt
 
@@ -47,10 +47,10 @@ refused-lines s (pair key value ∷ contents) = rw (refused-lines s contents, re
 -- What was written crosses: its bytes behind the front, or its status.
 abbrev pub WrittenCrosses : Result (Vec ℕ × ℕ) Status → Crossing → Type 0
 WrittenCrosses (Ok (bytes, front)) x = Delivers (drop front bytes.items) Done 0 x
-WrittenCrosses (Err status) x = Refuses status 0 x
+WrittenCrosses (Err status) x = RefusesCall status 0 x
 
 crossed : (e : Encoding) (s : Settings) (goes_on : Bool) (contents : List Content) (status : Status) (x : Crossing)
-    → RefusesCalls s (map call_of contents) status → Refuses status 0 x → WritesLines e s (lines_before goes_on) contents x
+    → RefusesCalls s (map call_of contents) status → RefusesCall status 0 x → WritesLines e s (lines_before goes_on) contents x
 crossed e s goes_on contents BadPrefix x h given = inr (inl (h, given))
 crossed e s goes_on contents BadSeparator x h given = inr (inr (inl (h.0, h.1, given)))
 crossed e s goes_on contents EmptyKey x h given = inr (inr (inr (inl (h.0, sym (refused-lines s contents) ∙ h.1, given))))
@@ -58,7 +58,7 @@ crossed e s goes_on contents NoMemory x h given = inr (inr (inr (inr given)))
 crossed e s goes_on contents other x h given = absurd h
 
 list-crossed : (s : Settings) (list : List ℕ) (status : Status) (x : Crossing) {Holds : List Content → Type 0} → RefusesList lines list status
-    → Refuses status 0 x → WithList lines list Holds x
+    → RefusesCall status 0 x → WithList lines list Holds x
 list-crossed s list BadList x h given = inr (inl (h, given))
 list-crossed s list NotUtf8 x h given = inr (inr (inl (h, given)))
 list-crossed s list NoMemory x h given = inr (inr (inr given))

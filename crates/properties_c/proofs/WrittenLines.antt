@@ -19,9 +19,9 @@ use Rattle.properties_items.specs.Errors.{kind_of}
 use Rattle.properties_items.specs.declared.error.ErrorKind.{ErrorKind}
 use Rattle.properties_items.specs.declared.error.ErrorKind.TheVariants as kind
 use Rattle.properties_items.specs.declared.error.PropertiesError.{PropertiesError}
-use Rattle.properties_c.specs.Packed.{lines, Begins}
-use Rattle.properties_c.specs.Private.Lists.{IsFirst}
-use Rattle.properties_c.specs.Private.Results.{acceptance, accepted_for, AddsLine, HasAddedAll, HasOpened, HasWrittenList, RefusesCalls, RefusesLines, RefusesListFirst, RefusesSettings, has_refused_call, opening}
+use Rattle.properties_c.specs.Packed.{lines, BeginsList}
+use Rattle.properties_c.specs.Private.Lists.{IsFirstThing}
+use Rattle.properties_c.specs.Private.Results.{acceptance, accepted_for, WritesContent, HasAddedAll, HasOpened, HasWrittenList, RefusesCalls, RefusesLines, RefusesListFirst, RefusesSettings, has_refused_call, opening}
 use Rattle.properties_c.specs.Writing.{AreGood}
 use Rattle.properties_c.specs.declared.status.Status.{Status}
 use Rattle.properties_c.specs.declared.status.Status.TheVariants.{EmptyKey}
@@ -38,17 +38,17 @@ module _ {W : Type 0} (sink : Sink W) (old new : Writing W) where
     quiet = λ e f. ap (λ (v : Writing W). v.sink) same;
   }
 
-  refused-adds : (content : Content) (kind : ErrorKind) → IsRefusedBy kind old content → new ≡ old → AddsLine sink content old (accepted_for kind) new
+  refused-adds : (content : Content) (kind : ErrorKind) → IsRefusedBy kind old content → new ≡ old → WritesContent sink content old (accepted_for kind) new
   refused-adds content kind.EmptyKey h same = not-accepted content h same
   refused-adds content other h same = refl
 
   error-adds : (content : Content) (error : PropertiesError) → WritesLine sink old content (Err error) new
-      → AddsLine sink content old (accepted_for (kind_of error)) new
+      → WritesContent sink content old (accepted_for (kind_of error)) new
   error-adds content error (inl h) = refused-adds content (kind_of error) h.reason h.same
   error-adds content error (inr h) = rw h.is.its_kind refl
 
   pub comment-adds : (text : List ℕ) (done : Result Unit PropertiesError) (result : Result Bool Status)
-      → WritesLine sink old (comment text) done new → result ≡ acceptance done → AddsLine sink (comment text) old result new
+      → WritesLine sink old (comment text) done new → result ≡ acceptance done → WritesContent sink (comment text) old result new
   comment-adds text (Ok done) result h is = rw is (record {
     answer = refl;
     made = made-line (comment_call text) h.takes.live refl (λ q. absurd (cc)) refl h;
@@ -57,7 +57,7 @@ module _ {W : Type 0} (sink : Sink W) (old new : Writing W) where
   comment-adds text (Err error) result h is = rw is (error-adds (comment text) error h)
 
   pub pair-adds : (key value : List ℕ) (done : Result Unit PropertiesError) (result : Result Bool Status)
-      → WritesLine sink old (pair key value) done new → result ≡ acceptance done → AddsLine sink (pair key value) old result new
+      → WritesLine sink old (pair key value) done new → result ≡ acceptance done → WritesContent sink (pair key value) old result new
   pair-adds key value (Ok done) result h is = rw is (pair-made key value h)
   pair-adds key value (Err error) result h is = rw is (error-adds (pair key value) error h)
 
@@ -68,7 +68,7 @@ pub ruleset adding = (comment-adds, pair-adds)
 -- The list begins with lines that were written, and this is whether one of them wasn't accepted.
 pub record HasAdded {W : Type 0} (sink : Sink W) (list : List ℕ) (old : Writing W) (refused : Bool) (rest : List ℕ) (new : Writing W) : Type 0 where
   pub contents : List Content
-  pub begins : Begins lines list contents rest
+  pub begins : BeginsList lines list contents rest
   pub made : HasMade sink old (map call_of contents) new
   pub refuses : refused ≡ has_refused_call old.settings (map call_of contents)
 
@@ -89,7 +89,7 @@ module _ {W : Type 0} {sink : Sink W} where
   }
 
   pub added-more : {list rest after : List ℕ} {old middle new : Writing W} {refused accepted : Bool} {content : Content}
-      → HasAdded sink list old refused rest middle → IsFirst lines rest content after → HasMadeCall sink middle (call_of content) accepted new
+      → HasAdded sink list old refused rest middle → IsFirstThing lines rest content after → HasMadeCall sink middle (call_of content) accepted new
       → HasAdded sink list old (refused || not accepted) after new
   added-more {old = old} {accepted = accepted} {content = content} h first k =
       let more = map-append call_of h.contents (content ∷ []) in
@@ -104,14 +104,14 @@ module _ {W : Type 0} {sink : Sink W} where
 
   -- One of the lines before wasn't accepted, or all were.
   pub added-refused : {list rest after : List ℕ} {old middle new : Writing W} {refused accepted : Bool} {content : Content} → refused ≡ true
-      → HasAdded sink list old refused rest middle → IsFirst lines rest content after → HasMadeCall sink middle (call_of content) accepted new
+      → HasAdded sink list old refused rest middle → IsFirstThing lines rest content after → HasMadeCall sink middle (call_of content) accepted new
       → HasAdded sink list old refused after new
   added-refused {list} {after = after} {old = old} {new = new} {refused = refused} {accepted = accepted} is h first k =
       let same : (refused || not accepted) ≡ refused = rw is refl in
       subst (λ b. HasAdded sink list old b after new) same (added-more h first k)
 
   pub added-accepted : {list rest after : List ℕ} {old middle new : Writing W} {refused accepted : Bool} {content : Content} → refused ≡ false
-      → HasAdded sink list old refused rest middle → IsFirst lines rest content after → HasMadeCall sink middle (call_of content) accepted new
+      → HasAdded sink list old refused rest middle → IsFirstThing lines rest content after → HasMadeCall sink middle (call_of content) accepted new
       → HasAdded sink list old (not accepted) after new
   added-accepted {list} {after = after} {old = old} {new = new} {refused = refused} {accepted = accepted} is h first k =
       let same : (refused || not accepted) ≡ not accepted = rw is refl in

@@ -5,7 +5,7 @@ use Rattle.properties_format.specs.Encoding.{Encoding, Repertoire, characters_fo
 use Rattle.properties_format.specs.Edits.{Edit}
 use Rattle.java_properties.specs.Editing.{EditsPairs, MakesEdits}
 use Rattle.properties_items.specs.declared.error.PropertiesError.{PropertiesError}
-use Rattle.properties_c.specs.Crossing.{Crossing, Crosses, Delivers, Refuses}
+use Rattle.properties_c.specs.Crossing.{Crossing, Crosses, Delivers, RefusesCall}
 use Rattle.properties_c.specs.Inputs.{InEncoding, WithFlags, WithSource, for_conversions, for_edits, ToTarget}
 use Rattle.properties_c.specs.Packed.{edits, WithList}
 use Rattle.properties_c.specs.declared.encoding.Flags.{Flags}
@@ -44,4 +44,4 @@ pub record GivesConverted (e : Encoding) (target : code.Repertoire) (readable : 
 
 abbrev pub ConvertsAcross : List ℕ → ℕ → ℕ → ℕ → Crossing → Type 0
 ConvertsAcross source encoding target flags x =
-    InEncoding encoding (λ e. ToTarget target (λ t. WithFlags for_conversions flags (λ f. WithSource f.strict e source (GivesConverted e t f.readable source x ⊎ Refuses NoMemory 0 x) x) x) x) x
+    InEncoding encoding (λ e. ToTarget target (λ t. WithFlags for_conversions flags (λ f. WithSource f.strict e source (GivesConverted e t f.readable source x ⊎ RefusesCall NoMemory 0 x) x) x) x) x

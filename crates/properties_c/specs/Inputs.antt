@@ -9,7 +9,7 @@ use Rattle.properties_text.specs.declared.print.Repertoire.TheVariants.{Windows1
 use Rattle.properties_editing.specs.declared.source.Comments.{Comments}
 use Rattle.properties_editing.specs.declared.source.Comments.TheVariants as comments
 use Rattle.properties_editing.specs.declared.source.SourceOptions.{SourceOptions}
-use Rattle.properties_c.specs.Crossing.{Crossing, Refuses}
+use Rattle.properties_c.specs.Crossing.{Crossing, RefusesCall}
 use Rattle.properties_c.specs.declared.asked.Asked.{Asked}
 use Rattle.properties_c.specs.declared.asked.Texts.{Texts}
 use Rattle.properties_c.specs.declared.asked.Texts.TheVariants.{PassedOver, Raw, Read}
@@ -32,7 +32,7 @@ encoding_number utf_16be = 3
 
 -- The number is that of an encoding, of which this holds; or no encoding has it, and the call was refused.
 abbrev pub InEncoding : ℕ → (Encoding → Type 0) → Crossing → Type 0
-InEncoding n Holds x = ((e : Encoding) × (encoding_at n ≡ Some e) × Holds e) ⊎ (encoding_at n ≡ None) × Refuses UnknownEncoding 0 x
+InEncoding n Holds x = ((e : Encoding) × (encoding_at n ≡ Some e) × Holds e) ⊎ (encoding_at n ≡ None) × RefusesCall UnknownEncoding 0 x
 
 -- the target of a conversion with this number, if there is one
 abbrev pub target_at : ℕ → Option Repertoire
@@ -41,7 +41,7 @@ target_at n =
 
 -- The number is that of a target, of which this holds; or no target has it, and the call was refused.
 abbrev pub ToTarget : ℕ → (Repertoire → Type 0) → Crossing → Type 0
-ToTarget n Holds x = ((t : Repertoire) × (target_at n ≡ Some t) × Holds t) ⊎ (target_at n ≡ None) × Refuses UnknownEncoding 0 x
+ToTarget n Holds x = ((t : Repertoire) × (target_at n ≡ Some t) × Holds t) ⊎ (target_at n ≡ None) × RefusesCall UnknownEncoding 0 x
 
 -- the flags that an edit takes, those of a look-up and of a removal, those of a call that tells a comment, those of a
 -- conversion, and those of the call that writes lines
@@ -100,7 +100,7 @@ flags_at taken n = if are_flags n && are_among (flags_in n) taken then Some (fla
 -- The call takes each of the flags, and this holds of what they ask for; or it doesn't, and was refused.
 abbrev pub WithFlags : Flags → ℕ → (Flags → Type 0) → Crossing → Type 0
 WithFlags taken n Holds x =
-    ((f : Flags) × (flags_at taken n ≡ Some f) × Holds f) ⊎ (flags_at taken n ≡ None) × Refuses UnknownFlags 0 x
+    ((f : Flags) × (flags_at taken n ≡ Some f) × Holds f) ⊎ (flags_at taken n ≡ None) × RefusesCall UnknownFlags 0 x
 
 -- whether comments are read or passed over
 abbrev pub comments_for : Bool → Comments
@@ -128,7 +128,7 @@ TellsUnsound strict e source (Some number) = (strict ≡ true) × IsFirstUnsound
 abbrev pub WithSource : Bool → Encoding → List ℕ → Type 0 → Crossing → Type 0
 WithSource strict e source Holds x =
     (TellsUnsound strict e source None × Holds)
-    ⊎ ((number : ℕ) × TellsUnsound strict e source (Some number) × Refuses NotText number x)
+    ⊎ ((number : ℕ) × TellsUnsound strict e source (Some number) × RefusesCall NotText number x)
 
 -- ---- What items are asked for.
 
@@ -155,23 +155,23 @@ asked_at n = if are_taken n then Some (asked_in n) else None
 
 -- Items take the flags, and this holds of what they ask for; or they don't, and the call was refused.
 abbrev pub WithAsked : ℕ → (Asked → Type 0) → Crossing → Type 0
-WithAsked n Holds x = ((a : Asked) × (asked_at n ≡ Some a) × Holds a) ⊎ (asked_at n ≡ None) × Refuses UnknownFlags 0 x
+WithAsked n Holds x = ((a : Asked) × (asked_at n ≡ Some a) × Holds a) ⊎ (asked_at n ≡ None) × RefusesCall UnknownFlags 0 x
 
 -- ---- Texts.
 
 -- The bytes are UTF-8, and this holds of their characters; or they aren't, and the call was refused.
 abbrev pub WithText : List ℕ → (List ℕ → Type 0) → Crossing → Type 0
-WithText bytes Holds x = (IsUtf8 bytes × Holds (chars bytes)) ⊎ (¬ IsUtf8 bytes) × Refuses NotUtf8 0 x
+WithText bytes Holds x = (IsUtf8 bytes × Holds (chars bytes)) ⊎ (¬ IsUtf8 bytes) × RefusesCall NotUtf8 0 x
 
 -- ---- Labels.
 
 -- the number of an encoding, and of none
-abbrev pub number_or_none : Option Encoding → ℕ
-number_or_none None = 255
-number_or_none (Some e) = encoding_number e
+abbrev pub encoding_or_none : Option Encoding → ℕ
+encoding_or_none None = 255
+encoding_or_none (Some e) = encoding_number e
 
 -- This is the number of the encoding that the label means. Bytes that aren't UTF-8 mean none.
 abbrev pub NumbersLabel : List ℕ → ℕ → Type 0
 NumbersLabel label number =
-    (IsUtf8 label × ((e : Option Encoding) × IsLabelled label e × (number ≡ number_or_none e)))
-    ⊎ (¬ IsUtf8 label) × (number ≡ number_or_none None)
+    (IsUtf8 label × ((e : Option Encoding) × IsLabelled label e × (number ≡ encoding_or_none e)))
+    ⊎ (¬ IsUtf8 label) × (number ≡ encoding_or_none None)

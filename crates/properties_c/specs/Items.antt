@@ -10,16 +10,16 @@ use Rattle.properties_format.specs.Split.{Logical, blank, comment, pair, IsSplit
 use Rattle.java_properties.specs.ReadLines.{IsReading}
 use Rattle.properties_items.specs.declared.error.ErrorKind.{ErrorKind}
 use Rattle.properties_items.specs.declared.error.ErrorKind.TheVariants as error
-use Rattle.properties_editing.specs.Views.{OpenView, IsViewOf, IsGroup, ArePlaces, AreOrdered, TellsFlaw, TellsIllFormed, line_of, past}
+use Rattle.properties_editing.specs.Views.{OpenView, IsViewOf, IsGroup, ArePlaces, AreOrdered, TellsFlaw, TellsIllFormed, viewed_line, past_group}
 use Rattle.properties_editing.specs.declared.group.Flaw.{Flaw}
 use Rattle.properties_editing.specs.declared.group.GroupKind.{GroupKind}
 use Rattle.properties_editing.specs.declared.group.GroupKind.TheVariants as kind
 use Rattle.properties_editing.specs.declared.group.PartPlaces.{PartPlaces}
 use Rattle.properties_editing.specs.declared.group.ViewedGroup.{ViewedGroup}
-use Rattle.properties_c.specs.Crossing.{Crossing, Delivers, Refuses}
+use Rattle.properties_c.specs.Crossing.{Crossing, Delivers, RefusesCall}
 use Rattle.properties_c.specs.Inputs.{InEncoding, WithSource, WithAsked}
 use Rattle.properties_c.specs.Packed.{end_bytes, packed_items, reading_line, reading_status, spanned}
-use Rattle.properties_c.specs.Parts.{IsDivided, followed_by, later}
+use Rattle.properties_c.specs.Parts.{IsDivided, followed_by, later_entry}
 use Rattle.properties_c.specs.declared.asked.Asked.{Asked}
 use Rattle.properties_c.specs.declared.asked.Texts.{Texts}
 use Rattle.properties_c.specs.declared.asked.Texts.TheVariants.{PassedOver, Raw, Read}
@@ -34,30 +34,30 @@ standing (comment text) = given (items.comment text)
 standing (pair key value) = given (items.pair key value)
 
 -- how its texts are given
-abbrev pub texts_of : Asked → Logical → Texts
-texts_of a blank = Raw
-texts_of a (comment text) = a.comments
-texts_of a (pair key value) = a.pairs
+abbrev pub asked_texts : Asked → Logical → Texts
+asked_texts a blank = Raw
+asked_texts a (comment text) = a.comments
+asked_texts a (pair key value) = a.pairs
 
 -- This is what it gives then: nothing; its texts as they stand; or what it is read as.
-abbrev pub IsTaken : Texts → List ℕ → Logical → Outcome → Type 0
-IsTaken PassedOver x what o = o ≡ ignored
-IsTaken Raw x what o = o ≡ standing what
-IsTaken Read x what o = IsOutcome x o
+abbrev pub TakesOutcome : Texts → List ℕ → Logical → Outcome → Type 0
+TakesOutcome PassedOver x what o = o ≡ ignored
+TakesOutcome Raw x what o = o ≡ standing what
+TakesOutcome Read x what o = IsOutcome x o
 
-abbrev pub GivesLine : Asked → List ℕ → Outcome → Type 0
-GivesLine a x o = (what : Logical) × IsSplit x what × IsTaken (texts_of a what) x what o
+abbrev pub GivesAskedLine : Asked → List ℕ → Outcome → Type 0
+GivesAskedLine a x o = (what : Logical) × IsSplit x what × TakesOutcome (asked_texts a what) x what o
 
 -- These are the entries of groups, one after another, up to the first malformed escape that is read.
-abbrev pub AreGiven : Asked → List (List Line) → List Entry → Type 0
-AreGiven a [] entries = entries ≡ []
-AreGiven a (group ∷ groups) entries = (o : Outcome) × GivesLine a (joined group) o × IsFollowed (first_number group) o (AreGiven a groups) entries
+abbrev pub AreAskedEntries : Asked → List (List Line) → List Entry → Type 0
+AreAskedEntries a [] entries = entries ≡ []
+AreAskedEntries a (group ∷ groups) entries = (o : Outcome) × GivesAskedLine a (joined group) o × IsFollowed (first_number group) o (AreAskedEntries a groups) entries
 
 -- These are the entries of a source. Where all is read, they are its reading.
 pub record AreAsked (a : Asked) (e : Encoding) (source : List ℕ) (entries : List Entry) : Type 0 where
   pub groups : List (List Line)
   pub has_groups : HasGroups e source end groups
-  pub are_given : AreGiven a groups entries
+  pub are_given : AreAskedEntries a groups entries
   pub reading : a.comments ≡ Read → a.pairs ≡ Read → IsReading e source end entries
 
 -- The items among them are given, packed, with the status and the line of the end or of the malformed escape.
@@ -78,16 +78,16 @@ IsShownAs Read x what o = (read : Outcome) × IsOutcome x read × (o ≡ shown w
 IsShownAs other x what o = o ≡ standing what
 
 abbrev pub IsShown : Asked → List ℕ → Outcome → Type 0
-IsShown a x o = (what : Logical) × IsSplit x what × IsShownAs (texts_of a what) x what o
+IsShown a x o = (what : Logical) × IsSplit x what × IsShownAs (asked_texts a what) x what o
 
 abbrev pub key_in : Outcome → List ℕ
 key_in (given (items.pair key value)) = key
 key_in o = []
 
-abbrev pub value_in : Outcome → List ℕ
-value_in (given (items.comment text)) = text
-value_in (given (items.pair key value)) = value
-value_in o = []
+abbrev pub outcome_value : Outcome → List ℕ
+outcome_value (given (items.comment text)) = text
+outcome_value (given (items.pair key value)) = value
+outcome_value o = []
 
 -- 16 and the kind of an item, of which a blank group has its own
 abbrev pub kind_number : GroupKind → ℕ
@@ -127,13 +127,13 @@ pub record IsPackedGroup (a : Asked) (v : OpenView) (bytes : List ℕ) : Type 0 
   pub ill_formed : Option ℕ
   pub tells_ill_formed : TellsIllFormed v ill_formed
   pub shows : Outcome
-  pub is_shown : IsShown a (line_of v) shows
-  pub is : bytes ≡ spanned (record { kind = kind_number group.kind; line = group.line_number; key = encode_utf8_all (key_in shows); value = encode_utf8_all (value_in shows) })
+  pub is_shown : IsShown a (viewed_line v) shows
+  pub is : bytes ≡ spanned (record { kind = kind_number group.kind; line = group.line_number; key = encode_utf8_all (key_in shows); value = encode_utf8_all (outcome_value shows) })
       (span_numbers group places flaw ill_formed)
 
 -- the view with this group given, and these to come
 abbrev pub passed : OpenView → List HeldLine → List (List HeldLine) → OpenView
-passed v group groups = record (past v) { group = group; to_come = groups }
+passed v group groups = record (past_group v) { group = group; to_come = groups }
 
 -- These are the bytes of groups to come.
 abbrev pub ArePacked : Asked → OpenView → List (List HeldLine) → List ℕ → Type 0
@@ -151,7 +151,7 @@ pub record GivesSpans (a : Asked) (e : Encoding) (source : List ℕ) (x : Crossi
 
 -- Or the source is in UTF-16.
 abbrev pub GivesGroups : Asked → Encoding → List ℕ → Crossing → Type 0
-GivesGroups a e source x = GivesSpans a e source x ⊎ (is_editable (byte_order_mark e source).encoding ≡ false) × Refuses Unsupported 0 x
+GivesGroups a e source x = GivesSpans a e source x ⊎ (is_editable (byte_order_mark e source).encoding ≡ false) × RefusesCall Unsupported 0 x
 
 -- ---- a part of a source
 
@@ -163,14 +163,14 @@ pub record GivesFront (a : Asked) (e : Encoding) (front rest : List ℕ) (x : Cr
   pub entries : List Entry
   pub asked : AreAsked a e front entries
   pub goes_on : (after : List ℕ) (others : List Entry) → AreAsked a (byte_order_mark e front).encoding (rest ++ after) others
-      → AreAsked a e (front ++ (rest ++ after)) (followed_by entries (map (later (line_endings asked.has_groups.lines)) others))
+      → AreAsked a e (front ++ (rest ++ after)) (followed_by entries (map (later_entry (line_endings asked.has_groups.lines)) others))
   pub stops : reading_status entries ≢ Done → (after : List ℕ) → AreAsked a e (front ++ (rest ++ after)) entries
   pub delivered : Delivers (packed_items entries ++ end_bytes (reading_status entries) e front (line_endings asked.has_groups.lines)) (reading_status entries)
       (reading_line entries) x
 
 abbrev pub GivesPart : Asked → Encoding → List ℕ → Crossing → Type 0
 GivesPart a e part x =
-    (front : List ℕ) × (rest : List ℕ) × IsDivided e part front rest × WithSource a.is_strict e front (GivesFront a e front rest x ⊎ Refuses NoMemory 0 x) x
+    (front : List ℕ) × (rest : List ℕ) × IsDivided e part front rest × WithSource a.is_strict e front (GivesFront a e front rest x ⊎ RefusesCall NoMemory 0 x) x
 
 -- ---- all of these
 
@@ -179,7 +179,7 @@ GivesAsked a false e source x = GivesItems a e source x
 GivesAsked a true e source x = GivesGroups a e source x
 
 abbrev pub GivesSource : Asked → Bool → Encoding → List ℕ → Crossing → Type 0
-GivesSource a false e source x = WithSource a.is_strict e source (GivesAsked a a.has_spans e source x ⊎ Refuses NoMemory 0 x) x
+GivesSource a false e source x = WithSource a.is_strict e source (GivesAsked a a.has_spans e source x ⊎ RefusesCall NoMemory 0 x) x
 GivesSource a true e source x = GivesPart a e source x
 
 abbrev pub ItemsAcross : List ℕ → ℕ → ℕ → Crossing → Type 0

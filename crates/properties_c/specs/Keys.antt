@@ -13,7 +13,7 @@ use Rattle.properties_renaming.specs.Renaming.{RenamesKey}
 use Rattle.properties_renaming.specs.declared.renaming.RenameError.{RenameError}
 use Rattle.properties_renaming.specs.declared.renaming.RenameError.TheVariants as error
 use Rattle.java_properties.specs.Commented.{HasComment, RefusesComment}
-use Rattle.properties_c.specs.Crossing.{Crossing, Crosses, Delivers, Fails, Refuses}
+use Rattle.properties_c.specs.Crossing.{Crossing, Crosses, Delivers, Fails, RefusesCall}
 use Rattle.properties_c.specs.Inputs.{InEncoding, WithFlags, WithSource, WithText, for_comments, for_edits, for_keys, options_for}
 use Rattle.properties_c.specs.declared.encoding.Flags.{Flags}
 use Rattle.properties_c.specs.declared.status.Status.TheVariants.{Done, NoKey, KeyTaken}
@@ -28,8 +28,8 @@ IsGivenBy Gives e f outcome = (encoding : code.Encoding) × (encoding_of encodin
 -- new one; or its error.
 abbrev pub RenamedCrosses : Result (Vec ℕ) RenameError → Crossing → Type 0
 RenamedCrosses (Ok bytes) x = Delivers bytes.items Done 0 x
-RenamedCrosses (Err error.NoKey) x = Refuses NoKey 0 x
-RenamedCrosses (Err (error.KeyTaken number)) x = Refuses KeyTaken number x
+RenamedCrosses (Err error.NoKey) x = RefusesCall NoKey 0 x
+RenamedCrosses (Err (error.KeyTaken number)) x = RefusesCall KeyTaken number x
 RenamedCrosses (Err (error.Source e)) x = Fails e x
 
 -- A renaming returned a result, and the result crosses.
@@ -67,7 +67,7 @@ TellsCommentLines e source key (Err error) = RefusesComment e source error
 -- They cross, or that no pair has the key, or the error.
 abbrev pub CommentCrosses : Result (Option (Vec ℕ)) PropertiesError → Crossing → Type 0
 CommentCrosses (Ok (Some lines)) x = Delivers lines.items Done 0 x
-CommentCrosses (Ok None) x = Refuses NoKey 0 x
+CommentCrosses (Ok None) x = RefusesCall NoKey 0 x
 CommentCrosses (Err error) x = Fails error x
 
 abbrev pub GivesComment : Encoding → List ℕ → List ℕ → Crossing → Type 0

@@ -7,7 +7,7 @@ use Rattle.std.specs.Str.{IsUtf8, chars}
 use Rattle.properties_format.specs.Edits.{Edit, put, remove, set_value}
 use Rattle.properties_format.specs.Encoding.{Encoding, byte_order_mark}
 use Rattle.properties_format.specs.Items.{Content, comment, pair, Entry, item, malformed}
-use Rattle.properties_c.specs.Crossing.{Crossing, Refuses}
+use Rattle.properties_c.specs.Crossing.{Crossing, RefusesCall}
 use Rattle.properties_c.specs.Inputs.{encoding_number}
 use Rattle.properties_c.specs.declared.status.Status.TheVariants.{NoMemory, NotUtf8, BadList, Done}
 use Rattle.properties_c.specs.Statuses.{malformed_status}
@@ -55,7 +55,7 @@ pub record IsSized (r : Record) : Type 0 where
 -- ---- What a packed list holds, and why it is refused.
 
 -- The bytes are UTF-8, and this is their text.
-pub record IsText (bytes text : List ℕ) : Type 0 where
+pub record IsPackedText (bytes text : List ℕ) : Type 0 where
   pub utf8 : IsUtf8 bytes
   pub is : text ≡ chars bytes
 
@@ -71,9 +71,9 @@ abbrev pub IsKnownEdit : Record → Type 0
 IsKnownEdit r = (r.kind ≡ 2) ⊎ ((r.kind ≡ 3) × (r.value ≡ []) ⊎ (r.kind ≡ 4))
 
 abbrev pub MeansEdit : Record → Edit → Type 0
-MeansEdit r (put key value) = (r.kind ≡ 2) × IsText r.key key × IsText r.value value
-MeansEdit r (remove key) = (r.kind ≡ 3) × IsText r.key key × (r.value ≡ [])
-MeansEdit r (set_value key value) = (r.kind ≡ 4) × IsText r.key key × IsText r.value value
+MeansEdit r (put key value) = (r.kind ≡ 2) × IsPackedText r.key key × IsPackedText r.value value
+MeansEdit r (remove key) = (r.kind ≡ 3) × IsPackedText r.key key × (r.value ≡ [])
+MeansEdit r (set_value key value) = (r.kind ≡ 4) × IsPackedText r.key key × IsPackedText r.value value
 
 abbrev pub edits : Meaning Edit
 edits = record { IsKnown = IsKnownEdit; Means = MeansEdit }
@@ -85,8 +85,8 @@ abbrev pub IsKnownLine : Record → Type 0
 IsKnownLine r = (r.kind ≡ 0) × (r.key ≡ []) ⊎ (r.kind ≡ 1)
 
 abbrev pub MeansLine : Record → Content → Type 0
-MeansLine r (comment text) = (r.kind ≡ 0) × (r.key ≡ []) × IsText r.value text
-MeansLine r (pair key value) = (r.kind ≡ 1) × IsText r.key key × IsText r.value value
+MeansLine r (comment text) = (r.kind ≡ 0) × (r.key ≡ []) × IsPackedText r.value text
+MeansLine r (pair key value) = (r.kind ≡ 1) × IsPackedText r.key key × IsPackedText r.value value
 
 abbrev pub lines : Meaning Content
 lines = record { IsKnown = IsKnownLine; Means = MeansLine }
@@ -100,15 +100,15 @@ AreMeant m (r ∷ rs) (thing ∷ things) = IsSized r × m.Means r thing × AreMe
 AreMeant m records things = ⊥
 
 -- The list begins with the records of these things, and this comes after them.
-pub record Begins {A : Type 0} (m : Meaning A) (list : List ℕ) (things : List A) (rest : List ℕ) : Type 0 where
+pub record BeginsList {A : Type 0} (m : Meaning A) (list : List ℕ) (things : List A) (rest : List ℕ) : Type 0 where
   pub records : List Record
   pub division : list ≡ packed_all records ++ rest
   pub meant : AreMeant m records things
 
 -- The list is the records of these things, and of no others.
 pub record IsPackedList {A : Type 0} (m : Meaning A) (list : List ℕ) (things : List A) : Type 0 where
-  pub begins : Begins m list things []
-  pub only : (others : List A) → Begins m list others [] → others ≡ things
+  pub begins : BeginsList m list things []
+  pub only : (others : List A) → BeginsList m list others [] → others ≡ things
 
 -- No record that is known is at the front of these bytes.
 abbrev pub HasNoRecord : {A : Type 0} → Meaning A → List ℕ → Type 0
@@ -127,7 +127,7 @@ pub record HasNoText {A : Type 0} (m : Meaning A) (bytes : List ℕ) : Type 0 wh
 pub record IsBadList {A : Type 0} (m : Meaning A) (list : List ℕ) : Type 0 where
   pub things : List A
   pub rest : List ℕ
-  pub begins : Begins m list things rest
+  pub begins : BeginsList m list things rest
   pub more : rest ≢ []
   pub bad : HasNoRecord m rest
 
@@ -135,14 +135,14 @@ pub record IsBadList {A : Type 0} (m : Meaning A) (list : List ℕ) : Type 0 whe
 pub record LacksText {A : Type 0} (m : Meaning A) (list : List ℕ) : Type 0 where
   pub things : List A
   pub rest : List ℕ
-  pub begins : Begins m list things rest
+  pub begins : BeginsList m list things rest
   pub lacks : HasNoText m rest
 
 -- The list holds things, of which this is true; or the call was refused because of the list, or because memory ran out.
 abbrev pub WithList : {A : Type 0} → Meaning A → List ℕ → (List A → Type 0) → Crossing → Type 0
 WithList {A} m list Holds x =
     ((things : List A) × IsPackedList m list things × Holds things)
-    ⊎ (IsBadList m list × Refuses BadList 0 x ⊎ (LacksText m list × Refuses NotUtf8 0 x ⊎ Refuses NoMemory 0 x))
+    ⊎ (IsBadList m list × RefusesCall BadList 0 x ⊎ (LacksText m list × RefusesCall NotUtf8 0 x ⊎ RefusesCall NoMemory 0 x))
 
 -- ---- Items.
 

@@ -28,10 +28,10 @@ pub record IsDivided (e : Encoding) (part front rest : List ℕ) : Type 0 where
       → length rest ≤ length after
 
 -- an entry after so many line endings more
-abbrev pub later : ℕ → Entry → Entry
-later lines (item number content) = item (lines + number) content
-later lines (malformed how number) = malformed how (lines + number)
-later lines (read_fault number) = read_fault (lines + number)
+abbrev pub later_entry : ℕ → Entry → Entry
+later_entry lines (item number content) = item (lines + number) content
+later_entry lines (malformed how number) = malformed how (lines + number)
+later_entry lines (read_fault number) = read_fault (lines + number)
 
 -- the entries, and then others, but not after an error
 abbrev pub followed_by : List Entry → List Entry → List Entry

@@ -7,7 +7,7 @@ use Rattle.properties_format.specs.Found.{MalformedEscape, AreMalformedEscapes}
 use Rattle.java_properties.specs.Findings.{KeyEntry, AreKeyLines, TellsPairValue, TellsValue}
 use Rattle.properties_items.specs.Texts.{characters}
 use Rattle.properties_items.specs.declared.error.PropertiesError.{PropertiesError}
-use Rattle.properties_c.specs.Crossing.{Crossing, Delivers, Fails, Refuses}
+use Rattle.properties_c.specs.Crossing.{Crossing, Delivers, Fails, RefusesCall}
 use Rattle.properties_c.specs.Inputs.{InEncoding, WithFlags, WithSource, WithText, for_keys}
 use Rattle.properties_c.specs.Packed.{packed_findings}
 use Rattle.properties_c.specs.declared.status.Status.TheVariants.{Done, NoKey, NoMemory}
@@ -17,7 +17,7 @@ use Rattle.properties_c.specs.declared.status.Status.TheVariants.{Done, NoKey, N
 -- What a look-up returned crosses: the value in UTF-8, or that no pair has the key, or its error.
 abbrev pub ValueCrosses : Result (Option (String Global)) PropertiesError → Crossing → Type 0
 ValueCrosses (Ok (Some value)) x = Delivers (encode_utf8_all (characters value)) Done 0 x
-ValueCrosses (Ok None) x = Refuses NoKey 0 x
+ValueCrosses (Ok None) x = RefusesCall NoKey 0 x
 ValueCrosses (Err error) x = Fails error x
 
 -- The result of a look-up, given whether comments are read.
@@ -48,4 +48,4 @@ pub record GivesFindings (e : Encoding) (source : List ℕ) (x : Crossing) : Typ
   pub given : Delivers (packed_findings escapes keys) Done 0 x
 
 abbrev pub FindingsAcross : List ℕ → ℕ → Crossing → Type 0
-FindingsAcross source encoding x = InEncoding encoding (λ e. GivesFindings e source x ⊎ Refuses NoMemory 0 x) x
+FindingsAcross source encoding x = InEncoding encoding (λ e. GivesFindings e source x ⊎ RefusesCall NoMemory 0 x) x

@@ -1,7 +1,7 @@
 -- The statuses of calls: their numbers, and those of errors.
 use Rattle.std.specs.Prelude.{ℕ, ℤ, pos, Option, Some, None, ◌≡◌, List, codes}
 use Rattle.properties_format.specs.Escapes.{Malformed, not_enough_digits, not_hex, invalid_character}
-use Rattle.properties_items.specs.Errors.{line_of}
+use Rattle.properties_items.specs.Errors.{line_of_error}
 use Rattle.properties_items.specs.declared.error.ErrorKind.{ErrorKind}
 use Rattle.properties_items.specs.declared.error.ErrorKind.TheVariants as kind
 use Rattle.properties_items.specs.declared.error.PropertiesError.{PropertiesError}
@@ -55,7 +55,7 @@ line_or_none (Some line) = line
 
 -- the line of an error, or 0
 abbrev pub error_line : PropertiesError → ℕ
-error_line error = line_or_none (line_of error)
+error_line error = line_or_none (line_of_error error)
 
 -- ---- The texts of statuses.
 
@@ -80,9 +80,9 @@ status_text NotText = codes "The source isn't text in its encoding."
 status_text KeyTaken = codes "A pair has the new key already."
 
 -- the text of a status, or that of a number which no status has
-abbrev pub text_of : Option Status → List ℕ
-text_of None = codes "Unknown status."
-text_of (Some s) = status_text s
+abbrev pub text_of_status : Option Status → List ℕ
+text_of_status None = codes "Unknown status."
+text_of_status (Some s) = status_text s
 
 -- This is the status with this number, or no status has the number.
 abbrev pub IsStatusAt : ℤ → Option Status → Type 0

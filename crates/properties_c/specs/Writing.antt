@@ -7,7 +7,7 @@ use Rattle.properties_format.specs.Settings.{Settings, default_settings, IsGoodP
 use Rattle.properties_format.specs.Text.{LineEnding, cr, lf, crlf, is_empty}
 use Rattle.properties_format.specs.Writing.{is_accepted, wrote}
 use Rattle.java_properties.specs.PropertiesWriter.{call_of}
-use Rattle.properties_c.specs.Crossing.{Crossing, Delivers, Refuses}
+use Rattle.properties_c.specs.Crossing.{Crossing, Delivers, RefusesCall}
 use Rattle.properties_c.specs.Inputs.{InEncoding, WithFlags, WithText, for_lines}
 use Rattle.properties_c.specs.Packed.{lines, WithList}
 use Rattle.properties_c.specs.declared.encoding.Flags.{Flags}
@@ -18,15 +18,15 @@ abbrev pub given_or : List ℕ → List ℕ → List ℕ
 given_or text other = if is_empty text then other else text
 
 -- what ends lines, as the flags ask for it
-abbrev pub ending_in : Flags → LineEnding
-ending_in f = if f.crlf then crlf else (if f.cr then cr else lf)
+abbrev pub flag_ending : Flags → LineEnding
+flag_ending f = if f.crlf then crlf else (if f.cr then cr else lf)
 
 -- the settings that a call asks for: a prefix or a separator without characters is that of a new writer
 abbrev pub settings_for : Flags → List ℕ → List ℕ → Settings
 settings_for f prefix separator = record {
   comment_prefix = given_or prefix default_settings.comment_prefix;
   kv_separator = given_or separator default_settings.kv_separator;
-  line_ending = ending_in f;
+  line_ending = flag_ending f;
   ascii_only = f.ascii_only;
   readable = f.readable;
 }
@@ -55,9 +55,9 @@ pub record GivesLines (e : Encoding) (s : Settings) (before : ℕ) (contents : L
 abbrev pub WritesLines : Encoding → Settings → ℕ → List Content → Crossing → Type 0
 WritesLines e s before contents x =
     GivesLines e s before contents x
-    ⊎ ((IsGoodPrefix s.comment_prefix → ⊥) × Refuses BadPrefix 0 x
-    ⊎ (IsGoodPrefix s.comment_prefix × (IsGoodSeparator s.kv_separator → ⊥) × Refuses BadSeparator 0 x
-    ⊎ (AreGood s × (has_refused s contents ≡ true) × Refuses EmptyKey 0 x ⊎ Refuses NoMemory 0 x)))
+    ⊎ ((IsGoodPrefix s.comment_prefix → ⊥) × RefusesCall BadPrefix 0 x
+    ⊎ (IsGoodPrefix s.comment_prefix × (IsGoodSeparator s.kv_separator → ⊥) × RefusesCall BadSeparator 0 x
+    ⊎ (AreGood s × (has_refused s contents ≡ true) × RefusesCall EmptyKey 0 x ⊎ RefusesCall NoMemory 0 x)))
 
 abbrev pub WritesAcross : List ℕ → ℕ → ℕ → List ℕ → List ℕ → Crossing → Type 0
 WritesAcross list encoding flags prefix separator x =

@@ -6,7 +6,7 @@ ghost use Rattle.std.specs.List.{flat_map};
 ghost use Rattle.java_properties.specs.Findings.{key_line_entry, key_line_entries};
 ghost use Rattle.properties_text.specs.Encoding.{encoding_of};
 ghost use Rattle.properties_c.specs.Packed.{finding_bytes, repeat_bytes};
-ghost use Rattle.properties_c.specs.Private.Results.{found_bytes, kind_of_finding, FindsAll};
+ghost use Rattle.properties_c.specs.Private.Results.{malformed_bytes, kind_of_finding, FindsAll};
 
 use crate::numbers::push_number;
 use java_properties::{
@@ -35,7 +35,7 @@ pub fn findings_in(
 }
 
 fn push_escapes(bytes: &mut Vec<u8>, escapes: &[MalformedEscape]) -> Result<(), AllocError>
-    ensures { OnOk result (bytes.new.items ≡ bytes.old.items ++ flat_map found_bytes escapes.now) }
+    ensures { OnOk result (bytes.new.items ≡ bytes.old.items ++ flat_map malformed_bytes escapes.now) }
 {
     for escape in escapes {
         let kind = kind_number(escape.kind);

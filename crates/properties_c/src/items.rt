@@ -6,7 +6,7 @@ ghost use Rattle.properties_text.specs.Encoding.{encoding_of};
 ghost use Rattle.properties_text.specs.Escaping.{holds_backslash};
 ghost use Rattle.properties_text.specs.Parsing.{AreSpans, in_characters, spanned};
 ghost use Rattle.properties_items.specs.BorrowedItems.{borrowed_content};
-ghost use Rattle.properties_c.specs.Items.{texts_of};
+ghost use Rattle.properties_c.specs.Items.{asked_texts};
 ghost use Rattle.properties_c.specs.Packed.{record_in};
 ghost use Rattle.properties_c.specs.Private.Results.{HasItems, PushesLine, PushesRead, content_record, kind_of_content, standing_record};
 
@@ -103,7 +103,7 @@ fn push_line(
 // Returns how the texts of a line with these parts are given.
 #[inline(always)]
 fn texts_for(asked: Asked, spans: ParsedSpans) -> Texts
-    ensures { (line : List ℕ) → texts_of asked (in_characters (spanned line (Some spans))) ≡ result }
+    ensures { (line : List ℕ) → asked_texts asked (in_characters (spanned line (Some spans))) ≡ result }
 {
     match spans {
         ParsedSpans::Comment(_) => asked.comments,

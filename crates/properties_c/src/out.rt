@@ -2,7 +2,7 @@
 
 ghost use Rattle.std.specs.Prelude.{◌≡◌};
 ghost use Rattle.properties_c.specs.Statuses.{error_line, status_of_kind};
-ghost use Rattle.properties_c.specs.Crossing.{crossing, Answers, Crosses, Delivers};
+ghost use Rattle.properties_c.specs.Crossing.{crossing, AnswersCall, Crosses, Delivers};
 ghost use Rattle.properties_c.specs.declared.status.Status.TheVariants.{Done, NoRoom, NotText};
 ghost use Rattle.properties_items.specs.Errors.{kind_of};
 
@@ -17,7 +17,7 @@ pub fn set_outputs(
     length: &mut usize,
     line: &mut usize,
 ) -> i32
-    ensures { Answers status count number result length.new line.new }
+    ensures { AnswersCall status count number result length.new line.new }
 {
     *length = count;
     *line = number;
@@ -26,21 +26,21 @@ pub fn set_outputs(
 
 /// Returns a status, with no size and no line.
 pub fn refuse(status: Status, length: &mut usize, line: &mut usize) -> i32
-    ensures { Answers status 0 0 result length.new line.new }
+    ensures { AnswersCall status 0 0 result length.new line.new }
 {
     set_outputs(status, 0, 0, length, line)
 }
 
 /// Returns that this line isn't text.
 pub fn refuse_source(number: usize, length: &mut usize, line: &mut usize) -> i32
-    ensures { Answers NotText 0 number result length.new line.new }
+    ensures { AnswersCall NotText 0 number result length.new line.new }
 {
     set_outputs(Status::NotText, 0, number, length, line)
 }
 
 /// Returns `NoRoom` with the size that is needed.
 pub fn buffer_too_small(needed: usize, length: &mut usize, line: &mut usize) -> i32
-    ensures { Answers NoRoom needed 0 result length.new line.new }
+    ensures { AnswersCall NoRoom needed 0 result length.new line.new }
 {
     set_outputs(Status::NoRoom, needed, 0, length, line)
 }
@@ -73,7 +73,7 @@ pub fn write_up_to(
 
 /// Returns the status of an error, with its line.
 pub fn fail(error: &PropertiesError, length: &mut usize, line: &mut usize) -> i32
-    ensures { Answers (status_of_kind (kind_of error.now)) 0 (error_line error.now) result length.new line.new }
+    ensures { AnswersCall (status_of_kind (kind_of error.now)) 0 (error_line error.now) result length.new line.new }
 {
     set_outputs(status_of(error.kind()), 0, line_in(error), length, line)
 }

@@ -4,7 +4,7 @@ ghost use Rattle.std.specs.Prelude.{◌≡◌, IfOk, OnOk};
 ghost use Rattle.std.specs.Str.{chars};
 ghost use Rattle.properties_text.specs.Encoding.{encoding_of};
 ghost use Rattle.properties_format.specs.Split.{Logical, IsSplit};
-ghost use Rattle.properties_editing.specs.Views.{IsGroup, line_of};
+ghost use Rattle.properties_editing.specs.Views.{IsGroup, viewed_line};
 ghost use Rattle.properties_c.specs.Items.{flaw_numbers, flaw_status as status_in, key_in, kind_number, standing};
 ghost use Rattle.properties_c.specs.Private.Results.{AreNumbersOf, PacksGroups, PushesGroup, Resolves, is_read};
 
@@ -72,7 +72,7 @@ fn push_group(
 // Returns the key of the group that was given last, as it stands. A comment has none.
 fn standing_key<'a>(view: &'a View<'_>, group: ViewedGroup) -> &'a str
     requires { IsGroup view.now group }
-    ensures { (what : Logical) → IsSplit (line_of view.now) what → chars result.now ≡ key_in (standing what) }
+    ensures { (what : Logical) → IsSplit (viewed_line view.now) what → chars result.now ≡ key_in (standing what) }
 {
     match group.kind {
         GroupKind::Comment => "",

@@ -5,11 +5,11 @@ ghost use Rattle.std.specs.Str.{chars};
 ghost use Rattle.properties_items.specs.Line.{ending_of};
 ghost use Rattle.properties_text.specs.Encoding.{encoding_of};
 ghost use Rattle.properties_c.specs.Crossing.{crossing};
-ghost use Rattle.properties_c.specs.Writing.{given_or as chosen, ending_in, settings_for, WritesAcross};
+ghost use Rattle.properties_c.specs.Writing.{given_or as chosen, flag_ending, settings_for, WritesAcross};
 ghost use Rattle.java_properties.specs.PropertiesWriter.{new_writer};
 ghost use Rattle.properties_format.specs.Encoding.{output_encoding};
-ghost use Rattle.properties_c.specs.Private.Lists.{line_in};
-ghost use Rattle.properties_c.specs.Private.Results.{acceptance, AddsLine, AddsLines, Opens, RefusesListFirst, SetsAll, WritesList, WritesOn};
+ghost use Rattle.properties_c.specs.Private.Lists.{line_content};
+ghost use Rattle.properties_c.specs.Private.Results.{acceptance, WritesContent, AddsLines, Opens, RefusesListFirst, SetsSettings, WritesList, WritesOn};
 
 use crate::encoding::{FOR_LINES, Flags, encoding_numbered, flags_numbered, text_of};
 use crate::lists::{Line, first_line};
@@ -173,7 +173,7 @@ fn write_line<W: CountedWrite>(
     line: Line<'_>,
     writer: &mut PropertiesWriter<W>,
 ) -> Result<bool, Status>
-    ensures { AddsLine W.CountedWrite (line_in line.entry) writer.old result writer.new }
+    ensures { WritesContent W.CountedWrite (line_content line.entry) writer.old result writer.new }
 {
     match line {
         Line::Comment(text) => was_accepted(writer.write_comment(text)),
@@ -205,7 +205,7 @@ fn writer_for<W: CountedWrite>(
     separator: &str,
 ) -> Result<PropertiesWriter<W>, Status>
     ensures { let settings = settings_for flags (chars prefix.now) (chars separator.now) in
-        SetsAll (new_writer (output_encoding (encoding_of encoding)) sink) settings result }
+        SetsSettings (new_writer (output_encoding (encoding_of encoding)) sink) settings result }
 {
     let Ok(mut writer) = PropertiesWriter::new_with_encoding(alloc, sink, encoding) else {
         return Err(Status::NoMemory);
@@ -232,7 +232,7 @@ fn given_or<'a>(text: &'a str, other: &'a str) -> &'a str
 
 // Returns what ends lines.
 fn ending_for(flags: Flags) -> LineEnding
-    ensures { ending_of result ≡ ending_in flags }
+    ensures { ending_of result ≡ flag_ending flags }
 {
     if flags.crlf {
         LineEnding::CRLF

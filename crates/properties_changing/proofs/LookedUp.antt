@@ -12,8 +12,8 @@ use Rattle.properties_format.specs.Edits.{AreInComments, HasPairValue}
 use Rattle.properties_format.specs.Found.{MalformedEscape}
 use Rattle.properties_format.proofs.MalformedEscapes.{malformed_escapes_of-only}
 use Rattle.java_properties.specs.Maps.{characters}
-use Rattle.properties_changing.specs.Keys.{HasKeys, IsFirstAbsent}
-use Rattle.properties_tables.specs.Failures.{LacksMemory}
+use Rattle.properties_changing.specs.Keys.{HoldsKeys, IsFirstAbsent}
+use Rattle.properties_tables.specs.Failures.{IsMemoryFailure}
 use Rattle.properties_tables.specs.Values.{HaveValues, SaysMalformed}
 use Rattle.properties_tables.specs.Sources.{HasSoundBytes, IsSound, IsUnsound}
 use Rattle.properties_changing.specs.Change.{borrowed_characters}
@@ -29,7 +29,7 @@ in-comment (m ∷ ms) after escape h = in-comment ms after escape h.1
 
 module _ (e : Encoding) (source : List ℕ) (failure : Failure) where
   -- In a sound source keys are looked up unless memory runs out.
-  pub lost : SaysMalformed e source failure ⊎ LacksMemory failure → IsSound e source → LacksMemory failure
+  pub lost : SaysMalformed e source failure ⊎ IsMemoryFailure failure → IsSound e source → IsMemoryFailure failure
   lost (inl m) sound =
       let f = m.first sound.bytes in
       let s = sound.in_comments in
@@ -39,7 +39,7 @@ module _ (e : Encoding) (source : List ℕ) (failure : Failure) where
       absurd (cc)
   lost (inr l) sound = l
 
-  pub refused : SaysMalformed e source failure ⊎ LacksMemory failure → HasSoundBytes e source → IsUnsound e source failure
+  pub refused : SaysMalformed e source failure ⊎ IsMemoryFailure failure → HasSoundBytes e source → IsUnsound e source failure
   refused (inl m) bytes = subst (IsUnsound e source) (sym m.is) (m.first bytes)
   refused (inr l) bytes = subst (IsUnsound e source) (sym l.is) l.memory
 
@@ -52,12 +52,12 @@ module _ (e : Encoding) (source : List ℕ) where
 
   -- ---- keys that no pair has
 
-  pub of-none : {Y : Type 0} (keys : List (String Y)) → (length keys == 0) ≡ true → HasKeys e source (map characters keys)
+  pub of-none : {Y : Type 0} (keys : List (String Y)) → (length keys == 0) ≡ true → HoldsKeys e source (map characters keys)
   of-none [] none = tt
   of-none (k ∷ ks) none = let some = eqb-true (length (k ∷ ks)) 0 none in absurd (omega (arith, some))
 
   pub none-absent : (keys : List (List ℕ)) (values : List (Option (List ℕ))) → HaveValues e source keys values → None ≡ first_without keys values
-      → HasKeys e source keys
+      → HoldsKeys e source keys
   none-absent [] values h is = tt
   none-absent (k ∷ ks) [] h is = absurd h
   none-absent (k ∷ ks) (Some value ∷ vs) h is = ((value, h.0), none-absent ks vs h.1 is)

@@ -12,8 +12,8 @@ use Rattle.java_properties.specs.Editing.{ArePairsMade, IsRefusal, edits_in}
 use Rattle.java_properties.specs.Maps.{characters}
 use Rattle.properties_items.specs.declared.error.PropertiesError.{PropertiesError}
 use Rattle.properties_changing.specs.Commenting.{SetsComment}
-use Rattle.properties_tables.specs.Failures.{LacksMemory}
-use Rattle.properties_changing.specs.Keys.{HasKey, HasKeys, HasNoKey, IsFirstAbsent}
+use Rattle.properties_tables.specs.Failures.{IsMemoryFailure}
+use Rattle.properties_changing.specs.Keys.{HoldsKey, HoldsKeys, HoldsNoKey, IsFirstAbsent}
 use Rattle.properties_changing.specs.Removing.{Removes}
 use Rattle.properties_changing.specs.Renaming.{Renames}
 use Rattle.properties_tables.specs.Sources.{HasSoundBytes, HasUnsoundBytes, IsSound, IsUnsound}
@@ -46,8 +46,8 @@ edited_keys edits = map edited_key edits
 -- ---- edits
 
 -- what may stand unescaped in what edits put in
-abbrev pub put_in : Encoding → Edits → Repertoire
-put_in e edits = record { encoding = e; characters = characters_for edits.ascii_only edits.latin_1 }
+abbrev pub edits_repertoire : Encoding → Edits → Repertoire
+edits_repertoire e edits = record { encoding = e; characters = characters_for edits.ascii_only edits.latin_1 }
 
 -- ---- keys that no pair has
 
@@ -55,14 +55,14 @@ put_in e edits = record { encoding = e; characters = characters_for edits.ascii_
 abbrev pub AreKnown : Encoding → List ℕ → List format.Edit → List format.Edit → Type 0
 AreKnown e source [] known = known ≡ []
 AreKnown e source (edit ∷ edits) known =
-    (HasKey e source (edited_key edit) × ((others : List format.Edit) × AreKnown e source edits others × (known ≡ edit ∷ others)))
-    ⊎ (HasNoKey e source (edited_key edit) × AreKnown e source edits known)
+    (HoldsKey e source (edited_key edit) × ((others : List format.Edit) × AreKnown e source edits others × (known ≡ edit ∷ others)))
+    ⊎ (HoldsNoKey e source (edited_key edit) × AreKnown e source edits known)
 
 -- These of the edits are made: all of them, for which a pair of the source may have to have each key; or those of keys
 -- that a pair has.
 abbrev pub AreChosen : AbsentKeys → Encoding → List ℕ → List format.Edit → List format.Edit → Type 0
 AreChosen absent.Added e source edits chosen = chosen ≡ edits
-AreChosen absent.Refused e source edits chosen = (chosen ≡ edits) × HasKeys e source (edited_keys edits)
+AreChosen absent.Refused e source edits chosen = (chosen ≡ edits) × HoldsKeys e source (edited_keys edits)
 AreChosen absent.LeftOut e source edits chosen = AreKnown e source edits chosen
 
 -- The source is sound, and these are its bytes after the edits that are made.
@@ -70,13 +70,13 @@ pub record MakesEdits (e : Encoding) (source : List ℕ) (edits : Edits) (bytes 
   pub sound : IsSound e source
   pub chosen : List format.Edit
   pub are_chosen : AreChosen edits.absent e source (edits_in edits.list.items) chosen
-  pub made : ArePairsMade (put_in e edits) source chosen bytes
+  pub made : ArePairsMade (edits_repertoire e edits) source chosen bytes
 
 -- The source is sound, but the edits aren't made: its encoding is not one that is edited, or memory ran out.
 pub record RefusesEdits (e : Encoding) (source : List ℕ) (edits : Edits) (failure : Failure) : Type 0 where
   pub sound : IsSound e source
   pub error : PropertiesError
-  pub refused : IsRefusal (IsEditPairsResult (put_in e edits) source (edits_in edits.list.items)) error
+  pub refused : IsRefusal (IsEditPairsResult (edits_repertoire e edits) source (edits_in edits.list.items)) error
   pub is : failure ≡ Input error
 
 -- The source is sound, and the edits can be made. But a pair of it has to have each of their keys, and this is the first of
@@ -85,7 +85,7 @@ pub record RefusesAbsent (e : Encoding) (source : List ℕ) (edits : Edits) (fai
   pub sound : IsSound e source
   pub asked : edits.absent ≡ absent.Refused
   pub bytes : List ℕ
-  pub made : ArePairsMade (put_in e edits) source (edits_in edits.list.items) bytes
+  pub made : ArePairsMade (edits_repertoire e edits) source (edits_in edits.list.items) bytes
   pub key : String Global
   pub first : IsFirstAbsent e source (edited_keys (edits_in edits.list.items)) (characters key)
   pub is : failure ≡ Absent key
@@ -137,7 +137,7 @@ pub record MakesConversion (e : Encoding) (source : List ℕ) (c : Conversion) (
 -- What converting returns. A source with sound bytes is refused only if memory runs out.
 abbrev pub Converts : Encoding → List ℕ → Conversion → Result (Vec ℕ) Failure → Type 0
 Converts e source c (Ok bytes) = MakesConversion e source c bytes.items
-Converts e source c (Err failure) = HasUnsoundBytes e source failure ⊎ LacksMemory failure
+Converts e source c (Err failure) = HasUnsoundBytes e source failure ⊎ IsMemoryFailure failure
 
 -- ---- any of them
 

@@ -14,8 +14,8 @@ use Rattle.properties_tables.specs.declared.error.Failure.{Failure}
 use Rattle.properties_tables.specs.declared.error.Failure.TheVariants.{Absent, Input}
 
 -- what may stand unescaped in new comment lines
-abbrev pub put_in : Encoding → NewComment → Repertoire
-put_in e comment = record { encoding = e; characters = characters_for comment.ascii_only comment.latin_1 }
+abbrev pub comment_repertoire : Encoding → NewComment → Repertoire
+comment_repertoire e comment = record { encoding = e; characters = characters_for comment.ascii_only comment.latin_1 }
 
 -- Why no comment of a sound source is set: no pair has the key; or the source isn't edited, since its encoding is not one that is,
 -- or memory ran out.
@@ -27,5 +27,5 @@ KeepsComment r source key other = ⊥
 -- What setting the comment of a key returns. A source that isn't sound is refused first.
 abbrev pub SetsComment : Encoding → List ℕ → NewComment → Result (Vec ℕ) Failure → Type 0
 SetsComment e source c (Ok bytes) =
-    IsEditable (put_in e c) source × IsCommentSet (put_in e c) source (characters c.key) (characters c.text) bytes.items
-SetsComment e source c (Err failure) = IsUnsound e source failure ⊎ KeepsComment (put_in e c) source (characters c.key) failure
+    IsEditable (comment_repertoire e c) source × IsCommentSet (comment_repertoire e c) source (characters c.key) (characters c.text) bytes.items
+SetsComment e source c (Err failure) = IsUnsound e source failure ⊎ KeepsComment (comment_repertoire e c) source (characters c.key) failure

@@ -43,13 +43,13 @@ pub record AreCounts (e : Encoding) (source result : List ℕ) (counts : Counts)
   pub removed : counts.removed ≡ count_of Removed old new old_keys
 
 -- A source is refused, as one is that no edit is made to.
-abbrev pub IsRefused : Encoding → List ℕ → PropertiesError → Type 0
-IsRefused e source error = IsRefusal (IsEditPairsResult (all_of e) source []) error
+abbrev pub IsCountRefused : Encoding → List ℕ → PropertiesError → Type 0
+IsCountRefused e source error = IsRefusal (IsEditPairsResult (all_of e) source []) error
 
 -- What counting returns. It fails only if one of the two is refused, or memory runs out.
 abbrev pub CountsChanges : Encoding → List ℕ → List ℕ → Result Counts PropertiesError → Type 0
 CountsChanges e source result (Ok counts) = AreCounts e source result counts
-CountsChanges e source result (Err error) = IsRefused e source error ⊎ (IsRefused e result error ⊎ IsBareError kind.Memory error)
+CountsChanges e source result (Err error) = IsCountRefused e source error ⊎ (IsCountRefused e result error ⊎ IsBareError kind.Memory error)
 
 -- ---- in words
 

@@ -7,7 +7,7 @@ use Rattle.properties_format.specs.Encoding.{Encoding, all_of}
 use Rattle.java_properties.specs.Maps.{characters}
 use Rattle.properties_editing.specs.Editing.{IsRefusal}
 use Rattle.properties_renaming.specs.Commented.{IsRemovedWithComments}
-use Rattle.properties_changing.specs.Keys.{HasKey, HasNoKey}
+use Rattle.properties_changing.specs.Keys.{HoldsKey, HoldsNoKey}
 use Rattle.properties_changing.specs.Renaming.{IsEditable}
 use Rattle.properties_tables.specs.Sources.{IsSound, IsUnsound}
 use Rattle.properties_changing.specs.declared.request.AbsentKeys.{AbsentKeys}
@@ -18,7 +18,7 @@ use Rattle.properties_tables.specs.declared.error.Failure.TheVariants.{Absent, I
 
 -- A pair of the source has the key, if one has to.
 abbrev pub MayBeRemoved : AbsentKeys → Encoding → List ℕ → List ℕ → Type 0
-MayBeRemoved Refused e source key = HasKey e source key
+MayBeRemoved Refused e source key = HoldsKey e source key
 MayBeRemoved other e source key = Unit {0}
 
 -- A sound source isn't edited, since its encoding is not one that is, or memory ran out.
@@ -34,7 +34,7 @@ Leaves e source key (Err failure) = IsUnsound e source failure ⊎ IsNotEdited e
 -- No pair of a source that can be edited has the key, and one has to.
 abbrev pub LacksRequired : Encoding → List ℕ → Removal → Failure → Type 0
 LacksRequired e source r (Absent key) =
-    (r.absent ≡ Refused) × IsEditable (all_of e) source × HasNoKey e source (characters r.key) × (characters key ≡ characters r.key)
+    (r.absent ≡ Refused) × IsEditable (all_of e) source × HoldsNoKey e source (characters r.key) × (characters key ≡ characters r.key)
 LacksRequired e source r other = ⊥
 
 -- What removing a key with its comments returns. The key that is missing is looked for last.

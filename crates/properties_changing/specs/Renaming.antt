@@ -2,7 +2,7 @@
 use Rattle.std.specs.Prelude.{◌≡◌, ◌≢◌, ◌⊎◌, ℕ, List, [], Result, Ok, Err}
 use Rattle.std.specs.Global.{Vec}
 use Rattle.properties_format.specs.Edits.{IsEditPairsResult}
-use Rattle.properties_format.specs.Encoding.{Encoding, Repertoire, characters_for, in_force}
+use Rattle.properties_format.specs.Encoding.{Encoding, Repertoire, characters_for, repertoire_in_force}
 use Rattle.java_properties.specs.Maps.{characters}
 use Rattle.properties_editing.specs.Editing.{ArePairsMade, IsRefusal}
 use Rattle.properties_renaming.specs.Renaming.{AreAlike, IsKept, IsRenamed, IsTaken, LacksKey}
@@ -12,8 +12,8 @@ use Rattle.properties_tables.specs.declared.error.Failure.{Failure}
 use Rattle.properties_tables.specs.declared.error.Failure.TheVariants.{Absent, KeyTaken, Input}
 
 -- what may stand unescaped in the new key
-abbrev pub put_in : Encoding → Renaming → Repertoire
-put_in e renaming = record { encoding = e; characters = characters_for renaming.ascii_only renaming.latin_1 }
+abbrev pub renaming_repertoire : Encoding → Renaming → Repertoire
+renaming_repertoire e renaming = record { encoding = e; characters = characters_for renaming.ascii_only renaming.latin_1 }
 
 -- The source is sound, and it can be edited: no edit at all gives these bytes.
 pub record IsEditable (r : Repertoire) (source : List ℕ) : Type 0 where
@@ -25,7 +25,7 @@ pub record IsEditable (r : Repertoire) (source : List ℕ) : Type 0 where
 -- new key is the old one.
 abbrev pub HasNewKey : Repertoire → List ℕ → List ℕ → List ℕ → List ℕ → Type 0
 HasNewKey r source old new bytes =
-    (old ≢ new) × IsRenamed r source old new bytes × AreAlike (in_force r source) new source bytes
+    (old ≢ new) × IsRenamed r source old new bytes × AreAlike (repertoire_in_force r source) new source bytes
     ⊎ (old ≡ new) × IsKept r.encoding source old bytes
 
 -- Why no key of a sound source is renamed: no pair has the old one; or one has the new one, and the first such pair begins in
@@ -41,5 +41,5 @@ KeepsKey r source old new other = ⊥
 -- What renaming a key returns. A source that isn't sound is refused first.
 abbrev pub Renames : Encoding → List ℕ → Renaming → Result (Vec ℕ) Failure → Type 0
 Renames e source r (Ok bytes) =
-    IsEditable (put_in e r) source × HasNewKey (put_in e r) source (characters r.old) (characters r.new) bytes.items
-Renames e source r (Err failure) = IsUnsound e source failure ⊎ KeepsKey (put_in e r) source (characters r.old) (characters r.new) failure
+    IsEditable (renaming_repertoire e r) source × HasNewKey (renaming_repertoire e r) source (characters r.old) (characters r.new) bytes.items
+Renames e source r (Err failure) = IsUnsound e source failure ⊎ KeepsKey (renaming_repertoire e r) source (characters r.old) (characters r.new) failure

@@ -11,7 +11,7 @@ use Rattle.properties_format.specs.Windows1252.{windows_1252_table}
 use Rattle.java_properties.specs.Findings.{KeyPlace}
 use Rattle.properties_items.specs.declared.findings.MalformedEscape.{MalformedEscape}
 use Rattle.properties_checking.specs.Private.Checking.{escape_finding, finding_of, ill_formed_finding, misread_finding, otherwise_finding, place_at, row_findings, said_of, what_of, ArrangesFindings}
-use Rattle.properties_checking.specs.Check.{first_of, has_replacement, ill_formed_of, is_ill_formed, is_malformed, is_misread, is_read_otherwise, other_bytes, repeats_key, repeats_of, said, words_after, AreOtherBytes, AreOtherwise, AreWithBytes, ArrangesByLine, Said}
+use Rattle.properties_checking.specs.Check.{first_of, has_replacement, ill_formed_of, is_ill_formed, is_malformed, is_misread, is_read_otherwise, other_bytes, repeats_key, repeats_of, said, words_after, AreOtherBytes, AreOtherwise, AreWithBytes, ArrangesByLine, SaidFinding}
 use Rattle.properties_checking.specs.declared.check.FindingKind.{FindingKind}
 use Rattle.properties_checking.specs.declared.check.FindingKind.TheVariants.{NonAscii, ReadOtherwise}
 use Rattle.properties_checking.specs.declared.check.Finding.{Finding}
@@ -24,13 +24,13 @@ use Rattle.properties_checking.specs.declared.check.FindingKind.TheVariants.{Mis
 use Rattle.properties_checking.specs.declared.request.Allowed.{Allowed}
 use Rattle.properties_checking.specs.declared.request.Allowed.TheVariants.{All, Latin1, Ascii}
 
-abbrev otherwise_said : ℕ → ℕ → Said
+abbrev otherwise_said : ℕ → ℕ → SaidFinding
 otherwise_said byte = said (is_read_otherwise byte)
 
-abbrev misread_said : Misread → ℕ → Said
+abbrev misread_said : Misread → ℕ → SaidFinding
 misread_said m = said (is_misread m)
 
-abbrev escape_said : MalformedEscape → Said
+abbrev escape_said : MalformedEscape → SaidFinding
 escape_said escape = said (is_malformed escape.kind escape.in_comment) escape.line_number
 
 module _ (P : List KeyPlace) where
@@ -138,7 +138,7 @@ module _ (P : List KeyPlace) where
 
   -- ---- all of them
 
-  pub said-parts : (a b c d e f g : List Finding) (a' b' c' d' e' f' g' : List Said) → map (said_of P) a ≡ a' → map (said_of P) b ≡ b'
+  pub said-parts : (a b c d e f g : List Finding) (a' b' c' d' e' f' g' : List SaidFinding) → map (said_of P) a ≡ a' → map (said_of P) b ≡ b'
       → map (said_of P) c ≡ c' → map (said_of P) d ≡ d' → map (said_of P) e ≡ e' → map (said_of P) f ≡ f' → map (said_of P) g ≡ g'
       → map (said_of P) (a ++ (b ++ (c ++ (d ++ (e ++ (f ++ g)))))) ≡ a' ++ (b' ++ (c' ++ (d' ++ (e' ++ (f' ++ g')))))
   said-parts a b c d e f g a' b' c' d' e' f' g' ha hb hc hd he hf hg =
@@ -160,7 +160,7 @@ module _ (P : List KeyPlace) where
 
   -- ---- in order
 
-  filter-said : (p : Said → Bool) (fs : List Finding) → filter p (map (said_of P) fs) ≡ map (said_of P) (filter (λ f. p (said_of P f)) fs)
+  filter-said : (p : SaidFinding → Bool) (fs : List Finding) → filter p (map (said_of P) fs) ≡ map (said_of P) (filter (λ f. p (said_of P f)) fs)
   filter-said p [] = refl
   filter-said p (f ∷ fs) = elim (cases_Bool (p (said_of P f))) [
     | inl left ↦ rw left (ap (λ v. said_of P f ∷ v) (filter-said p fs))
@@ -171,13 +171,13 @@ module _ (P : List KeyPlace) where
   said-arranged fs gs h =
       let none : Finding = finding_of NonAscii 0 in
       let below : (i : ℕ) → i < length (map (said_of P) gs) → i < length gs = λ i l. subst (λ n. i < n) (length-map gs (said_of P)) l in
-      let line : (i : ℕ) (d : Said) → i < length gs → (get_or (map (said_of P) gs) i d).line ≡ (get_or gs i none).line_number =
-      λ i d l. ap (λ s. let t : Said = s in t.line) (get_or-map (said_of P) gs i none d l) in
+      let line : (i : ℕ) (d : SaidFinding) → i < length gs → (get_or (map (said_of P) gs) i d).line ≡ (get_or gs i none).line_number =
+      λ i d l. ap (λ s. let t : SaidFinding = s in t.line) (get_or-map (said_of P) gs i none d l) in
       record {
         in_order = λ i j d l m.
             let n = below j m in
             rw (line i d (omega arith), line j d n) (h.in_order i j none l n);
         stable = λ x.
-            let test : Said → Bool = ties (λ s t. is_lt (nat_cmp s.line t.line)) x in
+            let test : SaidFinding → Bool = ties (λ s t. is_lt (nat_cmp s.line t.line)) x in
             filter-said test gs ∙ ap (map (said_of P)) (h.stable (finding_of NonAscii x.line)) ∙ sym (filter-said test fs);
       }

@@ -12,7 +12,7 @@ use Rattle.properties_format.proofs.Changed.Maps.{other-test}
 use Rattle.java_properties.specs.Findings.{KeyPlace}
 use Rattle.java_properties.proofs.KeyLines.{first_place}
 use Rattle.properties_checking.specs.Private.Checking.{no_place, place_at}
-use Rattle.properties_tables.specs.Private.Fold.{found_escape, found_pair, keys_among, pairs_among, Finding}
+use Rattle.properties_tables.specs.Private.Fold.{found_escape, found_pair, keys_among, found_pairs, Finding}
 use Rattle.properties_tables.specs.Private.Table.{place_keys, FindsKey, HoldPlaces, PutsKey}
 use Rattle.properties_tables.specs.Table.{IsFirstLine}
 use Rattle.properties_tables.proofs.FirstKeys.{no-both}
@@ -50,7 +50,7 @@ places_in [] = []
 places_in (item n (pair k v) ∷ es) = place n k ∷ places_in es
 places_in (e ∷ es) = places_in es
 
-keys-places : (fs : List Finding) → keys_among fs ≡ places_in (pairs_among fs)
+keys-places : (fs : List Finding) → keys_among fs ≡ places_in (found_pairs fs)
 keys-places [] = refl
 keys-places (found_pair number key value ∷ fs) = ap (λ v. place number key ∷ v) (keys-places fs)
 keys-places (found_escape escape ∷ fs) = keys-places fs
@@ -71,11 +71,11 @@ first-none (malformed kind m ∷ es) key h = first-none es key h
 first-none (read_fault m ∷ es) key h = first-none es key h
 
 -- The line of the row is that of the first pair with the key.
-pub puts-number : (fs : List Finding) (P Q : List KeyPlace) (number : ℕ) (key : List ℕ) (row : ℕ) → HoldPlaces (pairs_among fs) P → PutsKey number key P row Q
+pub puts-number : (fs : List Finding) (P Q : List KeyPlace) (number : ℕ) (key : List ℕ) (row : ℕ) → HoldPlaces (found_pairs fs) P → PutsKey number key P row Q
     → (place_at Q row).number ≡ unwrap_or (first_place (keys_among fs) key) number
 puts-number fs P Q number key row h (inl (found, same)) =
     let at = found-at P key row found in
-    let line : IsFirstLine (pairs_among fs) (place_at P row).key (place_at P row).number =
+    let line : IsFirstLine (found_pairs fs) (place_at P row).key (place_at P row).number =
     h.each row no_place at.0 in
     let first : first_place (keys_among fs) (place_at P row).key ≡ Some (place_at P row).number =
     ap (λ v. first_place v (place_at P row).key) (keys-places fs ∙ ap places_in line.division)
@@ -83,8 +83,8 @@ puts-number fs P Q number key row h (inl (found, same)) =
     ap (λ v. (place_at v row).number) same
     ∙ ap (λ o. unwrap_or o number) (sym first ∙ ap (first_place (keys_among fs)) at.1)
 puts-number fs P Q number key row h (inr (none, last, new)) =
-    let no = no_pair-from key (pairs_among fs) (λ m. no-both key (place_keys P) none (h.first.every key m)) in
+    let no = no_pair-from key (found_pairs fs) (λ m. no-both key (place_keys P) none (h.first.every key m)) in
     ap (λ v. (place_at v row).number) new
     ∙ ap (λ m. (place_at (P ++ place number key ∷ []) m).number) last
     ∙ ap (λ p. let q : KeyPlace = p in q.number) (get_or-append_seam P (place number key) [] no_place)
-    ∙ sym (ap (λ o. unwrap_or o number) (ap (λ v. first_place v key) (keys-places fs) ∙ first-none (pairs_among fs) key no))
+    ∙ sym (ap (λ o. unwrap_or o number) (ap (λ v. first_place v key) (keys-places fs) ∙ first-none (found_pairs fs) key no))

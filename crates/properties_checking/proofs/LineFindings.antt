@@ -14,11 +14,11 @@ use Rattle.properties_items.specs.declared.error.PropertiesError.{PropertiesErro
 use Rattle.properties_items.specs.declared.findings.MalformedEscape.{MalformedEscape}
 use Rattle.java_properties.specs.Findings.{KeyEntry, KeyPlace}
 use Rattle.java_properties.proofs.KeyLines.{entries-added, first_place, groups-key_lines, key_entries, keys_in}
-use Rattle.properties_tables.specs.Private.Fold.{escapes_among, found_escape, found_pair, keys_among, pairs_among, Takes, TakesAll, TookSome}
+use Rattle.properties_tables.specs.Private.Fold.{escapes_among, found_escape, found_pair, keys_among, found_pairs, Takes, TakesAll, TookSome}
 use Rattle.properties_tables.specs.Private.Fold as fold
 use Rattle.properties_checking.specs.Private.Checking.{no_place, place_at, row_findings, said_of}
-use Rattle.properties_checking.specs.Private.LineFindings.{AddsPair, FindsInLines, TookFindings}
-use Rattle.properties_tables.specs.Private.Table.{places_of, HoldPlaces, IsKeyTable}
+use Rattle.properties_checking.specs.Private.LineFindings.{NotesPair, FindsInLines, TookFindings}
+use Rattle.properties_tables.specs.Private.Table.{table_places, HoldPlaces, IsKeyTable}
 use Rattle.properties_checking.specs.Check.{repeats_of}
 use Rattle.properties_checking.specs.declared.check.Finding.{Finding}
 use Rattle.properties_checking.specs.declared.line_findings.LineFindings.{LineFindings}
@@ -57,25 +57,25 @@ module _ (findings : List fold.Finding) (number : ℕ) (key value : List ℕ) wh
 -- ---- what is taken
 
 -- Nothing is wrong at first.
-pub took-none : (first : LineFindings) → first.escapes.items ≡ [] → first.repeats.items ≡ [] → IsKeyTable first.keys → places_of first.keys ≡ []
+pub took-none : (first : LineFindings) → first.escapes.items ≡ [] → first.repeats.items ≡ [] → IsKeyTable first.keys → table_places first.keys ≡ []
     → TookFindings first [] first
 took-none first escapes repeats table none = record {
   setting = refl;
   escapes = escapes;
   table = table;
   hold = subst (HoldPlaces []) (sym none) places-none;
-  repeats = λ more. ap (map (said_of (places_of first.keys ++ more))) repeats;
+  repeats = λ more. ap (map (said_of (table_places first.keys ++ more))) repeats;
 }
 
 module _ (old new : LineFindings) (setting : new.is_well_formed ≡ old.is_well_formed) where
   -- a pair
-  pub took-pair : (number : ℕ) (key value : List ℕ) → AddsPair old.is_well_formed number key old new → new.escapes ≡ old.escapes
+  pub took-pair : (number : ℕ) (key value : List ℕ) → NotesPair old.is_well_formed number key old new → new.escapes ≡ old.escapes
       → Takes TookFindings old (found_pair number key value) new
   unfolding more
   took-pair number key value adds kept = λ first findings took.
       let w = first.is_well_formed in
-      let P = places_of old.keys in
-      let Q = places_of new.keys in
+      let P = table_places old.keys in
+      let Q = table_places new.keys in
       let said_before = flat_map (repeats_of w) (key_entries (keys_among findings)) in
       let number_of_row = (place_at Q adds.row).number in
       let at = puts-at number key P Q adds.row adds.puts in
@@ -86,7 +86,7 @@ module _ (old new : LineFindings) (setting : new.is_well_formed ≡ old.is_well_
             ∙ sym (escapes-append findings (found_pair number key value ∷ []) ∙ append-nil (escapes_among findings));
         table = adds.table;
         hold = subst (λ v. HoldPlaces v Q) (sym (pairs-append findings (found_pair number key value ∷ [])))
-            (places-put (pairs_among findings) number key value P Q adds.row took.hold adds.puts);
+            (places-put (found_pairs findings) number key value P Q adds.row took.hold adds.puts);
         repeats = λ more.
             let said = said_of (Q ++ more) in
             let row : List Finding = row_findings w number key adds.row number_of_row in
@@ -101,7 +101,7 @@ module _ (old new : LineFindings) (setting : new.is_well_formed ≡ old.is_well_
             ∙ repeats-push findings number key value w number_of_row (puts-number findings P Q number key adds.row took.hold adds.puts);
       }
 
-  pub took-result : (number : ℕ) (key value : List ℕ) (result : Result Unit AllocError) → OnOk result (AddsPair old.is_well_formed number key old new)
+  pub took-result : (number : ℕ) (key value : List ℕ) (result : Result Unit AllocError) → OnOk result (NotesPair old.is_well_formed number key old new)
       → new.escapes ≡ old.escapes → OnOk result (Takes TookFindings old (found_pair number key value) new)
   took-result number key value (Ok done) adds kept = took-pair number key value adds kept
   took-result number key value (Err error) none kept = tt
@@ -116,11 +116,11 @@ module _ (old new : LineFindings) (setting : new.is_well_formed ≡ old.is_well_
         setting = setting ∙ took.setting;
         escapes = added ∙ ap (λ v. v ++ escape ∷ []) took.escapes ∙ sym (escapes-append findings more);
         table = subst IsKeyTable (sym keys) took.table;
-        hold = subst (λ v. HoldPlaces v (places_of new.keys)) (sym (pairs-append findings more ∙ append-nil (pairs_among findings)))
-            (subst (λ v. HoldPlaces (pairs_among findings) (places_of v)) (sym keys) took.hold);
+        hold = subst (λ v. HoldPlaces v (table_places new.keys)) (sym (pairs-append findings more ∙ append-nil (found_pairs findings)))
+            (subst (λ v. HoldPlaces (found_pairs findings) (table_places v)) (sym keys) took.hold);
         repeats = λ rest.
-            ap (λ v. map (said_of (places_of new.keys ++ rest)) v.items) repeats
-            ∙ ap (λ v. map (said_of (places_of v ++ rest)) old.repeats.items) keys
+            ap (λ v. map (said_of (table_places new.keys ++ rest)) v.items) repeats
+            ∙ ap (λ v. map (said_of (table_places v ++ rest)) old.repeats.items) keys
             ∙ took.repeats rest
             ∙ sym (ap (λ v. flat_map (repeats_of first.is_well_formed) (key_entries v)) stays);
       }
@@ -137,7 +137,7 @@ pub findings-read : (e : Encoding) (source : List ℕ) (first : LineFindings) (r
 findings-read e source first (Err error) h = h
 findings-read e source first (Ok new) (findings, are, took) =
     let g = findings-groups e source findings are in
-    let P = places_of new.keys in
+    let P = table_places new.keys in
     record {
       escapes = escapes_in g.0;
       malformed = found-in_groups _ g.1;

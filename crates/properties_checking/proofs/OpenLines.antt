@@ -8,7 +8,7 @@ use Rattle.std.proofs.lemmas.Bool.Decides.{eqb_tells}
 use Rattle.std.proofs.lemmas.Bool.{cases_Bool, and_parts, or_from, or_parts}
 use Rattle.std.proofs.lemmas.List.{length-take-le, reverse-append, reverse-reverse, take-append-drop}
 use Rattle.std.proofs.Math.Seq.{drop-append_seam, take-append_seam}
-use Rattle.properties_format.specs.Text.{backslash, begins, form_feed, is_blank, is_empty, characters, space, tab, without_leading_blanks}
+use Rattle.properties_format.specs.Text.{backslash, begins, form_feed, is_blank, is_empty, piece_characters, space, tab, without_leading_blanks}
 use Rattle.properties_format.specs.Encoding.{Encoding, windows_1252, utf_8, utf_16le, utf_16be, ascii_bytes, byte_order_mark, IsAligned, InForce}
 use Rattle.properties_format.specs.Lines.{end, Ended, Line, numbered, numbered_lines, is_comment_line, is_open, lines_in, HasGroups}
 use Rattle.properties_format.specs.Cut.{bytes_together, line_ending_bytes}
@@ -27,15 +27,15 @@ use Rattle.properties_format.specs.Text.{LineEnding, lf, cr, crlf}
 use Rattle.properties_format.proofs.Groups.Open.{is_open-backslash, is_open-other, open-ends}
 use Rattle.properties_format.proofs.Groups.Steps.{groups_after-closed, groups_after-open, groups_of-closed, groups_of-comment_line, groups_of-open, groups_after-close, groups_after-leave}
 use Rattle.properties_lines.specs.LineSearch.{unit_size}
-use Rattle.properties_lines.specs.Private.HeldLines.{lines_left}
-use Rattle.properties_lines.specs.Scanner.{bytes_of, scanner_state, EndsWhole, GivesLine}
+use Rattle.properties_lines.specs.Private.HeldLines.{held_lines_left}
+use Rattle.properties_lines.specs.Scanner.{raw_line_bytes, scanner_state, EndsWhole, GivesScannedLine}
 use Rattle.properties_lines.specs.declared.scanner.Scanner.{Scanner}
 use Rattle.properties_text.specs.Encoding.{encoding_of}
 use Rattle.properties_format.specs.Text.{is_comment_sign}
 use Rattle.properties_format.proofs.Body.Decoded.{decoded-nil}
 use Rattle.properties_tables.specs.Lines.{holds_byte}
 use Rattle.properties_checking.specs.Misread.{last_number, lines_of_pairs, looks_open, misread_at, misread_end, AreMisreadEnds}
-use Rattle.properties_checking.specs.Private.OpenLines.{ends_from, ends_left, holds_candidate, holds_pair, is_comment_after, is_end, joins_next, may_end, said_end, BeginsWithAscii, EndsInAscii, IsAsciiUnit, IsUnblanked, SeesNone}
+use Rattle.properties_checking.specs.Private.OpenLines.{ends_from, ends_left, holds_candidate, holds_pair, is_comment_after, is_end, joins_next, may_end_line, said_end, BeginsWithAscii, EndsInAscii, IsAsciiUnit, IsUnblanked, SeesNone}
 use Rattle.properties_checking.specs.Private.Checking.{misread_finding}
 use Rattle.properties_tables.specs.Private.Flawed.{IsScanning}
 use Rattle.properties_text.specs.declared.encoding.Encoding as code
@@ -406,7 +406,7 @@ no-candidate (b ∷ bs) late s t f =
       ]
     ]
 
-unsaid-ends : (e : Encoding) (body : List ℕ) → (e ≡ windows_1252) ⊎ (e ≡ utf_8) → may_end body ≡ false
+unsaid-ends : (e : Encoding) (body : List ℕ) → (e ≡ windows_1252) ⊎ (e ≡ utf_8) → may_end_line body ≡ false
     → ends_from misread_finding false 0 (held_lines_of e body) ≡ []
 unsaid-ends e body one h =
     let late = or_parts (holds_byte backslash (drop (length body - 3) body)) (holds_pair space body || (holds_pair tab body || holds_pair form_feed body)) h in
@@ -420,7 +420,7 @@ unsaid-ends e body one h =
         none-held f single misread_finding false 0 (cut_of f body).ended (cut_of f body).last (ap holds_candidate (sym (cut_of-meets f body).bytes) ∙ none)
 
 pub sees-ends : (f : code.Encoding) (body : List ℕ) (result : Bool)
-    → (f ≡ WINDOWS_1252) ⊎ (f ≡ UTF_8) → result ≡ may_end body → SeesNone (encoding_of f) body result
+    → (f ≡ WINDOWS_1252) ⊎ (f ≡ UTF_8) → result ≡ may_end_line body → SeesNone (encoding_of f) body result
 sees-ends f body true one h = tt
 sees-ends f body false one h =
     unsaid-ends (encoding_of f) body (elim one [ inl is ↦ inl (ap encoding_of is) | inr is ↦ inr (ap encoding_of is) ]) (sym h)
@@ -432,7 +432,7 @@ module _ (e : Encoding) (c : ℕ) (ascii : c < 128) where
   last-decoded front aligned =
       let text : decoded_line e (front ++ ascii_bytes e c) ≡ decoded_line e front ++ c ∷ [] =
       ap (λ v. decoded_line e (front ++ v)) (sym (append-nil (ascii_bytes e c))) ∙ characters-cut_ascii e c front [] ascii aligned
-      ∙ ap (λ v. decoded_line e front ++ c ∷ characters v) (pieces_of-nil e) in
+      ∙ ap (λ v. decoded_line e front ++ c ∷ piece_characters v) (pieces_of-nil e) in
       ap reverse text ∙ reverse-append (decoded_line e front) (c ∷ [])
 
   pub last-bytes : (d y : List ℕ) → reverse (decoded_line e d) ≡ c ∷ y → (x : List ℕ) × IsAligned e x × (d ≡ x ++ ascii_bytes e c)
@@ -627,7 +627,7 @@ end-held : (e : Encoding) (d : List ℕ) → is_end (held_lines_of e d) ≡ (len
 end-held e d = end-told e (cut_of e d).ended (cut_of e d).last ∙ ap (λ v. length v == 0) (sym (cut_of-meets e d).bytes)
 
 -- The scanner is at the end of the body after the last line, or before an empty one.
-pub at-end : (body : List ℕ) (s new : Scanner) → GivesLine s body true new → (new.at == length body) ≡ is_end (lines_left body new)
+pub at-end : (body : List ℕ) (s new : Scanner) → GivesScannedLine s body true new → (new.at == length body) ≡ is_end (held_lines_left body new)
 at-end body s new g =
     let rest = length-drop new.at body in
     let within = g.fits.within in
@@ -656,40 +656,40 @@ ends-start body s f at stands =
     rw (passed, going, at, same) refl
 
 -- by the line that came
-pub ends-next : (body : List ℕ) (s new : Scanner) (is_joined : Bool) → IsScanning body s → GivesLine s body true new
+pub ends-next : (body : List ℕ) (s new : Scanner) (is_joined : Bool) → IsScanning body s → GivesScannedLine s body true new
     → ends_left is_joined body s
-    ≡ misread_at misread_finding new.passed (said_end is_joined (decoded_line (encoding_of s.encoding) (bytes_of body new.line)) (new.at == length body))
-    ++ ends_left (joins_next is_joined (decoded_line (encoding_of s.encoding) (bytes_of body new.line))) body new
+    ≡ misread_at misread_finding new.passed (said_end is_joined (decoded_line (encoding_of s.encoding) (raw_line_bytes body new.line)) (new.at == length body))
+    ++ ends_left (joins_next is_joined (decoded_line (encoding_of s.encoding) (raw_line_bytes body new.line))) body new
 ends-next body s new is_joined h g =
-    let text = decoded_line (encoding_of s.encoding) (bytes_of body new.line) in
+    let text = decoded_line (encoding_of s.encoding) (raw_line_bytes body new.line) in
     let number : s.passed + 1 ≡ new.passed = sym g.number in
     ap (ends_from misread_finding is_joined s.passed) (body-lines_left s new body h.in_body g)
-    ∙ ap (λ n. misread_at misread_finding n (said_end is_joined text (is_end (lines_left body new)))
-    ++ ends_from misread_finding (joins_next is_joined text) n (lines_left body new)) number
+    ∙ ap (λ n. misread_at misread_finding n (said_end is_joined text (is_end (held_lines_left body new)))
+    ++ ends_from misread_finding (joins_next is_joined text) n (held_lines_left body new)) number
     ∙ ap (λ v. misread_at misread_finding new.passed (said_end is_joined text v) ++ ends_left (joins_next is_joined text) body new) (sym (at-end body s new g))
 
 -- after it was said
 pub ends-step : (body : List ℕ) (s new : Scanner) (is_joined : Bool) (f : Encoding) (findings after : List Finding) (number : ℕ)
     (misread : Option Misread) (is_joined_next : Bool) (all : List Finding)
     → IsScanning body s
-    → GivesLine s body true new
+    → GivesScannedLine s body true new
     → encoding_of s.encoding ≡ f
     → number ≡ new.passed
-    → misread ≡ said_end is_joined (decoded_line f (bytes_of body new.line)) (new.at == length body)
-    → is_joined_next ≡ joins_next is_joined (decoded_line f (bytes_of body new.line))
+    → misread ≡ said_end is_joined (decoded_line f (raw_line_bytes body new.line)) (new.at == length body)
+    → is_joined_next ≡ joins_next is_joined (decoded_line f (raw_line_bytes body new.line))
     → after ≡ findings ++ misread_at misread_finding number misread
     → findings ++ ends_left is_joined body s ≡ all
     → after ++ ends_left is_joined_next body new ≡ all
 ends-step body s new is_joined f findings after number misread is_joined_next all h g same count said joins pushed before =
     let P : Encoding → Type 0 = λ e.
     ends_left is_joined body s
-    ≡ misread_at misread_finding new.passed (said_end is_joined (decoded_line e (bytes_of body new.line)) (new.at == length body))
-    ++ ends_left (joins_next is_joined (decoded_line e (bytes_of body new.line))) body new in
+    ≡ misread_at misread_finding new.passed (said_end is_joined (decoded_line e (raw_line_bytes body new.line)) (new.at == length body))
+    ++ ends_left (joins_next is_joined (decoded_line e (raw_line_bytes body new.line))) body new in
     let next : P f = subst P same (ends-next body s new is_joined h g) in
     rw (pushed, count, said, joins) (append_assoc findings _ _ ∙ ap (λ v. findings ++ v) (sym next) ∙ before)
 
 -- after the last one
-pub ends-done : (is_joined : Bool) (body : List ℕ) (s : Scanner) (findings all : List Finding) → lines_left body s ≡ []
+pub ends-done : (is_joined : Bool) (body : List ℕ) (s : Scanner) (findings all : List Finding) → held_lines_left body s ≡ []
     → findings ++ ends_left is_joined body s ≡ all
     → findings ≡ all
 ends-done is_joined body s findings all none before =

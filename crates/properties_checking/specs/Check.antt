@@ -53,11 +53,11 @@ pub data What : Type 0 where
   repeats_key : List ℕ → ℕ → What
 
 -- what is said of a line
-pub record Said : Type 0 where
+pub record SaidFinding : Type 0 where
   pub line : ℕ
   pub what : What
 
-abbrev pub said : What → ℕ → Said
+abbrev pub said : What → ℕ → SaidFinding
 said what number = record { line = number; what = what }
 
 -- of the first line of which something is said, where there is one
@@ -131,21 +131,21 @@ words_of (is_misread m) = misread_words m
 words_of (is_malformed kind in_comment) = escape_words kind in_comment
 words_of (repeats_key key first) = repeat_words key first
 
-abbrev pub kind_of : What → Kind
-kind_of holds_zero = Zero
-kind_of (is_ill_formed words) = IllFormed
-kind_of looks_like_utf_8 = LooksLikeUtf8
-kind_of is_non_ascii = NonAscii
-kind_of (is_read_otherwise byte) = ReadOtherwise
-kind_of (is_misread m) = misread_kind m
-kind_of (is_malformed kind true) = EscapeInComment
-kind_of (is_malformed kind false) = EscapeInPair
-kind_of (repeats_key key first) = RepeatedKey
+abbrev pub finding_kind : What → Kind
+finding_kind holds_zero = Zero
+finding_kind (is_ill_formed words) = IllFormed
+finding_kind looks_like_utf_8 = LooksLikeUtf8
+finding_kind is_non_ascii = NonAscii
+finding_kind (is_read_otherwise byte) = ReadOtherwise
+finding_kind (is_misread m) = misread_kind m
+finding_kind (is_malformed kind true) = EscapeInComment
+finding_kind (is_malformed kind false) = EscapeInPair
+finding_kind (repeats_key key first) = RepeatedKey
 
 -- ---- findings
 
 -- Of a key: that a pair in an earlier line has it. Where a line is ill-formed, a key with U+FFFD repeats no other.
-abbrev pub repeats_of : Bool → KeyEntry → List Said
+abbrev pub repeats_of : Bool → KeyEntry → List SaidFinding
 repeats_of is_well_formed k =
     if k.first == k.number then [] else
     if not is_well_formed && has_replacement k.key then [] else
@@ -153,7 +153,7 @@ repeats_of is_well_formed k =
 
 -- what is said of this line with U+0000, these ill-formed lines, this line that looks like UTF-8, these lines that aren't
 -- ASCII, bytes that are read otherwise, escapes and keys, one kind after another
-abbrev pub all_said : Words → Option ℕ → List ℕ → Option ℕ → List ℕ → List Said → List MalformedEscape → List KeyEntry → List Said
+abbrev pub all_said : Words → Option ℕ → List ℕ → Option ℕ → List ℕ → List SaidFinding → List MalformedEscape → List KeyEntry → List SaidFinding
 all_said words zero numbers utf_8 refused otherwise escapes keys =
     first_of (said holds_zero) zero
     ++ (ill_formed_of (λ w. said (is_ill_formed w)) words numbers
@@ -164,12 +164,12 @@ all_said words zero numbers utf_8 refused otherwise escapes keys =
     ++ flat_map (repeats_of (length numbers == 0)) keys)))))
 
 -- They are in the order of their lines, and those of one line in the order that they have in the others.
-pub record ArrangesByLine (all arranged : List Said) : Type 0 where
+pub record ArrangesByLine (all arranged : List SaidFinding) : Type 0 where
   pub in_order : IsNonDecreasingBy (λ s. s.line) arranged
   pub stable : IsStableByKey (λ s. s.line) nat_cmp all arranged
 
 -- the line `NAME:LINE: TEXT`
-abbrev pub said_line : List ℕ → Said → List ℕ
+abbrev pub said_line : List ℕ → SaidFinding → List ℕ
 said_line name s = escaped name ++ (codes ":" ++ (decimal s.line ++ (codes ": " ++ (words_of s.what ++ (line_feed ∷ [])))))
 
 -- ---- in JSON
@@ -181,11 +181,11 @@ detailed (repeats_key key first) rest = member (codes "key") (text_value key) (m
 detailed other rest = rest
 
 -- The object has the name of the source, the line, and the words of the line that is printed otherwise.
-abbrev pub said_value : List ℕ → Said → Json
+abbrev pub said_value : List ℕ → SaidFinding → Json
 said_value name s = object (
     member (codes "file") (string name) (
     member (codes "line") (json.number (decimal s.line)) (
-    member (codes "kind") (string (kind_name (kind_of s.what))) (
+    member (codes "kind") (string (kind_name (finding_kind s.what))) (
     detailed s.what (
     member (codes "message") (string (words_of s.what)) no_members)))))
 
@@ -237,18 +237,18 @@ pub record IsReport (name : List ℕ) (e : Encoding) (check : Check) (source tex
   pub looks_utf_8 : IsFirstUtf8 e source utf_8
   pub refused : List ℕ
   pub are_refused : AreRefused check.allowed e source refused
-  pub otherwise : List Said
+  pub otherwise : List SaidFinding
   pub are_otherwise : AreOtherwise (λ m. said (is_misread m)) (λ byte. said (is_read_otherwise byte)) check.allowed e source otherwise
   pub escapes : List format.MalformedEscape
   pub malformed : AreMalformedEscapes e source escapes
   pub keys : List KeyEntry
   pub are_keys : AreKeyLines e source keys
-  pub all : List Said
+  pub all : List SaidFinding
   pub arranged : ArrangesByLine
       (all_said (first_words e source (is_some zero)) zero numbers utf_8 refused otherwise (escape_records escapes) keys) all
-  pub is : IsReportText check.report (said_line name) (said_value name) (reported check.ignored (λ s. kind_of s.what) all) text
+  pub is : IsReportText check.report (said_line name) (said_value name) (reported check.ignored (λ s. finding_kind s.what) all) text
 
 -- What reporting returns. It fails only if memory runs out.
-abbrev pub Reports : {Z : Type 0} → Encoding → Check → List ℕ → List ℕ → Result (String Z) PropertiesError → Type 0
-Reports e check name source (Ok text) = IsReport name e check source (string_bytes text)
-Reports e check name source (Err error) = IsBareError kind.Memory error
+abbrev pub ReportsFindings : {Z : Type 0} → Encoding → Check → List ℕ → List ℕ → Result (String Z) PropertiesError → Type 0
+ReportsFindings e check name source (Ok text) = IsReport name e check source (string_bytes text)
+ReportsFindings e check name source (Err error) = IsBareError kind.Memory error

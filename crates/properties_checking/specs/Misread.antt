@@ -52,14 +52,14 @@ misread_end text is_last =
     if looks_open text then Some BlankAfterBackslash else (if is_open text && is_last then Some OpenAtEnd else None)
 
 -- whether a group is a comment line
-abbrev pub is_comment : List Line → Bool
-is_comment [] = false
-is_comment (l ∷ ls) = is_comment_line l.text
+abbrev pub is_comment_group : List Line → Bool
+is_comment_group [] = false
+is_comment_group (l ∷ ls) = is_comment_line l.text
 
 -- the lines of the groups that are no comment lines
 abbrev pub lines_of_pairs : List (List Line) → List Line
 lines_of_pairs [] = []
-lines_of_pairs (g ∷ gs) = if is_comment g then lines_of_pairs gs else g ++ lines_of_pairs gs
+lines_of_pairs (g ∷ gs) = if is_comment_group g then lines_of_pairs gs else g ++ lines_of_pairs gs
 
 -- the number of the last line, or of the one before it where the last one is empty, as it is after a line ending
 abbrev pub last_number : List Line → ℕ

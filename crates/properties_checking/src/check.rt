@@ -6,11 +6,11 @@ ghost use Rattle.std.specs.String.{string_bytes};
 ghost use Rattle.properties_format.specs.Windows1252.{windows_1252_character};
 ghost use Rattle.java_properties.specs.Findings.{KeyPlace};
 ghost use Rattle.properties_text.specs.Encoding.{encoding_of};
-ghost use Rattle.properties_checking.specs.Check.{comment_words, first_of, first_words, ill_formed_of, ill_formed_text, kind_of, said_line, said_value, words_after, words_of, Reports};
+ghost use Rattle.properties_checking.specs.Check.{comment_words, first_of, first_words, ill_formed_of, ill_formed_text, finding_kind, said_line, said_value, words_after, words_of, ReportsFindings};
 ghost use Rattle.properties_checking.specs.Kinds.{reported};
 ghost use Rattle.properties_checking.specs.Private.Checking.{escape_finding, finding_of, ill_formed_finding, place_at, said_of, what_of, ArrangesFindings, ChecksKeys, FindsBytes, FindsOtherBytes, FindsOtherwise, FindsRefused};
 ghost use Rattle.properties_checking.specs.Private.Objects.{AddsReport};
-ghost use Rattle.properties_tables.specs.Private.Table.{places_of, IsKeyTable};
+ghost use Rattle.properties_tables.specs.Private.Table.{table_places, IsKeyTable};
 
 use crate::check_json::push_value;
 use crate::kinds::{Ignored, Kind};
@@ -102,7 +102,7 @@ pub fn report(
     encoding: Encoding,
     asked: Check,
 ) -> Result<String, PropertiesError>
-    ensures { Reports (encoding_of encoding) asked name.now source.now result }
+    ensures { ReportsFindings (encoding_of encoding) asked name.now source.now result }
 {
     Ok(checked(alloc, name, source, encoding, asked)?.text)
 }
@@ -330,7 +330,7 @@ fn push_findings<'a>(
     findings: &[Finding],
 ) -> Result<(), AllocError>
     requires { IsKeyTable keys.now }
-    ensures { let said = reported heading.entry.ignored (λ s. kind_of s.what) (map (said_of (places_of keys.now)) findings.now) in
+    ensures { let said = reported heading.entry.ignored (λ s. finding_kind s.what) (map (said_of (table_places keys.now)) findings.now) in
         OnOk result (AddsReport heading.entry.report (said_line heading.entry.name.now) (said_value heading.entry.name.now) said text.old text.new) }
 {
     for finding in findings {
@@ -343,7 +343,7 @@ fn push_findings<'a>(
 
 // Returns the kind of a finding.
 pub(crate) fn kind_of(kind: FindingKind) -> Kind
-    ensures { (places : List KeyPlace) → result ≡ kind_of (what_of places kind) }
+    ensures { (places : List KeyPlace) → result ≡ finding_kind (what_of places kind) }
 {
     match kind {
         FindingKind::HoldsZero => Kind::Zero,
@@ -372,7 +372,7 @@ fn push_finding<'a>(
     finding: &Finding,
 ) -> Result<(), AllocError>
     requires { IsKeyTable keys.now }
-    ensures { let said = said_of (places_of keys.now) finding.now in
+    ensures { let said = said_of (table_places keys.now) finding.now in
         OnOk result (AddsReport heading.entry.report (said_line heading.entry.name.now) (said_value heading.entry.name.now) (said ∷ []) text.old text.new) }
 {
     match heading.report {
@@ -388,7 +388,7 @@ fn push_line(
     finding: &Finding,
 ) -> Result<(), AllocError>
     requires { IsKeyTable keys.now }
-    ensures { OnOk result (string_bytes text.new ≡ string_bytes text.old ++ said_line name.now (said_of (places_of keys.now) finding.now)) }
+    ensures { OnOk result (string_bytes text.new ≡ string_bytes text.old ++ said_line name.now (said_of (table_places keys.now) finding.now)) }
 {
     let name = Escaped(name);
     write!(text, "{name}:{}: ", finding.line_number)?;
@@ -403,7 +403,7 @@ pub(crate) fn push_words(
     kind: FindingKind,
 ) -> Result<(), AllocError>
     requires { IsKeyTable keys.now }
-    ensures { OnOk result (string_bytes text.new ≡ string_bytes text.old ++ words_of (what_of (places_of keys.now) kind)) }
+    ensures { OnOk result (string_bytes text.new ≡ string_bytes text.old ++ words_of (what_of (table_places keys.now) kind)) }
 {
     match kind {
         FindingKind::HoldsZero => text.push_str(HOLDS_ZERO),
@@ -448,9 +448,9 @@ impl fmt::Display for OtherByte {
 // Returns the key in a row, and the line of its first pair.
 pub(crate) fn key_at(keys: &KeyTable, row: usize) -> (&str, usize)
     requires { IsKeyTable keys.now }
-    ensures key { chars result.0.now ≡ (place_at (places_of keys.now) row).key }
-    ensures text { result.0.now ≡ encode_utf8_all (place_at (places_of keys.now) row).key }
-    ensures line { result.1 ≡ (place_at (places_of keys.now) row).number }
+    ensures key { chars result.0.now ≡ (place_at (table_places keys.now) row).key }
+    ensures text { result.0.now ≡ encode_utf8_all (place_at (table_places keys.now) row).key }
+    ensures line { result.1 ≡ (place_at (table_places keys.now) row).number }
 {
     if row < keys.len() {
         (keys.key(row), keys.first_line(row))

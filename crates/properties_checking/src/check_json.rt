@@ -4,7 +4,7 @@ ghost use Rattle.std.specs.Prelude.{◌≡◌, OnOk};
 ghost use Rattle.properties_checking.specs.Check.{said_value, words_of};
 ghost use Rattle.properties_checking.specs.Private.Checking.{said_of};
 ghost use Rattle.properties_checking.specs.Private.Objects.{AddsJsonLine};
-ghost use Rattle.properties_tables.specs.Private.Table.{places_of, IsKeyTable};
+ghost use Rattle.properties_tables.specs.Private.Table.{table_places, IsKeyTable};
 
 use crate::check::{Finding, FindingKind, key_at, kind_of, push_words};
 use crate::objects::{Member, push_object};
@@ -20,7 +20,7 @@ pub(crate) fn push_value<'a>(
     finding: &Finding,
 ) -> Result<(), AllocError>
     requires { IsKeyTable keys.now }
-    ensures { OnOk result (AddsJsonLine (said_value name.now (said_of (places_of keys.now) finding.now)) text.old text.new) }
+    ensures { OnOk result (AddsJsonLine (said_value name.now (said_of (table_places keys.now) finding.now)) text.old text.new) }
 {
     let mut words = String::new(alloc);
     push_words(&mut words, keys, finding.kind)?;

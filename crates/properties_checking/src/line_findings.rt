@@ -4,7 +4,7 @@ ghost use Rattle.std.specs.Prelude.{◌≡◌, OnOk};
 ghost use Rattle.std.specs.Str.{chars};
 ghost use Rattle.properties_text.specs.Encoding.{encoding_of};
 ghost use Rattle.properties_checking.specs.Check.{has_replacement};
-ghost use Rattle.properties_checking.specs.Private.LineFindings.{AddsPair, FindsInLines, TookFindings};
+ghost use Rattle.properties_checking.specs.Private.LineFindings.{NotesPair, FindsInLines, TookFindings};
 ghost use Rattle.properties_tables.specs.Private.Table.{IsKeyTable};
 
 use crate::check::{Finding, FindingKind};
@@ -71,7 +71,7 @@ impl LineFindings {
     #[inline(always)]
     fn add_key(&mut self, alloc: Global, line_number: usize, key: &str) -> Result<(), AllocError>
         requires { IsKeyTable self.old.keys }
-        ensures adds { OnOk result (AddsPair self.old.is_well_formed line_number (chars key.now) self.old self.new) }
+        ensures adds { OnOk result (NotesPair self.old.is_well_formed line_number (chars key.now) self.old self.new) }
         ensures kept { self.new.escapes ≡ self.old.escapes }
         ensures setting { self.new.is_well_formed ≡ self.old.is_well_formed }
     {

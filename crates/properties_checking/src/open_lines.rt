@@ -7,7 +7,7 @@ ghost use Rattle.properties_text.specs.Encoding.{encoding_of};
 ghost use Rattle.properties_lines.specs.LineSearch.{unit_size};
 ghost use Rattle.properties_checking.specs.Misread.{looks_open};
 ghost use Rattle.properties_tables.specs.Private.Flawed.{IsScanning};
-ghost use Rattle.properties_checking.specs.Private.OpenLines.{holds_pair, joins_next, may_end, said_end, AddsEnds, BeginsWithAscii, EndsInAscii, FindsLine, IsAsciiUnit, SeesNone};
+ghost use Rattle.properties_checking.specs.Private.OpenLines.{holds_pair, joins_next, may_end_line, said_end, AddsEnds, BeginsWithAscii, EndsInAscii, FindsOpenLine, IsAsciiUnit, SeesNone};
 
 use crate::check::Finding;
 use crate::misread::{Misread, push_misread};
@@ -50,7 +50,7 @@ pub(crate) fn push_ends(
 // Returns the number of the next line, if there is one.
 fn next_line(scanner: &mut Scanner, body: &[u8]) -> Option<usize>
     requires { IsScanning body.now scanner.old }
-    ensures { FindsLine body.now scanner.old result scanner.new }
+    ensures { FindsOpenLine body.now scanner.old result scanner.new }
 {
     match scanner.next(body, true) {
         Scan::Line => Some(scanner.number()),
@@ -98,7 +98,7 @@ fn may_hold_ends(encoding: Encoding, body: &[u8]) -> bool
 // Returns whether a blank comes after a backslash, or one of the last three bytes is a backslash: no more than two are a
 // line ending.
 fn may_end(body: &[u8]) -> bool
-    ensures { result ≡ may_end body.now }
+    ensures { result ≡ may_end_line body.now }
 {
     let late = body.len().saturating_sub(3);
     holds(&body[late..], b'\\')

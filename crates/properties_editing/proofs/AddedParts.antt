@@ -34,7 +34,7 @@ use Rattle.properties_editing.specs.declared.parts.PartKind.TheVariants as kind
 use Rattle.properties_editing.specs.declared.parts.Part.{Part}
 use Rattle.properties_editing.specs.declared.parts.Parts.{Parts}
 use Rattle.properties_editing.specs.declared.parts.source_parts.SourceParts.{SourceParts}
-use Rattle.properties_editing.specs.Private.Sources.{printed_in}
+use Rattle.properties_editing.specs.Private.Sources.{printed_repertoire}
 use Rattle.properties_editing.proofs.Editing.{bom-front, editable, not_first, printed-own}
 use Rattle.properties_editing.proofs.EditedParts.{encoding-own, pair-text, slots-own, some-between, source-edited}
 use Rattle.properties_editing.proofs.PartBounds.{bounds-added}
@@ -211,7 +211,7 @@ module _ {r : Repertoire} {read now : List ℕ} {named : List ℕ → Bool} {gs 
   -- A printed pair was added.
   pub source-put-added : AreSound gs → (key value : List ℕ) (by : declared.LineEnding) (bytes : Vec ℕ) (new : Parts) → All scalar key → All scalar value
       → named key ≡ true → key_place old.parts.keys key ≡ None → ending_of by ≡ safe_ending (parts_bytes d items)
-      → bytes.items ≡ pair_bytes (printed_in old.opened) (not old.guarded && nat_le (length items) old.empty) key value
+      → bytes.items ≡ pair_bytes (printed_repertoire old.opened) (not old.guarded && nat_le (length items) old.empty) key value
       → HasAdded d key value by bytes code.LF old.parts new → AreEditedParts r (put key value) read now named (record old { parts = new })
   source-put-added sound key value by bytes new k v is none safe printed h =
       let t = in_encoding r f in
@@ -244,7 +244,7 @@ module _ {r : Repertoire} {read now : List ℕ} {named : List ℕ → Bool} {gs 
 -- So it was, or memory ran out.
 pub key-added : {E : Type 0} (read : List ℕ) (old : SourceParts) (key value : List ℕ) (by : declared.LineEnding) (bytes : Vec ℕ) (new : Parts) (told : Result Unit E)
     → All scalar key → All scalar value → key_place old.parts.keys key ≡ None → ending_of by ≡ safe_ending (parts_bytes (drop old.opened.start read) old.parts.parts.items)
-    → bytes.items ≡ pair_bytes (printed_in old.opened) (not old.guarded && nat_le (length old.parts.parts.items) old.empty) key value
+    → bytes.items ≡ pair_bytes (printed_repertoire old.opened) (not old.guarded && nat_le (length old.parts.parts.items) old.empty) key value
     → AddsPair (drop old.opened.start read) key value by bytes code.LF old.parts told new
     → EditsParts (put key value) read old told (record old { parts = new })
 key-added read old key value by bytes new (Ok done) k v none safe printed h = λ r now named is p.

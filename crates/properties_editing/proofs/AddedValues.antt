@@ -37,7 +37,7 @@ use Rattle.properties_editing.specs.Private.EditedParts.{AreEditedParts, EditsPa
 use Rattle.properties_editing.specs.Private.PartEndings.{last_some, part_pair}
 use Rattle.properties_editing.specs.Private.Sound.{AreSound}
 use Rattle.properties_editing.specs.Private.SourceParts.{lf_if}
-use Rattle.properties_editing.specs.Private.Sources.{printed_in}
+use Rattle.properties_editing.specs.Private.Sources.{printed_repertoire}
 use Rattle.properties_editing.specs.declared.parts.Part.{Part}
 use Rattle.properties_editing.specs.declared.parts.Parts.{Parts}
 use Rattle.properties_editing.specs.declared.parts.source_parts.SourceParts.{SourceParts}
@@ -134,7 +134,7 @@ module _ {r : Repertoire} {read now : List ℕ} {named : List ℕ → Bool} {gs 
   pub source-value-added : (key value sep : List ℕ) (by : declared.LineEnding) (bytes : Vec ℕ) (new : Parts) → All scalar key → All scalar value
       → named key ≡ true → key_place old.parts.keys key ≡ None → IsLastEnding (parts_bytes d items) by
       → sep ≡ separator_by key (between_last f (last_some (part_pair d) items))
-      → bytes.items ≡ unended_pair (printed_in old.opened) (not old.guarded && nat_le (length items) old.empty) key sep value
+      → bytes.items ≡ unended_pair (printed_repertoire old.opened) (not old.guarded && nat_le (length items) old.empty) key sep value
       → HasAdded d key value by bytes by old.parts new → AreEditedParts r (set_value key value) read now named (record old { parts = new })
   source-value-added key value sep by bytes new k v is none last sep_is printed h =
       let t = in_encoding r f in
@@ -176,7 +176,7 @@ module _ {r : Repertoire} {read now : List ℕ} {named : List ℕ → Bool} {gs 
 pub value-added : {E : Type 0} (read : List ℕ) (old : SourceParts) (key value sep : List ℕ) (by : declared.LineEnding) (bytes : Vec ℕ) (new : Parts) (told : Result Unit E)
     → All scalar key → All scalar value → key_place old.parts.keys key ≡ None → IsLastEnding (parts_bytes (drop old.opened.start read) old.parts.parts.items) by
     → sep ≡ separator_by key (between_last (encoding_of old.opened.encoding) (last_some (part_pair (drop old.opened.start read)) old.parts.parts.items))
-    → bytes.items ≡ unended_pair (printed_in old.opened) (not old.guarded && nat_le (length old.parts.parts.items) old.empty) key sep value
+    → bytes.items ≡ unended_pair (printed_repertoire old.opened) (not old.guarded && nat_le (length old.parts.parts.items) old.empty) key sep value
     → AddsPair (drop old.opened.start read) key value by bytes by old.parts told new
     → EditsParts (set_value key value) read old told (record old { parts = new })
 value-added read old key value sep by bytes new (Ok done) k v none last sep_is printed h = λ r now named is p.

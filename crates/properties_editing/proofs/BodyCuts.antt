@@ -4,7 +4,7 @@ use Rattle.std.specs.Prelude.{◌⊎◌, min, not, nat_le}
 use Rattle.std.proofs.lemmas.Bool.{cases_Bool, cond-true, cond-false}
 use Rattle.std.proofs.lemmas.Bool.Decides.{nat_tests}
 use Rattle.std.proofs.lemmas.List.{drop_more, drop_all, drop-drop, length-drop, length-take-le, take-append-drop, take-append-le}
-use Rattle.properties_format.specs.Text.{Piece, piece, characters, backslash, is_blank, is_comment_sign, begins, without_leading_blanks}
+use Rattle.properties_format.specs.Text.{Piece, piece, piece_characters, backslash, is_blank, is_comment_sign, begins, without_leading_blanks}
 use Rattle.std.specs.Str.{IsAscii, IsUtf8, chars}
 use Rattle.std.proofs.lemmas.Str.Ascii.{IsAscii-cons, IsAscii-nil}
 use Rattle.properties_format.specs.Encoding.{Encoding, utf_8}
@@ -26,8 +26,8 @@ use Rattle.properties_format.proofs.Encodings.Cuts.{pieces_of-cut_ascii}
 use Rattle.properties_format.proofs.Valued.Heads.{IsLittle, aligned-editable}
 use Rattle.properties_format.proofs.Valued.Fronts.{indented, shut-whole}
 use Rattle.properties_text.specs.Encoding.{encoding_of}
-use Rattle.properties_lines.specs.Scanner.{bytes_of}
-use Rattle.properties_lines.specs.Private.HeldLines.{held_line, lines_left}
+use Rattle.properties_lines.specs.Scanner.{raw_line_bytes}
+use Rattle.properties_lines.specs.Private.HeldLines.{held_line, held_lines_left}
 use Rattle.properties_editing.specs.declared.groups.GroupReader.{GroupReader}
 use Rattle.properties_format.specs.Lines.{Ended}
 use Rattle.properties_format.specs.Computed.Cut.{cut_of}
@@ -36,9 +36,9 @@ use Rattle.properties_format.proofs.Encodings.Pieces.{first-meets, piece-length}
 use Rattle.properties_format.proofs.Valued.Fronts.{AreDecoded, joined_by}
 use Rattle.properties_lines.specs.declared.scanner.Scanner.{Scanner}
 use Rattle.properties_editing.specs.declared.cuts.Cut as code
-use Rattle.properties_editing.specs.Private.BodyGroups.{IsWithin, TakesLine}
+use Rattle.properties_editing.specs.Private.BodyGroups.{IsWithin, TakesHeldLine}
 use Rattle.properties_editing.proofs.BodyGroups.{has-sizes}
-use Rattle.properties_editing.specs.Private.BodyCuts.{Cut, adds, indent_size, past, cut_at, placed}
+use Rattle.properties_editing.specs.Private.BodyCuts.{Cut, adds, indent_size, cut_past_line, cut_at, placed}
 use Rattle.properties_text.specs.Encoding.{IsFirstPiece}
 use Rattle.properties_text.specs.declared.encoding.first_piece.FirstPiece.{FirstPiece}
 use Rattle.properties_format.proofs.Body.Decoded.{decoded-nil}
@@ -57,7 +57,7 @@ ascii-front e b d ok l =
 -- So are some ASCII bytes.
 decoded-ascii : (e : Encoding) (b y : List ℕ) → is_editable e ≡ true → IsAscii b → decoded_line e (b ++ y) ≡ b ++ decoded_line e y
 decoded-ascii e [] y ok h = refl
-decoded-ascii e (c ∷ b) y ok h = ap characters (ascii-front e c (b ++ y) ok (h 0)) ∙ ap (λ v. c ∷ v) (decoded-ascii e b y ok (λ i. h (suc i)))
+decoded-ascii e (c ∷ b) y ok h = ap piece_characters (ascii-front e c (b ++ y) ok (h 0)) ∙ ap (λ v. c ∷ v) (decoded-ascii e b y ok (λ i. h (suc i)))
 
 head-ascii : (e : Encoding) (b y : List ℕ) (n : ℕ) → is_editable e ≡ true → IsAscii b → head_of e (length b + n) (b ++ y) ≡ b ++ head_of e n y
 head-ascii e [] y n ok h = let none : 0 + n ≡ n = omega arith in ap (λ m. head_of e m y) none
@@ -100,7 +100,7 @@ passed-more e d wanted count size shown h few inside shows some =
     let after : drop (size + more) d ≡ drop (length p.bytes) (b ∷ rest) = sym (drop-drop more size d) ∙ ap₂ drop is at in
     let step : pieces_of e (drop size d) ≡ p ∷ pieces_of e (drop (size + more) d) =
     ap (pieces_of e) at ∙ pieces_of-step e b rest ∙ ap (λ v. p ∷ pieces_of e v) (sym after) in
-    let one : length (decoded_line e (drop size d)) ≡ suc (length (decoded_line e (drop (size + more) d))) = ap (λ ps. length (characters ps)) step in
+    let one : length (decoded_line e (drop size d)) ≡ suc (length (decoded_line e (drop (size + more) d))) = ap (λ ps. length (piece_characters ps)) step in
     let n : wanted - count ≡ suc (wanted - (count + 1)) = omega arith in
     let head : head_of e (wanted - count) (drop size d) ≡ p.bytes ++ head_of e (wanted - (count + 1)) (drop (size + more) d) =
     ap₂ (λ m ps. pieces_bytes (take m ps)) n step in
@@ -174,7 +174,7 @@ pieces-less e n [] = omega arith
 pieces-less e zero (b ∷ d) = omega arith
 pieces-less e (suc n) (b ∷ d) = let p : Piece = first_piece e b d in let m = pieces-less e n (drop (length p.bytes) (b ∷ d)) in omega arith
 
-characters-size : (ps : List Piece) → length (characters ps) ≡ length ps
+characters-size : (ps : List Piece) → length (piece_characters ps) ≡ length ps
 characters-size [] = refl
 characters-size (p ∷ ps) = ap suc (characters-size ps)
 
@@ -211,7 +211,7 @@ sign-ascii c h = grind (arith)
 begins-decoded : (kind : ℕ → Bool) → IsAsciiKind kind → (e : Encoding) (d : List ℕ) → is_editable e ≡ true → begins kind (decoded_line e d) ≡ begins kind d
 begins-decoded kind k e [] ok = ap (begins kind) (decoded-nil e)
 begins-decoded kind k e (b ∷ d) ok = elim (cases_Bool (kind b)) [
-  | inl t ↦ ap (λ ps. begins kind (characters ps)) (ascii-front e b d ok (k b t))
+  | inl t ↦ ap (λ ps. begins kind (piece_characters ps)) (ascii-front e b d ok (k b t))
   | inr f ↦ other (decoded_line e (b ∷ d)) refl f
 ]
   where
@@ -393,8 +393,8 @@ head-inside first d size l =
 
 -- The reader is before lines that are cut after so many characters, where the lines of the first reader are cut.
 pub record IsCutting (e : Encoding) (body : List ℕ) (count : ℕ) (from s : GroupReader) (first : Bool) (wanted : ℕ) : Type 0 where
-  pub same : placed s.scanner.at s.scanner.passed (cut_at e first wanted (lines_left body s.scanner))
-      ≡ placed from.scanner.at from.scanner.passed (cut_at e true count (lines_left body from.scanner))
+  pub same : placed s.scanner.at s.scanner.passed (cut_at e first wanted (held_lines_left body s.scanner))
+      ≡ placed from.scanner.at from.scanner.passed (cut_at e true count (held_lines_left body from.scanner))
   pub within : IsWithin body s
   pub encoding : encoding_of s.scanner.encoding ≡ e
 
@@ -411,49 +411,49 @@ pub cut-here : (e : Encoding) (first : Bool) (n : ℕ) (h : HeldLine) (hs : List
 cut-here e first n h hs l = let t : nat_le n (length (adds first h.text)) ≡ true = grind (arith, nat_tests) in rw (t, cut_at) refl
 
 pub cut-past : (e : Encoding) (first : Bool) (n : ℕ) (h : HeldLine) (hs : List HeldLine) → length (adds first h.text) < n
-    → cut_at e first n (h ∷ hs) ≡ past h (cut_at e false (n - length (adds first h.text)) hs)
+    → cut_at e first n (h ∷ hs) ≡ cut_past_line h (cut_at e false (n - length (adds first h.text)) hs)
 cut-past e first n h hs l = let t : nat_le n (length (adds first h.text)) ≡ false = grind (arith, nat_tests) in rw (t, cut_at) refl
 
 -- The line that was taken, first of those that are left.
-line-left : {e : Encoding} {body : List ℕ} {old new : GroupReader} (k : TakesLine body old new) → encoding_of old.scanner.encoding ≡ e
-    → lines_left body old.scanner ≡ held_line e body new.scanner.line k.ending ∷ lines_left body new.scanner
-line-left {e} {body} {old} {new} k same = k.lines ∙ ap (λ v. held_line v body new.scanner.line k.ending ∷ lines_left body new.scanner) same
+line-left : {e : Encoding} {body : List ℕ} {old new : GroupReader} (k : TakesHeldLine body old new) → encoding_of old.scanner.encoding ≡ e
+    → held_lines_left body old.scanner ≡ held_line e body new.scanner.line k.ending ∷ held_lines_left body new.scanner
+line-left {e} {body} {old} {new} k same = k.lines ∙ ap (λ v. held_line v body new.scanner.line k.ending ∷ held_lines_left body new.scanner) same
 
 -- The cut is in the line that was taken.
 pub cutting-found : {e : Encoding} {body : List ℕ} {count : ℕ} {from old new : GroupReader} {first : Bool} {wanted : ℕ} (passed size : ℕ) → is_editable e ≡ true
-    → IsCutting e body count from old first wanted → TakesLine body old new
-    → passed ≡ min wanted (length (decoded_line e (adds first (bytes_of body new.scanner.line)))) → passed ≡ wanted
-    → size ≡ length (head_of e wanted (adds first (bytes_of body new.scanner.line)))
-    → made new.scanner.passed new.scanner.line.start (new.scanner.line.start + (indent_size first (bytes_of body new.scanner.line) + size))
-    ≡ placed from.scanner.at from.scanner.passed (cut_at e true count (lines_left body from.scanner))
+    → IsCutting e body count from old first wanted → TakesHeldLine body old new
+    → passed ≡ min wanted (length (decoded_line e (adds first (raw_line_bytes body new.scanner.line)))) → passed ≡ wanted
+    → size ≡ length (head_of e wanted (adds first (raw_line_bytes body new.scanner.line)))
+    → made new.scanner.passed new.scanner.line.start (new.scanner.line.start + (indent_size first (raw_line_bytes body new.scanner.line) + size))
+    ≡ placed from.scanner.at from.scanner.passed (cut_at e true count (held_lines_left body from.scanner))
 cutting-found {e} {body} {count} {from} {old} {new} {first} {wanted} passed size ok w k counted all sized =
-    let d = bytes_of body new.scanner.line in
+    let d = raw_line_bytes body new.scanner.line in
     let h : HeldLine = held_line e body new.scanner.line k.ending in
     let text : length (adds first h.text) ≡ length (decoded_line e (adds first d)) = ap length (adds-decoded e first d ok) in
     let within : wanted ≤ length (adds first h.text) = omega arith in
     let head = head-added e first d wanted ok within in
-    let here : cut_at e first wanted (lines_left body old.scanner)
+    let here : cut_at e first wanted (held_lines_left body old.scanner)
     ≡ record { line = 1; before = 0; head = length (head_of e (indent_size first h.text + wanted) h.bytes) } =
-    ap (cut_at e first wanted) (line-left k w.encoding) ∙ cut-here e first wanted h (lines_left body new.scanner) within in
+    ap (cut_at e first wanted) (line-left k w.encoding) ∙ cut-here e first wanted h (held_lines_left body new.scanner) within in
     let number = k.passed in
     let starts = k.starts in
     same-cut (omega arith) (omega arith) (omega arith) ∙ ap (placed old.scanner.at old.scanner.passed) (sym here) ∙ w.same
 
 -- The cut is after the line that was taken.
 pub cutting-on : {e : Encoding} {body : List ℕ} {count : ℕ} {from old new : GroupReader} {first : Bool} {wanted : ℕ} (passed : ℕ) → is_editable e ≡ true
-    → IsCutting e body count from old first wanted → TakesLine body old new
-    → passed ≡ min wanted (length (decoded_line e (adds first (bytes_of body new.scanner.line)))) → passed ≢ wanted
+    → IsCutting e body count from old first wanted → TakesHeldLine body old new
+    → passed ≡ min wanted (length (decoded_line e (adds first (raw_line_bytes body new.scanner.line)))) → passed ≢ wanted
     → IsCutting e body count from new false (wanted - passed)
 cutting-on {e} {body} {count} {from} {old} {new} {first} {wanted} passed ok w k counted differ =
-    let d = bytes_of body new.scanner.line in
+    let d = raw_line_bytes body new.scanner.line in
     let h : HeldLine = held_line e body new.scanner.line k.ending in
     let text : length (adds first h.text) ≡ length (decoded_line e (adds first d)) = ap length (adds-decoded e first d ok) in
     let less : length (adds first h.text) < wanted = omega arith in
     let left : wanted - length (adds first h.text) ≡ wanted - passed = omega arith in
-    let rest = cut_at e false (wanted - passed) (lines_left body new.scanner) in
-    let on : cut_at e first wanted (lines_left body old.scanner) ≡ past h rest =
-    ap (cut_at e first wanted) (line-left k w.encoding) ∙ cut-past e first wanted h (lines_left body new.scanner) less
-    ∙ ap (λ n. past h (cut_at e false n (lines_left body new.scanner))) left in
+    let rest = cut_at e false (wanted - passed) (held_lines_left body new.scanner) in
+    let on : cut_at e first wanted (held_lines_left body old.scanner) ≡ cut_past_line h rest =
+    ap (cut_at e first wanted) (line-left k w.encoding) ∙ cut-past e first wanted h (held_lines_left body new.scanner) less
+    ∙ ap (λ n. cut_past_line h (cut_at e false n (held_lines_left body new.scanner))) left in
     let sizes = has-sizes body old new k in
     let line = sizes.line in
     let ending = sizes.ending_size in
@@ -474,7 +474,7 @@ decoded-held : (e : Encoding) (ls : List Ended) (last : List ℕ) → AreDecoded
 decoded-held e [] last = (refl, tt)
 decoded-held e (l ∷ ls) last = (refl, decoded-held e ls last)
 
-pub decoded-left : (body : List ℕ) (s : Scanner) → AreDecoded (encoding_of s.encoding) (lines_left body s)
+pub decoded-left : (body : List ℕ) (s : Scanner) → AreDecoded (encoding_of s.encoding) (held_lines_left body s)
 decoded-left body s =
     let e = encoding_of s.encoding in
     let cut = cut_of e (drop s.at body) in

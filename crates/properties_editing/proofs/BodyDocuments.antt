@@ -17,7 +17,7 @@ use Rattle.properties_format.specs.Edits.{AreEdited, AreInComments, ArePairs, Es
 use Rattle.properties_format.specs.Changed.{ReadsAfter}
 use Rattle.properties_format.specs.Valued.{IsValueSet}
 use Rattle.properties_format.specs.Computed.Body.{held_groups_of}
-use Rattle.properties_format.specs.Computed.Edited.{IsSound}
+use Rattle.properties_format.specs.Computed.Edited.{IsSoundOutcome}
 use Rattle.properties_format.specs.Computed.Items.{followed, items_of}
 use Rattle.properties_format.proofs.Body.Numbers.{items_of-groups, entries_in}
 use Rattle.properties_format.proofs.Items.Unique.{items_of-meets}
@@ -25,13 +25,13 @@ use Rattle.properties_format.proofs.Keys.{are-keys}
 use Rattle.properties_format.proofs.Maps.{value_in-meets}
 use Rattle.properties_text.specs.Encoding.{encoding_of}
 use Rattle.properties_editing.specs.Documents.{OpenDocument, AreMadeFor, ChecksHasKey, HasKeysFor, HasKeysInOrder, HasValueAt, HasValueFor, HasValueSetFor, IsRemovedFor, IsResultFor, IsSetFor, OpensDocumentWith, PutsInto, RemovesFrom, SetsValueIn, TurnsAsciiOnly, characters_of}
-use Rattle.properties_editing.specs.Private.BodyDocuments.{IsDocument, bytes_of, every, groups_in, open_document, repertoire_of}
+use Rattle.properties_editing.specs.Private.BodyDocuments.{IsDocument, document_bytes, every, document_groups, open_document, document_repertoire}
 use Rattle.properties_editing.specs.Private.BodyParts.{outcome, is_named, piece_said, stored_of, value_among, value_of}
 use Rattle.properties_editing.specs.Private.EditedParts.{AreParts, EditsParts, HaveParts, RemovesFromParts, StandForSource}
 use Rattle.properties_editing.specs.Private.KeyOrder.{HasKeysOf, HavePlaces}
 use Rattle.properties_editing.specs.Private.Sound.{AreSoundFor, IsResult}
-use Rattle.properties_editing.specs.Private.SourceParts.{ReadsSource}
-use Rattle.properties_editing.specs.Private.Sources.{IsInForce}
+use Rattle.properties_editing.specs.Private.SourceParts.{ReadsSourceParts}
+use Rattle.properties_editing.specs.Private.Sources.{IsBodyStartOf}
 use Rattle.properties_editing.specs.declared.document.Document.TheInside.{Inside}
 use Rattle.properties_editing.specs.declared.parts.NamedKeys.{NamedKeys}
 use Rattle.properties_editing.specs.declared.parts.source_parts.SourceParts.{SourceParts}
@@ -59,7 +59,7 @@ sound-items : (n : ℕ) (gs : List (List HeldLine)) → AreItems (entries_in n g
 sound-items n [] h = tt
 sound-items n (g ∷ gs) h = let m = of-outcome (outcome g) h in (inl m.0, sound-items (n + length g) gs m.1)
   where
-    of-outcome : (o : Outcome) → AreItems (followed n o (entries_in (n + length g) gs)) → IsSound o × AreItems (entries_in (n + length g) gs)
+    of-outcome : (o : Outcome) → AreItems (followed n o (entries_in (n + length g) gs)) → IsSoundOutcome o × AreItems (entries_in (n + length g) gs)
     of-outcome ignored h = (tt, h)
     of-outcome (given content) h = (tt, h)
     of-outcome (broken kind) h = absurd h
@@ -76,26 +76,26 @@ readable-by {e} source bytes reads =
     (reads (items_of e source end) (items_of e bytes end) (items_of-meets e source end) (items_of-meets e bytes end)).readable
 
 -- The source is sound if it can be read, or if malformed escapes are in comments alone.
-read-sound : (e : Encoding) (bytes : List ℕ) → AreItems (items_of e bytes end) → AreSoundFor Read (groups_in e bytes)
-read-sound e bytes read = sound-items 1 (groups_in e bytes) (subst AreItems (items_of-groups e bytes) read)
+read-sound : (e : Encoding) (bytes : List ℕ) → AreItems (items_of e bytes end) → AreSoundFor Read (document_groups e bytes)
+read-sound e bytes read = sound-items 1 (document_groups e bytes) (subst AreItems (items_of-groups e bytes) read)
 
-comments-sound : (e : Encoding) (bytes : List ℕ) → EscapesAre e bytes AreInComments → AreSoundFor PassedOver (groups_in e bytes)
+comments-sound : (e : Encoding) (bytes : List ℕ) → EscapesAre e bytes AreInComments → AreSoundFor PassedOver (document_groups e bytes)
 comments-sound e bytes h =
     let same = malformed_escapes_of-only e bytes h.0 h.1 ∙ malformed_escapes_of-groups e bytes in
-    sound-escapes 1 (groups_in e bytes) (subst AreInComments same h.2)
+    sound-escapes 1 (document_groups e bytes) (subst AreInComments same h.2)
 
-sound-comments : (e : Encoding) (bytes : List ℕ) → AreSoundFor PassedOver (groups_in e bytes) → EscapesAre e bytes AreInComments
+sound-comments : (e : Encoding) (bytes : List ℕ) → AreSoundFor PassedOver (document_groups e bytes) → EscapesAre e bytes AreInComments
 sound-comments e bytes s = (
   malformed_escapes_of e bytes,
   malformed_escapes_of-meets e bytes,
-  subst AreInComments (sym (malformed_escapes_of-groups e bytes)) (escapes-sound 1 (groups_in e bytes) s),
+  subst AreInComments (sym (malformed_escapes_of-groups e bytes)) (escapes-sound 1 (document_groups e bytes) s),
 )
 
 -- The value of a key among the pairs of its groups is that of the source,
-value-has : (c : Comments) (e : Encoding) (bytes key : List ℕ) → AreSoundFor c (groups_in e bytes) → (value : Option (List ℕ))
-    → last_said key (pairs_in (groups_in e bytes)) ≡ value → HasValueFor c e bytes key value
+value-has : (c : Comments) (e : Encoding) (bytes key : List ℕ) → AreSoundFor c (document_groups e bytes) → (value : Option (List ℕ))
+    → last_said key (pairs_in (document_groups e bytes)) ≡ value → HasValueFor c e bytes key value
 value-has Read e bytes key s value is =
-    let gs = groups_in e bytes in
+    let gs = document_groups e bytes in
     let entries = entries_in 1 gs in
     record {
       entries = entries;
@@ -104,7 +104,7 @@ value-has Read e bytes key s value is =
       is = subst (IsValue entries key) (value-entries 1 gs key s ∙ is) (value_in-meets entries key);
     }
 value-has PassedOver e bytes key s value is =
-    let gs = groups_in e bytes in
+    let gs = document_groups e bytes in
     let entries = pair_entries 1 gs in
     record {
       in_comments = sound-comments e bytes s;
@@ -114,10 +114,10 @@ value-has PassedOver e bytes key s value is =
     }
 
 -- and their keys are its keys.
-keys-has : (c : Comments) (e : Encoding) (bytes : List ℕ) → AreSoundFor c (groups_in e bytes) → (all keys : List (List ℕ))
-    → keys_of (pairs_in (groups_in e bytes)) ≡ all → AreFirstOf all keys → HasKeysFor c e bytes keys
+keys-has : (c : Comments) (e : Encoding) (bytes : List ℕ) → AreSoundFor c (document_groups e bytes) → (all keys : List (List ℕ))
+    → keys_of (pairs_in (document_groups e bytes)) ≡ all → AreFirstOf all keys → HasKeysFor c e bytes keys
 keys-has Read e bytes s all keys is first =
-    let gs = groups_in e bytes in
+    let gs = document_groups e bytes in
     record {
       entries = entries_in 1 gs;
       items = subst (IsItems e bytes end) (items_of-groups e bytes) (items_of-meets e bytes end);
@@ -125,7 +125,7 @@ keys-has Read e bytes s all keys is first =
       are = are-keys (entries_in 1 gs) all keys (keys-entries 1 gs s ∙ is) first;
     }
 keys-has PassedOver e bytes s all keys is first =
-    let gs = groups_in e bytes in
+    let gs = document_groups e bytes in
     record {
       in_comments = sound-comments e bytes s;
       pairs = pair_entries 1 gs;
@@ -141,7 +141,7 @@ module _ (d : Inside) (i : IsDocument d) where
   pub has-value : (key : List ℕ) → HasValueAt (open_document d) key (value_of (stored_of d.edited.parts.keys.places.entries key))
   has-value key =
       let s = i.parts.stand.stand in
-      value-has d.comments e (bytes_of d) key i.sound (value_of (stored_of d.edited.parts.keys.places.entries key))
+      value-has d.comments e (document_bytes d) key i.sound (value_of (stored_of d.edited.parts.keys.places.entries key))
       (ap (last_said key) (source-pairs i.parts.stand) ∙ sym (value-pieces key s.pieces) ∙ sym (s.placed.values i.all key))
 
   -- The keys have the places of their pairs,
@@ -161,19 +161,19 @@ module _ (d : Inside) (i : IsDocument d) where
   keys-made (Err error) h = h
   keys-made (Ok keys) h =
       let s = i.parts.stand.stand in
-      keys-has d.comments e (bytes_of d) i.sound _ (characters_of keys.items)
+      keys-has d.comments e (document_bytes d) i.sound _ (characters_of keys.items)
       (ap keys_of (source-pairs i.parts.stand) ∙ sym (keys-pieces s.pieces)) (h (map piece_said s.pieces) s.placed)
 
   -- What an edit asks, it has.
   pub have-parts : (key : List ℕ) → HaveParts key d.source.items d.edited
-  have-parts key = record { repertoire = repertoire_of d; now = bytes_of d; named = every; is_named_key = refl; parts = i.parts }
+  have-parts key = record { repertoire = document_repertoire d; now = document_bytes d; named = every; is_named_key = refl; parts = i.parts }
 
 -- ---- what edits make of a source
 
 -- A key was set, and nothing else is malformed than before,
 set-for : (c : Comments) (r : Repertoire) (source key value bytes : List ℕ) → All scalar key → All scalar value
     → IsResult c r.encoding source (IsKeySet r source key value) (edited bytes)
-    → IsSetFor c r source key value bytes × AreSoundFor c (groups_in r.encoding bytes)
+    → IsSetFor c r source key value bytes × AreSoundFor c (document_groups r.encoding bytes)
 set-for Read r source key value bytes k v h =
     let set = set-edits k v h in (set, read-sound r.encoding bytes (readable-by source bytes set.edit.reads))
 set-for PassedOver r source key value bytes k v h =
@@ -183,7 +183,7 @@ set-for PassedOver r source key value bytes k v h =
 -- or the value of a key was,
 value-for : (c : Comments) (r : Repertoire) (source key value bytes : List ℕ) → All scalar key → All scalar value
     → IsResult c r.encoding source (IsValueSet r source key value) (edited bytes)
-    → HasValueSetFor c r source key value bytes × AreSoundFor c (groups_in r.encoding bytes)
+    → HasValueSetFor c r source key value bytes × AreSoundFor c (document_groups r.encoding bytes)
 value-for Read r source key value bytes k v h =
     let set = value-edits k v h in (set, read-sound r.encoding bytes (readable-by source bytes set.edit.reads))
 value-for PassedOver r source key value bytes k v h =
@@ -192,7 +192,7 @@ value-for PassedOver r source key value bytes k v h =
 
 -- or a key was removed.
 removed-for : (c : Comments) (r : Repertoire) (source key bytes : List ℕ) → IsResult c r.encoding source (IsKeyRemoved r.encoding source key) (edited bytes)
-    → IsRemovedFor c r source key bytes × AreSoundFor c (groups_in r.encoding bytes)
+    → IsRemovedFor c r source key bytes × AreSoundFor c (document_groups r.encoding bytes)
 removed-for Read r source key bytes h =
     let removed = removed-edits h in (removed, read-sound r.encoding bytes (readable-by source bytes removed.edit.reads))
 removed-for PassedOver r source key bytes h =
@@ -203,28 +203,28 @@ removed-for PassedOver r source key bytes h =
 
 module _ (d : Inside) (i : IsDocument d) (new : SourceParts) (all : new.parts.keys.all ≡ d.edited.parts.keys.all) where
   abbrev r : Repertoire
-  r = repertoire_of d
+  r = document_repertoire d
 
   abbrev after : Inside
   after = record d { edited = new }
 
   -- If the parts stand for these bytes, which are sound, it has them.
-  comes-to : (result : List ℕ) → AreParts r d.source.items result every new → AreSoundFor d.comments (groups_in r.encoding result)
+  comes-to : (result : List ℕ) → AreParts r d.source.items result every new → AreSoundFor d.comments (document_groups r.encoding result)
       → IsDocument after × (open_document after ≡ record { repertoire = r; comments = d.comments; bytes = result })
   comes-to result parts sound =
-      let same : bytes_of after ≡ result = source-bytes parts.stand in
-      let own : repertoire_of after ≡ r = ap (λ s. let t : Repertoire = record { encoding = encoding_of d.encoding; characters = s } in t) parts.stand.in_force.characters in (
+      let same : document_bytes after ≡ result = source-bytes parts.stand in
+      let own : document_repertoire after ≡ r = ap (λ s. let t : Repertoire = record { encoding = encoding_of d.encoding; characters = s } in t) parts.stand.in_force.characters in (
         record {
-          parts = subst (λ v. AreParts v d.source.items (bytes_of after) every new) (sym own)
+          parts = subst (λ v. AreParts v d.source.items (document_bytes after) every new) (sym own)
               (subst (λ v. AreParts r d.source.items v every new) (sym same) parts);
           all = all ∙ i.all;
-          sound = subst (λ v. AreSoundFor d.comments (groups_in r.encoding v)) (sym same) sound;
+          sound = subst (λ v. AreSoundFor d.comments (document_groups r.encoding v)) (sym same) sound;
         },
         ap₂ (λ v w. let o : OpenDocument = record { repertoire = v; comments = d.comments; bytes = w } in o) own same,
       )
 
   -- What an edit makes of it is the result of that edit.
-  meant-result : (Makes : List ℕ → Type 0) (result : List ℕ) → Makes result → IsResult d.comments r.encoding (bytes_of d) Makes (edited result)
+  meant-result : (Makes : List ℕ → Type 0) (result : List ℕ) → Makes result → IsResult d.comments r.encoding (document_bytes d) Makes (edited result)
   meant-result Makes result m =
       let force = i.parts.stand.in_force in
       made-result d.comments Makes result force
@@ -234,30 +234,30 @@ module _ (d : Inside) (i : IsDocument d) (new : SourceParts) (all : new.parts.ke
   pub put-ends : {E : Type 0} (key value : List ℕ) (result : Result Unit E) → All scalar key → All scalar value
       → EditsParts (put key value) d.source.items d.edited result new → IsDocument after × PutsInto key value (open_document d) result (open_document after)
   put-ends {E} key value (Ok done) kc vc edits =
-      let m = edits r (bytes_of d) every refl i.parts in
-      let set = set-for d.comments r (bytes_of d) key value m.result kc vc (meant-result (IsKeySet r (bytes_of d) key value) m.result m.edited) in
+      let m = edits r (document_bytes d) every refl i.parts in
+      let set = set-for d.comments r (document_bytes d) key value m.result kc vc (meant-result (IsKeySet r (document_bytes d) key value) m.result m.edited) in
       let is = comes-to m.result m.parts set.1 in
       (is.0, subst (PutsInto {E = E} key value (open_document d) (Ok done)) (sym is.1) ((refl, refl), set.0))
-  put-ends key value (Err error) kc vc edits = comes-to (bytes_of d) (edits r (bytes_of d) every i.parts) i.sound
+  put-ends key value (Err error) kc vc edits = comes-to (document_bytes d) (edits r (document_bytes d) every i.parts) i.sound
 
   -- the value of a key was,
   pub value-ends : {E : Type 0} (key value : List ℕ) (result : Result Unit E) → All scalar key → All scalar value
       → EditsParts (set_value key value) d.source.items d.edited result new
       → IsDocument after × SetsValueIn key value (open_document d) result (open_document after)
   value-ends {E} key value (Ok done) kc vc edits =
-      let m = edits r (bytes_of d) every refl i.parts in
-      let set = value-for d.comments r (bytes_of d) key value m.result kc vc (meant-result (IsValueSet r (bytes_of d) key value) m.result m.edited) in
+      let m = edits r (document_bytes d) every refl i.parts in
+      let set = value-for d.comments r (document_bytes d) key value m.result kc vc (meant-result (IsValueSet r (document_bytes d) key value) m.result m.edited) in
       let is = comes-to m.result m.parts set.1 in
       (is.0, subst (SetsValueIn {E = E} key value (open_document d) (Ok done)) (sym is.1) ((refl, refl), set.0))
-  value-ends key value (Err error) kc vc edits = comes-to (bytes_of d) (edits r (bytes_of d) every i.parts) i.sound
+  value-ends key value (Err error) kc vc edits = comes-to (document_bytes d) (edits r (document_bytes d) every i.parts) i.sound
 
   -- or a key was removed.
   pub remove-ends : (key : List ℕ) (told : Bool) → RemovesFromParts key d.source.items d.edited told new
       → IsDocument after × RemovesFrom key (open_document d) told (open_document after)
   remove-ends key told removes =
       let s = i.parts.stand in
-      let m = removes r (bytes_of d) every refl i.parts in
-      let removed = removed-for d.comments r (bytes_of d) key m.0.result (meant-result (IsKeyRemoved r.encoding (bytes_of d) key) m.0.result m.0.edited) in
+      let m = removes r (document_bytes d) every refl i.parts in
+      let removed = removed-for d.comments r (document_bytes d) key m.0.result (meant-result (IsKeyRemoved r.encoding (document_bytes d) key) m.0.result m.0.edited) in
       let is = comes-to m.0.result m.0.parts removed.1 in
       let value = value_of (stored_of d.edited.parts.keys.places.entries key) in
       let stored : value_among key i.parts.groups ≡ value =
@@ -310,8 +310,8 @@ none-refused PassedOver r source error h = h
 
 -- It comes to the source as it is.
 pub opens-document : (d : Inside) (options : SourceOptions) (source : List ℕ) (opened : BodyStart) (keys : NamedKeys) → d.encoding ≡ options.encoding
-    → d.comments ≡ options.comments → d.source.items ≡ source → IsInForce source (asked_for options) opened
-    → ReadsSource options.comments opened (drop opened.start source) keys (Ok d.edited) → ((key : List ℕ) → is_named keys key ≡ true) → keys.all ≡ true
+    → d.comments ≡ options.comments → d.source.items ≡ source → IsBodyStartOf source (asked_for options) opened
+    → ReadsSourceParts options.comments opened (drop opened.start source) keys (Ok d.edited) → ((key : List ℕ) → is_named keys key ≡ true) → keys.all ≡ true
     → IsDocument d × OpensDocumentWith options source (Ok (open_document d))
 opens-document d options source opened keys encoding comments copy force reads named all =
     let r = asked_for options in
@@ -321,13 +321,13 @@ opens-document d options source opened keys encoding comments copy force reads n
     let all_named : is_named keys ≡ every = fun_ext named in
     let stand : StandForSource r d.source.items source every gs d.edited =
     subst (λ v. StandForSource r v source every gs d.edited) (sym copy) (subst (λ v. StandForSource r source source v gs d.edited) all_named read.1) in
-    let same : bytes_of d ≡ source = source-bytes stand in
-    let own : repertoire_of d ≡ r = ap₂ (λ e s. let t : Repertoire = record { encoding = encoding_of e; characters = s } in t) encoding stand.in_force.characters in
+    let same : document_bytes d ≡ source = source-bytes stand in
+    let own : document_repertoire d ≡ r = ap₂ (λ e s. let t : Repertoire = record { encoding = encoding_of e; characters = s } in t) encoding stand.in_force.characters in
     let parts : AreParts r d.source.items source every d.edited = record { groups = gs; stand = stand; sound = sound-weaker c gs read.0 } in
     let sound = subst (λ v. let w : InForce = v in AreSoundFor c (held_groups_of w.encoding w.body)) (sym force.in_force) read.0 in
     let made = made-result c (AreEdited r source []) source force read.0 refl in (
       record {
-        parts = subst (λ v. AreParts v d.source.items (bytes_of d) every d.edited) (sym own)
+        parts = subst (λ v. AreParts v d.source.items (document_bytes d) every d.edited) (sym own)
             (subst (λ v. AreParts r d.source.items v every d.edited) (sym same) parts);
         all = read.2 ∙ all;
         sound = rw (comments, same, encoding) sound;

@@ -20,30 +20,30 @@ use Rattle.properties_format.proofs.Groups.Joined.{joined-push, joined-one, join
 use Rattle.properties_format.proofs.Edited.Parts.{unended-kept}
 use Rattle.properties_text.specs.Encoding.{encoding_of}
 use Rattle.properties_lines.specs.LineSearch.{unit_size}
-use Rattle.properties_lines.specs.Private.HeldLines.{held_line, lines_left}
-use Rattle.properties_lines.specs.LogicalLine.{IsNotContinued, OpensJoin, Begins, AddsLine, HasText, IsUnfinished, IsTextOf, IsSound, TellsLine, unfinished_text, bytes_with}
+use Rattle.properties_lines.specs.Private.HeldLines.{held_line, held_lines_left}
+use Rattle.properties_lines.specs.LogicalLine.{IsNotContinued, OpensJoin, BeginsLine, AddsLine, HasText, IsUnfinishedLine, IsTextOf, IsSoundLogicalLine, TellsLine, unfinished_text, bytes_with}
 use Rattle.properties_lines.specs.Scanner as scanner
-use Rattle.properties_lines.specs.Scanner.{bytes_of, GivesLine, HasRightFlags}
+use Rattle.properties_lines.specs.Scanner.{raw_line_bytes, GivesScannedLine, HasRightFlags}
 use Rattle.properties_lines.specs.declared.scanner.RawLine.{RawLine}
 use Rattle.properties_lines.specs.declared.logical.LogicalLine.{LogicalLine}
 use Rattle.properties_lines.specs.declared.scanner.Scanner.{Scanner}
 use Rattle.properties_lines.proofs.Tested.{ascii-line}
 use Rattle.properties_text.specs.Escaping.{text_in}
 use Rattle.properties_lines.proofs.HeldLines.{body-next, body-after, body-lines_left}
-use Rattle.properties_editing.specs.Private.BodyGroups.{IsWithin, groups_left, IsBegun, TakesLine, IsSpanOf, TakesGroup, groups_from, ReadsGroup, bytes_at}
+use Rattle.properties_editing.specs.Private.BodyGroups.{IsWithin, groups_left, IsBegun, TakesHeldLine, IsSpanOf, TakesHeldGroup, groups_from, ReadsGroup, group_span_bytes}
 use Rattle.properties_editing.specs.declared.groups.Group.{Group}
 use Rattle.properties_editing.specs.declared.groups.GroupReader.{GroupReader}
 
 -- ---- the groups that are left
 
-pub groups-lines : (body : List ℕ) (s : GroupReader) → groups_left body s ≡ held_groups_after [] (lines_left body s.scanner)
+pub groups-lines : (body : List ℕ) (s : GroupReader) → groups_left body s ≡ held_groups_after [] (held_lines_left body s.scanner)
 unfolding held_groups_of
 groups-lines body s = elim (cases_Bool s.scanner.is_done) [ inl h ↦ rw h refl | inr h ↦ rw h refl ]
 
 -- ---- the next line
 
 -- the bytes of a line ending, where a unit is one byte
-one-byte-ending : (e : Encoding) (ending : Option text.LineEnding) → unit_size e ≡ 1 → scanner.ending_bytes e ending ≡ ending_bytes ending
+one-byte-ending : (e : Encoding) (ending : Option text.LineEnding) → unit_size e ≡ 1 → scanner.ending_bytes_in e ending ≡ ending_bytes ending
 one-byte-ending windows_1252 None h = refl
 one-byte-ending windows_1252 (Some by) h = ending-windows_1252 by
 one-byte-ending utf_8 None h = refl
@@ -68,8 +68,8 @@ line_size body start stop h k =
     length-take-le (stop - start) (drop start body) (omega arith)
 
 -- The scanner gave the next line.
-pub takes-line : (body : List ℕ) (old : GroupReader) (new : Scanner) → IsWithin body old → GivesLine old.scanner body true new
-    → TakesLine body old (record old { scanner = new })
+pub takes-line : (body : List ℕ) (old : GroupReader) (new : Scanner) → IsWithin body old → GivesScannedLine old.scanner body true new
+    → TakesHeldLine body old (record old { scanner = new })
 takes-line body old new w g =
     let next = body-next old.scanner new body w.within_body g in
     let e = encoding_of new.encoding in
@@ -84,7 +84,7 @@ takes-line body old new w g =
       starts = next.1;
       ordered = ordered;
       placed = placed;
-      ends = between body (bytes_of body new.line) (scanner.ending_bytes e g.cut.ending) (drop new.at body) new.line.start new.line.end new.at
+      ends = between body (raw_line_bytes body new.line) (scanner.ending_bytes_in e g.cut.ending) (drop new.at body) new.line.start new.line.end new.at
           g.cut.division refl ordered placed within (line_size body new.line.start new.line.end ordered (omega arith))
           ∙ one-byte-ending e g.cut.ending one;
       passed = g.number;
@@ -109,11 +109,11 @@ same-place start stop n h k = grind (arith, nat_tests)
 
 -- How many bytes the line and its ending have.
 pub record HasSizes (body : List ℕ) (new : GroupReader) (ending : Option text.LineEnding) : Type 0 where
-  pub line : length (bytes_of body new.scanner.line) ≡ new.scanner.line.end - new.scanner.line.start
+  pub line : length (raw_line_bytes body new.scanner.line) ≡ new.scanner.line.end - new.scanner.line.start
   pub ending_size : length (ending_bytes ending) ≡ new.scanner.at - new.scanner.line.end
   pub within : new.scanner.at ≤ length body
 
-pub has-sizes : (body : List ℕ) (old new : GroupReader) (k : TakesLine body old new) → HasSizes body new k.ending
+pub has-sizes : (body : List ℕ) (old new : GroupReader) (k : TakesHeldLine body old new) → HasSizes body new k.ending
 has-sizes body old new k =
     let ordered = k.ordered in
     let placed = k.placed in
@@ -125,14 +125,14 @@ has-sizes body old new k =
     }
 
 -- the span of its line
-span-one : (body : List ℕ) (old new : GroupReader) (group : Group) (k : TakesLine body old new)
+span-one : (body : List ℕ) (old new : GroupReader) (group : Group) (k : TakesHeldLine body old new)
     → group.start ≡ new.scanner.line.start → group.end ≡ new.scanner.line.end
     → let h = held_line (encoding_of old.scanner.encoding) body new.scanner.line k.ending in
     group.is_open ≡ (not (is_comment_line h.text) && is_open h.text) → group.is_empty ≡ (new.scanner.line.start == new.scanner.line.end)
     → IsSpanOf (h ∷ []) group new.scanner.at
 span-one body old new group k starts ends opens empty =
     let line = new.scanner.line in
-    let bytes = bytes_of body line in
+    let bytes = raw_line_bytes body line in
     let by = ending_bytes k.ending in
     let sizes = has-sizes body old new k in
     let size = sizes.line in
@@ -161,21 +161,21 @@ not-left text (inl h) = rw h refl
 not-left text (inr h) = elim (cases_Bool (is_comment_line text)) [ inl k ↦ rw k refl | inr k ↦ rw (k, h) refl ]
 
 -- The line that is unfinished has the text that was joined.
-unfinished-has : (e : Encoding) (l : LogicalLine) (natural text : List ℕ) → IsUnfinished e l → unfinished_text l ≡ text → HasText l natural text
+unfinished-has : (e : Encoding) (l : LogicalLine) (natural text : List ℕ) → IsUnfinishedLine e l → unfinished_text l ≡ text → HasText l natural text
 unfinished-has e l natural text u h = record { well = rw u.place u.well; is = rw u.place h }
 
 -- The first line of a group was read.
-pub group-first : (E : Type 0) (body : List ℕ) (old found : GroupReader) (l : LogicalLine) (group : Group) (told : Bool) (k : TakesLine body old found)
-    → Begins {E = E} (encoding_of found.scanner.encoding) (bytes_of body found.scanner.line) (Ok told) l
+pub group-first : (E : Type 0) (body : List ℕ) (old found : GroupReader) (l : LogicalLine) (group : Group) (told : Bool) (k : TakesHeldLine body old found)
+    → BeginsLine {E = E} (encoding_of found.scanner.encoding) (raw_line_bytes body found.scanner.line) (Ok told) l
     → group.number ≡ found.scanner.passed → group.start ≡ found.scanner.line.start → group.end ≡ found.scanner.line.end
     → group.is_open ≡ told → group.is_empty ≡ (found.scanner.line.start == found.scanner.line.end)
     → ReadsGroup body old group (record found { line = l })
 group-first E body old found l group false k begins number starts ends opens empty =
     let e = encoding_of old.scanner.encoding in
-    let bytes = bytes_of body found.scanner.line in
+    let bytes = raw_line_bytes body found.scanner.line in
     let h : HeldLine = held_line e body found.scanner.line k.ending in
     let line : Line = record { number = 0; text = h.text } in
-    let rest = lines_left body found.scanner in
+    let rest = held_lines_left body found.scanner in
     let b = subst (λ v. IsNotContinued (decoded_line v bytes) × HasText l bytes (decoded_line v bytes)) k.encoding begins in
     let alone = not-left h.text b.0 in
     let same : take (group.end - group.start) (drop group.start body) ≡ bytes = ap₂ (λ m n. take (m - n) (drop n body)) ends starts in
@@ -194,10 +194,10 @@ group-first E body old found l group false k begins number starts ends opens emp
     }
 group-first E body old found l group true k begins number starts ends opens empty =
     let e = encoding_of old.scanner.encoding in
-    let bytes = bytes_of body found.scanner.line in
+    let bytes = raw_line_bytes body found.scanner.line in
     let h : HeldLine = held_line e body found.scanner.line k.ending in
     let line : Line = record { number = 0; text = h.text } in
-    let rest = lines_left body found.scanner in
+    let rest = held_lines_left body found.scanner in
     let b = subst (λ v. OpensJoin v (decoded_line v bytes) l) k.encoding begins in
     let other = b.other in
     let open_text = b.opens in
@@ -228,16 +228,16 @@ from-more false g rest h first more is k =
 
 -- A line is joined to a group that is open.
 pub group-more : (E : Type 0) (body : List ℕ) (before : GroupReader) (group : Group) (mid found : GroupReader) (l : LogicalLine) (stop : ℕ) (told : Bool)
-    → ReadsGroup body before group mid → group.is_open ≡ true → (k : TakesLine body mid found) → IsUnfinished (encoding_of mid.scanner.encoding) mid.line
-    → AddsLine {E = E} (encoding_of found.scanner.encoding) (bytes_of body found.scanner.line) found.line (Ok told) l → stop ≡ found.scanner.line.end
+    → ReadsGroup body before group mid → group.is_open ≡ true → (k : TakesHeldLine body mid found) → IsUnfinishedLine (encoding_of mid.scanner.encoding) mid.line
+    → AddsLine {E = E} (encoding_of found.scanner.encoding) (raw_line_bytes body found.scanner.line) found.line (Ok told) l → stop ≡ found.scanner.line.end
     → ReadsGroup body before (record group { end = stop; is_open = told; is_empty = false }) (record found { line = l })
 group-more E body before group mid found l stop told j opened k unfinished added stops =
     let e = encoding_of mid.scanner.encoding in
-    let bytes = bytes_of body found.scanner.line in
+    let bytes = raw_line_bytes body found.scanner.line in
     let h : HeldLine = held_line e body found.scanner.line k.ending in
     let line : Line = record { number = 0; text = h.text } in
     let first : Line = record { number = 0; text = j.first.text } in
-    let rest = lines_left body found.scanner in
+    let rest = held_lines_left body found.scanner in
     let g = j.first ∷ j.more in
     let by = ending_bytes k.ending in
     let sizes = has-sizes body mid found k in
@@ -279,8 +279,8 @@ group-more E body before group mid found l stop told j opened k unfinished added
     }
 
 -- A group whose last line was joined is well-formed as before.
-pub more-begun : (body : List ℕ) (mid found : GroupReader) (l : LogicalLine) (group joined : Group) → IsBegun body mid group → TakesLine body mid found
-    → IsUnfinished (encoding_of found.scanner.encoding) l → IsSound l → joined.start ≡ group.start → joined.end ≡ found.scanner.line.end
+pub more-begun : (body : List ℕ) (mid found : GroupReader) (l : LogicalLine) (group joined : Group) → IsBegun body mid group → TakesHeldLine body mid found
+    → IsUnfinishedLine (encoding_of found.scanner.encoding) l → IsSoundLogicalLine l → joined.start ≡ group.start → joined.end ≡ found.scanner.line.end
     → IsBegun body (record found { line = l }) joined
 more-begun body mid found l group joined b k u sound starts ends =
     let ordered = k.ordered in
@@ -307,15 +307,15 @@ ends-from true is_done g first more rest is (inr h) none = rw (none h, is) refl
 -- What was read is the next group, once its line is a text.
 pub group-whole : (body : List ℕ) (before : GroupReader) (group : Group) (new : GroupReader) (line : LogicalLine) → ReadsGroup body before group new
     → (group.is_open ≡ false ⊎ new.scanner.is_done ≡ true) → IsBegun body new group
-    → IsTextOf (text_in new.line.encoding (bytes_with new.line (bytes_at body group))) (bytes_with line (bytes_at body group))
-    → TakesGroup body before group (record new { line = line })
+    → IsTextOf (text_in new.line.encoding (bytes_with new.line (group_span_bytes body group))) (bytes_with line (group_span_bytes body group))
+    → TakesHeldGroup body before group (record new { line = line })
 group-whole body before group new line j ended begun made =
     let g = j.first ∷ j.more in
-    let none : new.scanner.is_done ≡ true → lines_left body new.scanner ≡ [] = λ h. rw h refl in
+    let none : new.scanner.is_done ≡ true → held_lines_left body new.scanner ≡ [] = λ h. rw h refl in
     record {
       held = g;
       live = j.live;
-      groups = groups-lines body before ∙ j.groups ∙ ends-from group.is_open new.scanner.is_done g j.first j.more (lines_left body new.scanner) refl ended none
+      groups = groups-lines body before ∙ j.groups ∙ ends-from group.is_open new.scanner.is_done g j.first j.more (held_lines_left body new.scanner) refl ended none
           ∙ ap (λ v. g ∷ v) (sym (groups-lines body new));
       starts = j.starts;
       number = j.number;

@@ -3,7 +3,7 @@ use Rattle.std.proofs.Common.{◌≡◌, ◌≤◌, ℕ, ◌+◌, ◌-◌, true,
 use Rattle.std.specs.Prelude.{Some, None, bytes_eq}
 use Rattle.std.proofs.lemmas.List.{take_rest, take-append-drop}
 use Rattle.std.proofs.lemmas.Str.{chars-append, IsUtf8-take, IsUtf8-between}
-use Rattle.properties_editing.specs.Private.BodyGroups.{TakesGroup, IsFirstGroup, text_of}
+use Rattle.properties_editing.specs.Private.BodyGroups.{TakesHeldGroup, IsFirstGroup, group_text}
 use Rattle.properties_editing.specs.declared.groups.Group.{Group}
 use Rattle.properties_editing.specs.declared.groups.GroupReader.{GroupReader}
 use Rattle.properties_format.specs.Encoding.{Encoding, Repertoire}
@@ -11,7 +11,7 @@ use Rattle.properties_format.specs.Lines.{Lines, joined}
 use Rattle.properties_format.specs.Body.{HeldLine, as_lines, held_in, ending_bytes, AreGroupsOf, group_bytes, last_ending}
 use Rattle.properties_format.specs.Edited.{is_editable}
 use Rattle.properties_format.specs.Computed.Body.{held_of, held_lines_of, held_groups_of, unended_bytes}
-use Rattle.properties_format.specs.Computed.Valued.{added_by, front_of, last_between, between_of, is_pair_to, after_key, written_value, between_in, before_value, between_if_pair, without_end}
+use Rattle.properties_format.specs.Computed.Valued.{added_by, value_front, last_between, between_of, is_pair_to, after_key, value_as_written, between_in, before_value, between_if_pair, without_end}
 use Rattle.properties_format.proofs.Body.Groups.{held_groups_of-meets, held_of-only, held-body}
 use Rattle.properties_format.proofs.Cut.Only.{cut_of-only}
 use Rattle.properties_format.proofs.Valued.Fronts.{front_of-meets, no_lines-no_pair, pair-unmarked}
@@ -21,13 +21,13 @@ use Rattle.properties_editing.specs.Private.BodyCuts.{adds, cut_at, cut_size, pl
 use Rattle.properties_editing.proofs.CutMeanings.{front-cut}
 use Rattle.properties_format.proofs.Valued.Made.{group-decoded}
 use Rattle.properties_text.specs.Encoding.{encoding_of}
-use Rattle.properties_lines.specs.Private.HeldLines.{lines_left}
+use Rattle.properties_lines.specs.Private.HeldLines.{held_lines_left}
 use Rattle.properties_format.specs.Printing.{encoded_text}
 use Rattle.properties_format.specs.Valued.{value_text}
 use Rattle.properties_format.specs.Escapes.{Malformed, Means, Breaks, Meaning, means, breaks}
 use Rattle.properties_format.specs.Computed.Escapes.{meaning_of}
 use Rattle.properties_format.specs.Computed.Items.{outcome_of, pair_outcome, split_outcome}
-use Rattle.properties_format.specs.Computed.Edited.{IsSound}
+use Rattle.properties_format.specs.Computed.Edited.{IsSoundOutcome}
 use Rattle.properties_format.proofs.Escapes.Unique.{means-only, meaning_of-only}
 use Rattle.properties_format.proofs.InTurn.Lines.{bytes-unended}
 use Rattle.properties_format.proofs.Valued.Read.{front-unended}
@@ -82,7 +82,7 @@ between-pair line key value u at k v meets =
     sym (after_key-text line u)
     ∙ ap chars (after_key-pair line key_bytes rest d ∙ ap (λ w. w ++ rest) (sym is))
     ∙ chars-append (bytes_in line span) rest between_utf8 in
-    let written : written_value x ≡ chars rest = written_value-pair x (chars key_bytes) (chars rest) meets in
+    let written : value_as_written x ≡ chars rest = written_value-pair x (chars key_bytes) (chars rest) meets in
     let whole : x ≡ chars (take value.start line) ++ chars rest =
     ap chars (sym (take-append-drop value.start line) ∙ ap (λ w. take value.start line ++ w) value_is)
     ∙ chars-append (take value.start line) rest (IsUtf8-take line value.start u v.starts_whole) in
@@ -107,7 +107,7 @@ between-none line what h none = ap (λ s. between_if_pair s (chars line)) (sym (
 
 -- ---- the first group
 
-pub first-group : {body : List ℕ} {s t : GroupReader} {group : Group} → s.scanner.at ≡ 0 → s.scanner.is_done ≡ false → TakesGroup body s group t
+pub first-group : {body : List ℕ} {s t : GroupReader} {group : Group} → s.scanner.at ≡ 0 → s.scanner.is_done ≡ false → TakesHeldGroup body s group t
     → IsFirstGroup (encoding_of s.scanner.encoding) body group t
 first-group {body} {s} {t} {group} at going k = record {
   held = k.held;
@@ -134,7 +134,7 @@ one-lines e body g h =
 
 -- The front of a pair ends at the cut behind what comes before its value.
 front-before : (e : Encoding) (g : List HeldLine) (key value : List ℕ) → IsPair (joined (as_lines g)) key value
-    → length (front_of e g) ≡ cut_size (cut_at e true (length (before_value (joined (as_lines g)))) g)
+    → length (value_front e g) ≡ cut_size (cut_at e true (length (before_value (joined (as_lines g)))) g)
 front-before e [] key value h = absurd (no_lines-no_pair key value h)
 front-before e (h ∷ hs) key value p =
     let add : adds true h.text ≡ added_by true h.text = rw (pair-unmarked h hs key value p) refl in
@@ -143,13 +143,13 @@ front-before e (h ∷ hs) key value p =
 -- This cut was found among the bytes of the pair.
 pub front-found : {e : Encoding} {body before : List ℕ} (s : Scanner) (count : ℕ) (cut : code.Cut) → s.at ≡ 0 → s.is_done ≡ false
     → encoding_of s.encoding ≡ e → IsBeforeValue e body before → count ≡ length before
-    → cut ≡ placed s.at s.passed (cut_at (encoding_of s.encoding) true count (lines_left body s)) → IsFrontSize e body cut.at
+    → cut ≡ placed s.at s.passed (cut_at (encoding_of s.encoding) true count (held_lines_left body s)) → IsFrontSize e body cut.at
 front-found {e} {body} {before} s count cut at going same b n is =
     let x = joined (as_lines b.group) in
-    let lines : lines_left body s ≡ b.group = (rw (going, at, same) refl) ∙ one-lines e body b.group b.is_group in
-    let found : cut_size (cut_at (encoding_of s.encoding) true count (lines_left body s)) ≡ cut_size (cut_at e true (length (before_value x)) b.group) =
+    let lines : held_lines_left body s ≡ b.group = (rw (going, at, same) refl) ∙ one-lines e body b.group b.is_group in
+    let found : cut_size (cut_at (encoding_of s.encoding) true count (held_lines_left body s)) ≡ cut_size (cut_at e true (length (before_value x)) b.group) =
     ap₂ (λ d g. cut_size (cut_at d true count g)) same lines ∙ ap (λ m. cut_size (cut_at e true m b.group)) (n ∙ ap length (sym b.text)) in
-    let placed_at : cut.at ≡ s.at + cut_size (cut_at (encoding_of s.encoding) true count (lines_left body s)) = ap (λ v. let w : code.Cut = v in w.at) is in
+    let placed_at : cut.at ≡ s.at + cut_size (cut_at (encoding_of s.encoding) true count (held_lines_left body s)) = ap (λ v. let w : code.Cut = v in w.at) is in
     let front = front-before e b.group b.key b.value b.is_pair in
     record { group = b.group; is_group = b.is_group; is_size = omega arith }
 
@@ -159,22 +159,22 @@ outcome-spelt : (x key spelt : List ℕ) → IsPair x key spelt → outcome_of x
 outcome-spelt x key spelt h = ap split_outcome (sym (split_of-only x (split.pair key spelt) h))
 
 -- It has the value that is meant.
-pub value-told : (x key spelt meant value : List ℕ) → IsPair x key spelt → IsSound (outcome_of x) → Means spelt meant
+pub value-told : (x key spelt meant value : List ℕ) → IsPair x key spelt → IsSoundOutcome (outcome_of x) → Means spelt meant
     → is_pair_to value (outcome_of x) ≡ bytes_eq meant value
 value-told x key spelt meant value h sound m =
     let is = outcome-spelt x key spelt h ∙ ap (pair_outcome (meaning_of key)) (sym (means-only spelt meant m)) in
-    ap (is_pair_to value) is ∙ told (meaning_of key) (subst IsSound is sound)
+    ap (is_pair_to value) is ∙ told (meaning_of key) (subst IsSoundOutcome is sound)
   where
-    told : (k : Meaning) → IsSound (pair_outcome k (means meant)) → is_pair_to value (pair_outcome k (means meant)) ≡ bytes_eq meant value
+    told : (k : Meaning) → IsSoundOutcome (pair_outcome k (means meant)) → is_pair_to value (pair_outcome k (means meant)) ≡ bytes_eq meant value
     told (means k) s = refl
     told (breaks kind) s = absurd s
 
 -- No escape of its value is malformed.
-pub value-unbroken : (x key spelt : List ℕ) (kind : Malformed) → IsPair x key spelt → IsSound (outcome_of x) → Breaks spelt kind → ⊥
+pub value-unbroken : (x key spelt : List ℕ) (kind : Malformed) → IsPair x key spelt → IsSoundOutcome (outcome_of x) → Breaks spelt kind → ⊥
 value-unbroken x key spelt kind h sound b =
-    none (meaning_of key) (subst IsSound (outcome-spelt x key spelt h ∙ ap (pair_outcome (meaning_of key)) (sym (meaning_of-only spelt (breaks kind) b))) sound)
+    none (meaning_of key) (subst IsSoundOutcome (outcome-spelt x key spelt h ∙ ap (pair_outcome (meaning_of key)) (sym (meaning_of-only spelt (breaks kind) b))) sound)
   where
-    none : (k : Meaning) → IsSound (pair_outcome k (breaks kind)) → ⊥
+    none : (k : Meaning) → IsSoundOutcome (pair_outcome k (breaks kind)) → ⊥
     none (means k) s = s
     none (breaks why) s = s
 
@@ -193,13 +193,13 @@ pub same-group : {e : Encoding} {body : List ℕ} {group : Group} {s : GroupRead
 same-group f a = let q = sym f.groups ∙ a.is_group in cc
 
 -- The logical line of the first group is that of the pair.
-alone-line : {e : Encoding} {body : List ℕ} {group : Group} {s : GroupReader} (line : List ℕ) → line ≡ text_of body s group
+alone-line : {e : Encoding} {body : List ℕ} {group : Group} {s : GroupReader} (line : List ℕ) → line ≡ group_text body s group
     → IsFirstGroup e body group s → (a : IsPairAlone e body)
     → chars line ≡ joined (as_lines a.group)
 alone-line line is f a = ap chars is ∙ f.text ∙ ap (λ g. joined (as_lines g)) (same-group f a)
 
 -- What comes before the value in the logical line of a pair by itself.
-pub before-value : {e : Encoding} {body : List ℕ} {group : Group} {s : GroupReader} (line : List ℕ) (span : Span) → line ≡ text_of body s group
+pub before-value : {e : Encoding} {body : List ℕ} {group : Group} {s : GroupReader} (line : List ℕ) (span : Span) → line ≡ group_text body s group
     → IsFirstGroup e body group s → IsPairAlone e body → IsBetweenAt line span → IsBeforeValue e body (chars (take span.end line))
 before-value {e} {body} {group} {s} line span is f a at =
     let x = joined (as_lines a.group) in
@@ -217,13 +217,13 @@ before-value {e} {body} {group} {s} line span is f a at =
 -- the front of a pair by itself is at the front of its bytes
 front-first : (e : Encoding) (body : List ℕ) (g : List HeldLine) (key value : List ℕ) → is_editable e ≡ true → held_groups_of e body ≡ g ∷ []
     → IsPair (joined (as_lines g)) key value
-    → (take (length (front_of e g)) body ≡ front_of e g) × (length (front_of e g) ≤ length body)
+    → (take (length (value_front e g)) body ≡ value_front e g) × (length (value_front e g) ≤ length body)
 front-first e body g key value ok h pair =
     let are = one-group e body g h in
     let decoded = group-decoded e body (g ∷ []) [] g [] are refl in
     let whole : body ≡ unended_bytes g ++ ending_bytes (last_ending g) =
     sym (held-body e body (g ∷ []) ok are) ∙ append-nil (group_bytes g) ∙ bytes-unended g in
-    let front = front_of e g in
+    let front = value_front e g in
     let parts = front-unended e g (between_of g) front (front_of-meets e g key value ok decoded pair) in
     let all = whole ∙ ap (λ v. v ++ ending_bytes (last_ending g)) parts ∙ append_assoc front _ (ending_bytes (last_ending g)) in
     let sizes = ap length parts ∙ length-append front _ in
@@ -234,7 +234,7 @@ front-first e body g key value ok h pair =
 -- A pair by itself with another value.
 pub value-new : {r : Repertoire} {body : List ℕ} {group : Group} {s : GroupReader} (value line separator bytes : List ℕ) (size : ℕ) (span : Span)
     → is_editable r.encoding ≡ true
-    → line ≡ text_of body s group → IsFirstGroup r.encoding body group s → (a : IsPairAlone r.encoding body) → IsBetweenAt line span
+    → line ≡ group_text body s group → IsFirstGroup r.encoding body group s → (a : IsPairAlone r.encoding body) → IsBetweenAt line span
     → false ≡ is_pair_to value (outcome_of (chars line)) → IsFrontSize r.encoding body size → separator ≡ bytes_in line span
     → bytes ≡ encoded_text r.encoding (value_text r (chars separator) value)
     → IsNewValue r body value (record { front_size = size; bytes = bytes })
@@ -243,7 +243,7 @@ value-new {r} {body} {group} {s} value line separator bytes size span ok is f a 
     let same = alone-line line is f a in
     let m = line-pair line x span same at in
     let one : front.group ≡ a.group = let q = sym front.is_group ∙ a.is_group in cc in
-    let sized : size ≡ length (front_of r.encoding a.group) = front.is_size ∙ ap (λ g. length (front_of r.encoding g)) one in
+    let sized : size ≡ length (value_front r.encoding a.group) = front.is_size ∙ ap (λ g. length (value_front r.encoding g)) one in
     let first = front-first r.encoding body a.group m.0.0 m.0.1 ok a.is_group m.0.2 in
     record {
       group = a.group;
@@ -257,7 +257,7 @@ value-new {r} {body} {group} {s} value line separator bytes size span ok is f a 
 -- ---- a separator
 
 -- what separates key and value in a group by itself
-pub alone-between : {e : Encoding} {body : List ℕ} {group : Group} {s : GroupReader} (line : List ℕ) → line ≡ text_of body s group → IsFirstGroup e body group s
+pub alone-between : {e : Encoding} {body : List ℕ} {group : Group} {s : GroupReader} (line : List ℕ) → line ≡ group_text body s group → IsFirstGroup e body group s
     → IsGroupAlone e body → last_between (held_groups_of e body) ≡ between_if_pair (split_of (chars line)) (chars line)
 alone-between line is f a =
     let one : f.held ≡ a.0 = let q = sym f.groups ∙ a.1 in cc in

@@ -13,7 +13,7 @@ use Rattle.properties_format.specs.Body.{HeldLine, group_bytes, groups_bytes}
 use Rattle.properties_format.specs.Computed.Body.{held_groups_of}
 use Rattle.properties_format.specs.Computed.Encoding.{pieces_of}
 use Rattle.properties_format.specs.Computed.Split.{split_of}
-use Rattle.properties_format.specs.Computed.Valued.{after_key, written_value}
+use Rattle.properties_format.specs.Computed.Valued.{after_key, value_as_written}
 use Rattle.properties_format.proofs.Body.Groups.{held_groups_of-meets, held-body}
 use Rattle.properties_format.proofs.Split.Blanks.{without_leading_blanks-only, core-begins}
 use Rattle.properties_format.proofs.Split.Unique.{split_of-only}
@@ -49,9 +49,9 @@ use Rattle.properties_editing.proofs.BodyGroups.{groups-lines, line_size}
 use Rattle.properties_format.proofs.Cut.Only.{cut_of-only}
 use Rattle.properties_format.proofs.Groups.Joined.{joined-comment_line}
 use Rattle.properties_format.proofs.Valued.Fronts.{AreDecoded, joined_by, joined-by}
-use Rattle.properties_lines.specs.Private.HeldLines.{lines_left}
+use Rattle.properties_lines.specs.Private.HeldLines.{held_lines_left}
 use Rattle.properties_editing.specs.declared.cuts.Cut as code
-use Rattle.properties_editing.specs.Private.BodyCuts.{IsCutOf, added_lines, adds, past, cut_at, cut_size, placed}
+use Rattle.properties_editing.specs.Private.BodyCuts.{IsCutOf, added_lines, adds, cut_past_line, cut_at, cut_size, placed}
 use Rattle.properties_lines.specs.LineSearch.{unit_size}
 use Rattle.properties_format.specs.Edited.{is_editable}
 use Rattle.properties_editing.proofs.CutMeanings.{AreJoined, IsAlone, cut-meets, group-added, group-alone, group-joined}
@@ -63,9 +63,9 @@ use Rattle.properties_editing.proofs.CutOrder.{cut-ordered, cut-unended, counts-
 use Rattle.properties_format.specs.Encoding.{windows_1252, utf_8, utf_16le, utf_16be}
 use Rattle.properties_format.proofs.Encodings.PieceEnds.{no-front}
 use Rattle.properties_lines.specs.LogicalLine.{IsLineIn}
-use Rattle.properties_lines.specs.Scanner.{bytes_of}
+use Rattle.properties_lines.specs.Scanner.{raw_line_bytes}
 use Rattle.properties_lines.specs.Private.HeldLines.{IsInBody, held_line}
-use Rattle.properties_editing.specs.Private.BodyGroups.{TakesLine}
+use Rattle.properties_editing.specs.Private.BodyGroups.{TakesHeldLine}
 use Rattle.properties_editing.proofs.BodyGroups.{has-sizes}
 use Rattle.std.specs.Prelude.{not, ◌&&◌}
 use Rattle.properties_format.specs.Lines.{is_open}
@@ -80,11 +80,11 @@ use Rattle.properties_lines.specs.declared.logical.Place.TheVariants.{Natural, D
 use Rattle.properties_editing.specs.Private.BodyCuts.{indent_size}
 use Rattle.properties_editing.proofs.BodyGroups.{joined-alone}
 use Rattle.properties_editing.proofs.PlainGroups.{cut-counts, plain-head}
-use Rattle.properties_editing.specs.Private.BodyViews.{IsPlain, AreOrdered, AreTexts, places_by, places_in, TellsIllFormed, groups_to_come, reader_before, first_of, lines_of, line_of, text_in, place_in}
+use Rattle.properties_editing.specs.Private.BodyViews.{IsPlain, ArePlacedInOrder, AreLinesIn, places_by, walked_places, TellsIllFormedLine, groups_to_come, reader_before, first_of, walked_lines, walked_line, walked_text, place_in}
 use Rattle.properties_editing.proofs.BodyCuts.{cut-here, cut-past, cut-head, decoded-front, decoded-left}
-use Rattle.properties_editing.specs.Private.BodyGroups.{IsWithin, TakesGroup, groups_left, text_of}
-use Rattle.properties_editing.specs.Views.{IsWhole, kind_of, with_bytes}
-use Rattle.properties_editing.specs.Private.BodyViews.{ArePartsBy, ArePartsOf, HasFlaw, IsPartFlaw, IsLineFlaw, IsFlawOf, counts_of, cut_in, counts_by, after_sign, IsCountAt, IsOpened, IsViewed, TakesWalk}
+use Rattle.properties_editing.specs.Private.BodyGroups.{IsWithin, TakesHeldGroup, groups_left, group_text}
+use Rattle.properties_editing.specs.Views.{IsMeaningful, group_kind, with_bytes}
+use Rattle.properties_editing.specs.Private.BodyViews.{ArePartsBy, ArePartsOfLine, HasFlaw, IsPartFlaw, IsLineFlaw, IsFlawOf, counts_of, cut_in, counts_by, after_sign, IsCountAt, IsOpened, IsViewed, TakesWalk}
 use Rattle.properties_editing.proofs.Editing.{editable-bytes}
 use Rattle.properties_editing.proofs.BodyValues.{after_key-text}
 use Rattle.properties_format.proofs.Encodings.WellFormed.{well_formed-from_IsUtf8}
@@ -92,7 +92,7 @@ use Rattle.properties_format.proofs.Encodings.WellFormed.{well_formed-from_IsUtf
 -- ---- the bytes of a group
 
 -- What is left before a group is taken: its bytes, and those of the groups after it.
-pub left-bytes : {body : List ℕ} {old new : GroupReader} {group : Group} → IsWithin body old → (k : TakesGroup body old group new)
+pub left-bytes : {body : List ℕ} {old new : GroupReader} {group : Group} → IsWithin body old → (k : TakesHeldGroup body old group new)
     → drop old.scanner.at body ≡ groups_bytes (k.held ∷ groups_left body new)
 left-bytes {body} {old} {new} {group} w k =
     let e = encoding_of old.scanner.encoding in
@@ -102,7 +102,7 @@ left-bytes {body} {old} {new} {group} w k =
     sym (held-body e rest (held_groups_of e rest) (editable-bytes e w.bytes) (held_groups_of-meets e rest)) ∙ ap groups_bytes groups
 
 -- A group that was taken has the bytes from its start to the next group.
-pub group-bytes : {body : List ℕ} {old new : GroupReader} {group : Group} → IsWithin body old → (k : TakesGroup body old group new)
+pub group-bytes : {body : List ℕ} {old new : GroupReader} {group : Group} → IsWithin body old → (k : TakesHeldGroup body old group new)
     → take (new.scanner.at - group.start) (drop group.start body) ≡ group_bytes k.held
 group-bytes {body} {old} {new} {group} w k =
     let next = k.span.next in
@@ -121,13 +121,13 @@ count-before line rest at u l b h =
     record { within = l; whole = b; count_is = omega arith }
 
 -- The parts are those of what the line is.
-parts-by : (what : split.Logical) (line : List ℕ) (parts : Parts) → IsSplit (chars line) what → ArePartsBy what line parts → ArePartsOf line parts
+parts-by : (what : split.Logical) (line : List ℕ) (parts : Parts) → IsSplit (chars line) what → ArePartsBy what line parts → ArePartsOfLine line parts
 parts-by what line parts meets h = subst (λ s. ArePartsBy s line parts) (split_of-only (chars line) what meets) h
 
 -- the parts of a pair
 pub pair-parts : (line : List ℕ) (key value : Span) → IsUtf8 line → IsPairAt line key value → IsSpan line key → IsSpan line value
     → IsSplit (chars line) (split.pair (chars (bytes_in line key)) (chars (bytes_in line value)))
-    → ArePartsOf line (record { kind = kind.Pair; key = key; value = value })
+    → ArePartsOfLine line (record { kind = kind.Pair; key = key; value = value })
 pair-parts line key value u at k v meets =
     let x = chars line in
     let key_bytes = bytes_in line key in
@@ -148,7 +148,7 @@ pair-parts line key value u at k v meets =
     ap chars (ap₂ drop ends parts ∙ drop-append_seam (d.indent ++ key_bytes) (d.between ++ rest) ∙ sym (after_key-pair line key_bytes rest d))
     ∙ after_key-text line u in
     let value_is : drop value.start line ≡ rest = sym (ap (λ n. take (n - value.start) (drop value.start line)) at.value_end ∙ take_rest line value.start) in
-    let written : chars (drop value.start line) ≡ written_value x = ap chars value_is ∙ sym (written_value-pair x (chars key_bytes) (chars rest) meets) in
+    let written : chars (drop value.start line) ≡ value_as_written x = ap chars value_is ∙ sym (written_value-pair x (chars key_bytes) (chars rest) meets) in
     let all : IsCountAt line value.end (length x) =
     record {
       within = v.within;
@@ -163,7 +163,7 @@ pair-parts line key value u at k v meets =
       kind_is = refl;
       key_start = count-before line (without_leading_blanks x) key.start u (omega arith) k.starts_whole blanks;
       key_end = count-before line (after_key x) key.end u (omega arith) k.ends_whole after;
-      value_start = count-before line (written_value x) value.start u (omega arith) v.starts_whole written;
+      value_start = count-before line (value_as_written x) value.start u (omega arith) v.starts_whole written;
       value_end = all;
       key_span = k;
       value_span = v;
@@ -174,7 +174,7 @@ pair-parts line key value u at k v meets =
 pub comment-parts : (line : List ℕ) (sign : ℕ) (text : Span) → IsUtf8 line → sign ≤ length line → drop sign line ≡ without_leading_blanks line
     → IsCommentAt line text → IsSpan line text
     → IsSplit (chars line) (split.comment (chars (bytes_in line text)))
-    → ArePartsOf line (record { kind = kind.Comment; key = record { start = sign; end = sign + 1 }; value = text })
+    → ArePartsOfLine line (record { kind = kind.Comment; key = record { start = sign; end = sign + 1 }; value = text })
 comment-parts line sign text u within at c s meets =
     let x = chars line in
     let core = bytes_in line text in
@@ -237,7 +237,7 @@ blank_parts line =
     let end : Span = record { start = length line; end = length line } in
     record { kind = kind.Blank; key = end; value = end }
 
-pub blank-parts : (line : List ℕ) → IsUtf8 line → IsSplit (chars line) split.blank → ArePartsOf line (blank_parts line)
+pub blank-parts : (line : List ℕ) → IsUtf8 line → IsSplit (chars line) split.blank → ArePartsOfLine line (blank_parts line)
 blank-parts line u meets =
     let all : IsCountAt line (length line) (length (chars line)) =
     record { within = omega arith; whole = IsCharBoundary-end line; count_is = ap (λ w. length (chars w)) (take_all (length line) line (omega arith)) } in
@@ -263,7 +263,7 @@ with-taken g (h ∷ gs) n = refl
 
 pub walk-taken : (old : Walk) (new : GroupReader) (state : Scanner) (group : WalkedGroup) → IsOpened old
     → old.reader.scanner.at ≢ length old.source.now → state ≡ old.reader.scanner
-    → TakesGroup old.source.now old.reader group.group new → ArePartsOf (text_of old.source.now new group.group) group.parts → group.next ≡ new.scanner.at
+    → TakesHeldGroup old.source.now old.reader group.group new → ArePartsOfLine (group_text old.source.now new group.group) group.parts → group.next ≡ new.scanner.at
     → TakesWalk old group (record old { before = state; reader = new })
 walk-taken old new state group w more same k parts next =
     let body = old.source.now in
@@ -320,7 +320,7 @@ cut-within e first n h (i ∷ is) rest l =
           cut-here e first n h (i ∷ is ++ rest) within ∙ sym (cut-here e first n h (i ∷ is) within)
       | inr k ↦ let over : length (adds first h.text) < n = grind (arith, nat_tests) in
           cut-past e first n h (i ∷ is ++ rest) over
-          ∙ ap (past h) (cut-within e false (n - length (adds first h.text)) i is rest (omega arith))
+          ∙ ap (cut_past_line h) (cut-within e false (n - length (adds first h.text)) i is rest (omega arith))
           ∙ sym (cut-past e first n h (i ∷ is) over)
     ]
 
@@ -359,8 +359,8 @@ pub record IsLeftBefore (view : Walk) (held : List HeldLine) : Type 0 where
   pub more : List HeldLine
   pub is_held : held ≡ first ∷ more
   pub rest : List HeldLine
-  pub lines : lines_left view.source.now view.before ≡ first ∷ more ++ rest
-  pub viewed : lines_of view ≡ first ∷ more
+  pub lines : held_lines_left view.source.now view.before ≡ first ∷ more ++ rest
+  pub viewed : walked_lines view ≡ first ∷ more
   pub alone : IsAlone (first ∷ more)
   pub joined : AreJoined (first ∷ more)
 
@@ -375,10 +375,10 @@ left-before {view} {group} v =
     subst (λ sc. let w : Scanner = sc in (if w.is_done then [] else held_groups_of (encoding_of w.encoding) (drop w.at body)) ≡ v.takes.held ∷ more)
     v.before v.takes.groups in
     let live : view.before.is_done ≡ false = subst (λ sc. let w : Scanner = sc in w.is_done ≡ false) v.before v.takes.live in
-    let after : held_groups_after [] (lines_left body view.before) ≡ v.takes.held ∷ more = sym (groups-lines body s) ∙ groups in
-    let some = group-some [] (lines_left body view.before) v.takes.held more after in
+    let after : held_groups_after [] (held_lines_left body view.before) ≡ v.takes.held ∷ more = sym (groups-lines body s) ∙ groups in
+    let some = group-some [] (held_lines_left body view.before) v.takes.held more after in
     let all : held_groups_of e d ≡ v.takes.held ∷ more = subst (λ b. (if b then [] else held_groups_of e d) ≡ v.takes.held ∷ more) live groups in
-    let lines : lines_left body view.before ≡ held_in (held_groups_of e d) = rw live (sym (lines-in e d)) in
+    let lines : held_lines_left body view.before ≡ held_in (held_groups_of e d) = rw live (sym (lines-in e d)) in
     record {
       first = some.0;
       more = some.1;
@@ -386,33 +386,33 @@ left-before {view} {group} v =
       rest = held_in more;
       lines = lines ∙ ap held_in all ∙ ap (λ g. g ++ held_in more) some.2;
       viewed = ap first_of groups ∙ some.2;
-      alone = subst IsAlone some.2 (group-alone [] (lines_left body view.before) v.takes.held more tt after);
-      joined = subst AreJoined some.2 (group-joined [] (lines_left body view.before) v.takes.held more tt after);
+      alone = subst IsAlone some.2 (group-alone [] (held_lines_left body view.before) v.takes.held more tt after);
+      joined = subst AreJoined some.2 (group-joined [] (held_lines_left body view.before) v.takes.held more tt after);
     }
 
 -- A cut of the lines that were left before a group was taken is one of the group.
-pub cut-viewed : {view : Walk} {group : WalkedGroup} (n : ℕ) → IsViewed view group → n ≤ length (text_in view)
-    → cut_at (encoding_of view.before.encoding) true n (lines_left view.source.now view.before) ≡ cut_at (encoding_of view.before.encoding) true n
-    (lines_of view)
+pub cut-viewed : {view : Walk} {group : WalkedGroup} (n : ℕ) → IsViewed view group → n ≤ length (walked_text view)
+    → cut_at (encoding_of view.before.encoding) true n (held_lines_left view.source.now view.before) ≡ cut_at (encoding_of view.before.encoding) true n
+    (walked_lines view)
 cut-viewed {view} {group} n v l =
     let e = encoding_of view.before.encoding in
     let b = left-before v in
-    let size : length (text_in view) ≡ length (joined (as_lines (b.first ∷ b.more))) = ap (λ g. length (joined (as_lines g))) b.viewed in
+    let size : length (walked_text view) ≡ length (joined (as_lines (b.first ∷ b.more))) = ap (λ g. length (joined (as_lines g))) b.viewed in
     let least = joined-added b.first b.more in
     ap (cut_at e true n) b.lines ∙ cut-within e true n b.first b.more b.rest (omega arith) ∙ ap (cut_at e true n) (sym b.viewed)
 
 -- The logical line of the group that was returned last.
-pub viewed-text : {view : Walk} {group : WalkedGroup} → IsViewed view group → chars (line_of view group) ≡ text_in view
+pub viewed-text : {view : Walk} {group : WalkedGroup} → IsViewed view group → chars (walked_line view group) ≡ walked_text view
 viewed-text {view} {group} v = let b = left-before v in v.takes.text ∙ ap (λ g. joined (as_lines g)) (b.is_held ∙ sym b.viewed)
 
 -- The place of a position in that line.
 pub place-found : {view : Walk} {group : WalkedGroup} (position at count : ℕ) → (v : IsViewed view group)
-    → IsCharBoundary (line_of view group) position → IsUtf8 (line_of view group)
-    → count ≡ length (chars (take position (line_of view group)))
-    → at ≡ view.before.at + cut_size (cut_at (encoding_of view.before.encoding) true count (lines_left view.source.now view.before))
-    → at ≡ place_in view (length (chars (take position (line_of view group))))
+    → IsCharBoundary (walked_line view group) position → IsUtf8 (walked_line view group)
+    → count ≡ length (chars (take position (walked_line view group)))
+    → at ≡ view.before.at + cut_size (cut_at (encoding_of view.before.encoding) true count (held_lines_left view.source.now view.before))
+    → at ≡ place_in view (length (chars (take position (walked_line view group))))
 place-found {view} {group} position at count v b u is found =
-    let size = ap length (sym (viewed-text v)) ∙ cut-counts (line_of view group) position u b in
+    let size = ap length (sym (viewed-text v)) ∙ cut-counts (walked_line view group) position u b in
     found ∙ ap (λ c. view.before.at + cut_size c) (cut-viewed count v (omega arith)) ∙ ap (place_in view) is
 
 -- ---- malformed escapes
@@ -481,7 +481,7 @@ flaw-found line span at how u s m =
     }
 
 -- A part without one means a text.
-pub part-whole : (text meant : List ℕ) → meaning_of text ≡ means meant → IsWhole text
+pub part-whole : (text meant : List ℕ) → meaning_of text ≡ means meant → IsMeaningful text
 part-whole text meant h = (meant, subst (IsMeaning text) h (meaning_of-meets text))
 
 -- The encoding of a group that was returned is one that is edited.
@@ -491,17 +491,17 @@ viewed-editable {view} {group} v =
     (subst (λ sc. let w : Scanner = sc in unit_size (encoding_of w.encoding) ≡ 1) v.before v.within_old.bytes)
 
 -- What a cut of the group that was returned last means.
-pub viewed-meets : {view : Walk} {group : WalkedGroup} (n : ℕ) → IsViewed view group → n ≤ length (text_in view)
-    → IsCutOf (encoding_of view.before.encoding) true (lines_of view) (take n (text_in view)) (cut_in view n)
+pub viewed-meets : {view : Walk} {group : WalkedGroup} (n : ℕ) → IsViewed view group → n ≤ length (walked_text view)
+    → IsCutOf (encoding_of view.before.encoding) true (walked_lines view) (take n (walked_text view)) (cut_in view n)
 viewed-meets {view} {group} n v l =
     let e = encoding_of view.before.encoding in
     let b = left-before v in
     let held = b.first ∷ b.more in
     let decoded = decoded-front e held b.rest (subst (AreDecoded e) b.lines (decoded-left view.source.now view.before)) in
     let added : joined (as_lines held) ≡ added_lines true held = group-added b.first b.more b.alone in
-    let text : text_in view ≡ added_lines true held = ap (λ g. joined (as_lines g)) b.viewed ∙ added in
-    let size : length (text_in view) ≡ length (added_lines true held) = ap length text in
-    subst (λ g. IsCutOf e true g (take n (text_in view)) (cut_at e true n g)) (sym b.viewed)
+    let text : walked_text view ≡ added_lines true held = ap (λ g. joined (as_lines g)) b.viewed ∙ added in
+    let size : length (walked_text view) ≡ length (added_lines true held) = ap length text in
+    subst (λ g. IsCutOf e true g (take n (walked_text view)) (cut_at e true n g)) (sym b.viewed)
     (subst (λ x. IsCutOf e true held (take n x) (cut_at e true n held)) (sym text)
     (cut-meets e true n b.first b.more (viewed-editable v) decoded (omega arith)))
 
@@ -512,16 +512,16 @@ some-chars x (c ∷ y) h l = omega arith
 
 -- Behind the character at this position the line is cut behind the start of a natural line.
 record IsBehind (view : Walk) (count : ℕ) : Type 0 where
-  cut : cut_at (encoding_of view.before.encoding) true (count + 1) (lines_left view.source.now view.before) ≡ cut_in view (count + 1)
+  cut : cut_at (encoding_of view.before.encoding) true (count + 1) (held_lines_left view.source.now view.before) ≡ cut_in view (count + 1)
   some : 1 ≤ (cut_in view (count + 1)).head
-  inside : count + 1 ≤ length (text_in view)
+  inside : count + 1 ≤ length (walked_text view)
 
-behind : {view : Walk} {group : WalkedGroup} (position : ℕ) → (v : IsViewed view group) → position < length (line_of view group)
-    → IsCharBoundary (line_of view group) position
-    → IsBehind view (length (chars (take position (line_of view group))))
+behind : {view : Walk} {group : WalkedGroup} (position : ℕ) → (v : IsViewed view group) → position < length (walked_line view group)
+    → IsCharBoundary (walked_line view group) position
+    → IsBehind view (length (chars (take position (walked_line view group))))
 behind {view} {group} position v l b =
     let e = encoding_of view.before.encoding in
-    let line = line_of view group in
+    let line = walked_line view group in
     let u = v.takes.held_text.text in
     let count = length (chars (take position line)) in
     let sizes = ap length (sym (viewed-text v)) ∙ cut-counts line position u b in
@@ -529,7 +529,7 @@ behind {view} {group} position v l b =
     let some : 1 ≤ length (chars (drop position line)) =
     some-chars (drop position line) (chars (drop position line)) (is_empty-chars (drop position line) (IsUtf8-drop line position u b)) (omega arith) in
     let before = left-before v in
-    let size : length (text_in view) ≡ length (joined (as_lines (before.first ∷ before.more))) = ap (λ g. length (joined (as_lines g))) before.viewed in
+    let size : length (walked_text view) ≡ length (joined (as_lines (before.first ∷ before.more))) = ap (λ g. length (joined (as_lines g))) before.viewed in
     let least = joined-added before.first before.more in
     let decoded = decoded-front e (before.first ∷ before.more) before.rest (subst (AreDecoded e) before.lines (decoded-left view.source.now view.before)) in
     record {
@@ -541,18 +541,18 @@ behind {view} {group} position v l b =
 
 -- The malformed escape of the group that was returned last.
 pub flaw-placed : {view : Walk} {group : WalkedGroup} (position count : ℕ) (how : Malformed) (cut : code.Cut) → (v : IsViewed view group)
-    → IsLineFlaw (line_of view group) position how
-    → count ≡ length (chars (take position (line_of view group)))
-    → cut ≡ placed view.before.at view.before.passed (cut_at (encoding_of view.before.encoding) true (count + 1) (lines_left view.source.now view.before))
+    → IsLineFlaw (walked_line view group) position how
+    → count ≡ length (chars (take position (walked_line view group)))
+    → cut ≡ placed view.before.at view.before.passed (cut_at (encoding_of view.before.encoding) true (count + 1) (held_lines_left view.source.now view.before))
     → (1 ≤ cut.at) × IsFlawOf view (record { how = how; place = cut.at - 1; number = cut.number; column = cut.at - cut.line_start })
 flaw-placed {view} {group} position count how cut v f is found =
     let e = encoding_of view.before.encoding in
-    let line = line_of view group in
+    let line = walked_line view group in
     let n = length (chars (take position line)) in
     let b = behind position v f.within f.whole in
     let c = cut_in view (n + 1) in
     let same : cut ≡ placed view.before.at view.before.passed c =
-    found ∙ ap (λ m. placed view.before.at view.before.passed (cut_at e true (m + 1) (lines_left view.source.now view.before))) is
+    found ∙ ap (λ m. placed view.before.at view.before.passed (cut_at e true (m + 1) (held_lines_left view.source.now view.before))) is
     ∙ ap (placed view.before.at view.before.passed) b.cut in
     let at : cut.at ≡ view.before.at + (c.before + c.head) = ap (λ w. let k : code.Cut = w in k.at) same in
     let starts : cut.line_start ≡ view.before.at + c.before = ap (λ w. let k : code.Cut = w in k.line_start) same in
@@ -572,7 +572,7 @@ flaw-placed {view} {group} position count how cut v f is found =
 
 -- ---- ill-formed lines
 
-are-texts : (e : Encoding) (g h : List HeldLine) → AreTexts e g → AreTexts e h → AreTexts e (g ++ h)
+are-texts : (e : Encoding) (g h : List HeldLine) → AreLinesIn e g → AreLinesIn e h → AreLinesIn e (g ++ h)
 are-texts e [] h a b = b
 are-texts e (i ∷ g) h a b = (a.0, are-texts e g h a.1 b)
 
@@ -583,7 +583,7 @@ line-text utf_8 d ok u = well_formed-from_IsUtf8 d u
 line-text utf_16le d ok u = absurd (cc)
 line-text utf_16be d ok u = absurd (cc)
 
-empty-texts : (e : Encoding) (g : List HeldLine) → unit_size e ≡ 1 → length (group_bytes g) ≡ 0 → AreTexts e g
+empty-texts : (e : Encoding) (g : List HeldLine) → unit_size e ≡ 1 → length (group_bytes g) ≡ 0 → AreLinesIn e g
 empty-texts e [] u none = tt
 empty-texts e (h ∷ g) u none =
     let sizes : length (group_bytes (h ∷ g)) ≡ length h.bytes + (length (ending_bytes h.ending) + length (group_bytes g)) =
@@ -596,9 +596,9 @@ pub record HasTexts (view : Walk) (next : ℕ) (s : GroupReader) : Type 0 where
   pub kept : List HeldLine
   pub rest : List HeldLine
   pub others : List HeldLine
-  pub division : lines_of view ≡ kept ++ rest
-  pub left : lines_left view.source.now s.scanner ≡ rest ++ others
-  pub texts : AreTexts (encoding_of view.before.encoding) kept
+  pub division : walked_lines view ≡ kept ++ rest
+  pub left : held_lines_left view.source.now s.scanner ≡ rest ++ others
+  pub texts : AreLinesIn (encoding_of view.before.encoding) kept
   pub counted : s.scanner.passed ≡ view.before.passed + length kept
   pub end : next ≡ s.scanner.at + length (group_bytes rest)
   pub within : IsWithin view.source.now s
@@ -619,7 +619,7 @@ texts-none {view} {group} s v same w =
       rest = b.first ∷ b.more;
       others = b.rest;
       division = b.viewed;
-      left = ap (lines_left view.source.now) same ∙ b.lines;
+      left = ap (held_lines_left view.source.now) same ∙ b.lines;
       texts = tt;
       counted = omega arith;
       end = omega arith;
@@ -628,20 +628,20 @@ texts-none {view} {group} s v same w =
     }
 
 -- what is left of the group begins with the line that was taken
-record IsNextLine (view : Walk) (next : ℕ) (old new : GroupReader) (h : HasTexts view next old) (k : TakesLine view.source.now old new) : Type 0 where
+record IsNextLine (view : Walk) (next : ℕ) (old new : GroupReader) (h : HasTexts view next old) (k : TakesHeldLine view.source.now old new) : Type 0 where
   more : List HeldLine
   rest : h.rest ≡ held_line (encoding_of view.before.encoding) view.source.now new.scanner.line k.ending ∷ more
-  left : lines_left view.source.now new.scanner ≡ more ++ h.others
+  left : held_lines_left view.source.now new.scanner ≡ more ++ h.others
 
-next-line : {view : Walk} {next : ℕ} {old new : GroupReader} (h : HasTexts view next old) (k : TakesLine view.source.now old new)
+next-line : {view : Walk} {next : ℕ} {old new : GroupReader} (h : HasTexts view next old) (k : TakesHeldLine view.source.now old new)
     → old.scanner.at < next → IsNextLine view next old new h k
 next-line {view} {next} {old} {new} h k l =
     let line = held_line (encoding_of view.before.encoding) view.source.now new.scanner.line k.ending in
-    let left = sym h.left ∙ k.lines ∙ ap (λ e. held_line e view.source.now new.scanner.line k.ending ∷ lines_left view.source.now new.scanner) h.encoding in
+    let left = sym h.left ∙ k.lines ∙ ap (λ e. held_line e view.source.now new.scanner.line k.ending ∷ held_lines_left view.source.now new.scanner) h.encoding in
     split h.rest left refl
   where
     split : (rest : List HeldLine)
-        → rest ++ h.others ≡ held_line (encoding_of view.before.encoding) view.source.now new.scanner.line k.ending ∷ lines_left view.source.now new.scanner
+        → rest ++ h.others ≡ held_line (encoding_of view.before.encoding) view.source.now new.scanner.line k.ending ∷ held_lines_left view.source.now new.scanner
         → h.rest ≡ rest → IsNextLine view next old new h k
     split [] q is =
         let none : length (group_bytes h.rest) ≡ 0 = ap (λ g. length (group_bytes g)) is in
@@ -650,8 +650,8 @@ next-line {view} {next} {old} {new} h k l =
     split (i ∷ more) q is = record { more = more; rest = is ∙ cc; left = cc }
 
 -- One more line is text.
-pub texts-more : {view : Walk} {next : ℕ} {old new : GroupReader} → HasTexts view next old → (k : TakesLine view.source.now old new) → old.scanner.at < next
-    → IsLineIn (encoding_of view.before.encoding) (bytes_of view.source.now new.scanner.line) → HasTexts view next new
+pub texts-more : {view : Walk} {next : ℕ} {old new : GroupReader} → HasTexts view next old → (k : TakesHeldLine view.source.now old new) → old.scanner.at < next
+    → IsLineIn (encoding_of view.before.encoding) (raw_line_bytes view.source.now new.scanner.line) → HasTexts view next new
 texts-more {view} {next} {old} {new} h k l text =
     let line = held_line (encoding_of view.before.encoding) view.source.now new.scanner.line k.ending in
     let n = next-line h k l in
@@ -682,8 +682,8 @@ texts-more {view} {next} {old} {new} h k l text =
     }
 
 -- The line that was taken isn't.
-pub texts-found : {view : Walk} {next : ℕ} {old new : GroupReader} → HasTexts view next old → (k : TakesLine view.source.now old new) → old.scanner.at < next
-    → ¬ (IsLineIn (encoding_of view.before.encoding) (bytes_of view.source.now new.scanner.line)) → TellsIllFormed view (Some new.scanner.passed)
+pub texts-found : {view : Walk} {next : ℕ} {old new : GroupReader} → HasTexts view next old → (k : TakesHeldLine view.source.now old new) → old.scanner.at < next
+    → ¬ (IsLineIn (encoding_of view.before.encoding) (raw_line_bytes view.source.now new.scanner.line)) → TellsIllFormedLine view (Some new.scanner.passed)
 texts-found {view} {next} {old} {new} h k l not_text =
     let line = held_line (encoding_of view.before.encoding) view.source.now new.scanner.line k.ending in
     let n = next-line h k l in
@@ -704,17 +704,17 @@ texts-found {view} {next} {old} {new} h k l not_text =
 
 -- All were looked at.
 pub texts-all : {view : Walk} {next : ℕ} {s : GroupReader} → HasTexts view next s → (next ≤ s.scanner.at) ⊎ (s.scanner.is_done ≡ true)
-    → AreTexts (encoding_of view.before.encoding) (lines_of view)
+    → AreLinesIn (encoding_of view.before.encoding) (walked_lines view)
 texts-all {view} {next} {s} h (inl over) =
     let e = encoding_of view.before.encoding in
     let end = h.end in
     let u : unit_size e ≡ 1 = subst (λ v. unit_size v ≡ 1) h.encoding h.within.bytes in
-    subst (AreTexts e) (sym h.division) (are-texts e h.kept h.rest h.texts (empty-texts e h.rest u (omega arith)))
+    subst (AreLinesIn e) (sym h.division) (are-texts e h.kept h.rest h.texts (empty-texts e h.rest u (omega arith)))
 texts-all {view} {next} {s} h (inr done) =
     let e = encoding_of view.before.encoding in
-    let none : lines_left view.source.now s.scanner ≡ [] = rw done refl in
+    let none : held_lines_left view.source.now s.scanner ≡ [] = rw done refl in
     let rest : h.rest ≡ [] = no-front h.rest h.others (sym h.left ∙ none) in
-    subst (AreTexts e) (sym h.division) (are-texts e h.kept h.rest h.texts (subst (AreTexts e) (sym rest) tt))
+    subst (AreLinesIn e) (sym h.division) (are-texts e h.kept h.rest h.texts (subst (AreLinesIn e) (sym rest) tt))
 
 -- A reader in the state before the group that was returned last is within the body.
 pub within-before : {view : Walk} {group : WalkedGroup} (s : GroupReader) → (v : IsViewed view group) → s.scanner ≡ view.before → IsWithin view.source.now s
@@ -727,14 +727,14 @@ within-before {view} {group} s v same =
 
 -- ---- the order of the places
 
-pub view-ordered : {view : Walk} {group : WalkedGroup} → IsViewed view group → AreOrdered group (places_in view group)
+pub view-ordered : {view : Walk} {group : WalkedGroup} → IsViewed view group → ArePlacedInOrder group (walked_places view group)
 view-ordered {view} {group} v =
     let b = left-before v in
     let held = b.first ∷ b.more in
     let e = encoding_of view.before.encoding in
     let added : joined (as_lines held) ≡ added_lines true held = group-added b.first b.more b.alone in
-    let text : text_in view ≡ added_lines true held = ap (λ g. joined (as_lines g)) b.viewed ∙ added in
-    let size : length (text_in view) ≡ length (added_lines true held) = ap length text in
+    let text : walked_text view ≡ added_lines true held = ap (λ g. joined (as_lines g)) b.viewed ∙ added in
+    let size : length (walked_text view) ≡ length (added_lines true held) = ap length text in
     let starts : group.group.start ≡ view.before.at = v.takes.starts ∙ ap (λ sc. let k : Scanner = sc in k.at) v.before in
     let unended = v.takes.span.unended in
     let after = v.takes.span.next in
@@ -742,29 +742,29 @@ view-ordered {view} {group} v =
     let ends : length (unended_bytes v.takes.held) ≡ length (unended_bytes held) = ap (λ g. length (unended_bytes g)) b.is_held in
     let whole : length (group_bytes v.takes.held) ≡ length (unended_bytes v.takes.held) + length (ending_bytes (last_ending v.takes.held)) =
     ap length (bytes-unended v.takes.held) ∙ length-append (unended_bytes v.takes.held) (ending_bytes (last_ending v.takes.held)) in
-    let last : (n : ℕ) → n ≤ length (text_in view) → cut_size (cut_in view n) ≤ length (unended_bytes held) =
+    let last : (n : ℕ) → n ≤ length (walked_text view) → cut_size (cut_in view n) ≤ length (unended_bytes held) =
     λ n l. subst (λ g. cut_size (cut_at e true n g) ≤ length (unended_bytes held)) (sym b.viewed) (cut-unended e true n b.first b.more (omega arith)) in
-    let cut : (m n : ℕ) → m ≤ n → cut_size (cut_in view m) ≤ cut_size (cut_in view n) = λ m n l. cut-ordered e true m n (lines_of view) l in
-    by (split_of (text_in view)) (split_of-meets (text_in view)) starts (omega arith) (omega arith) cut (λ n l. let z = last n l in omega arith)
+    let cut : (m n : ℕ) → m ≤ n → cut_size (cut_in view m) ≤ cut_size (cut_in view n) = λ m n l. cut-ordered e true m n (walked_lines view) l in
+    by (split_of (walked_text view)) (split_of-meets (walked_text view)) starts (omega arith) (omega arith) cut (λ n l. let z = last n l in omega arith)
   where
-    by : (s : split.Logical) → IsSplit (text_in view) s → group.group.start ≡ view.before.at → group.group.start ≤ group.group.end
+    by : (s : split.Logical) → IsSplit (walked_text view) s → group.group.start ≡ view.before.at → group.group.start ≤ group.group.end
         → group.group.end ≤ group.next
         → ((m n : ℕ) → m ≤ n → cut_size (cut_in view m) ≤ cut_size (cut_in view n))
-        → ((n : ℕ) → n ≤ length (text_in view) → view.before.at + cut_size (cut_in view n) ≤ group.group.end)
-        → AreOrdered group (places_by (kind_of s) view group (counts_by s (text_in view)))
+        → ((n : ℕ) → n ≤ length (walked_text view) → view.before.at + cut_size (cut_in view n) ≤ group.group.end)
+        → ArePlacedInOrder group (places_by (group_kind s) view group (counts_by s (walked_text view)))
     by split.blank h starts ends next cut last =
         record { indent = ends; key = omega arith; between = omega arith; value = omega arith; after = omega arith; ending = next }
     by (split.comment text) h starts ends next cut last =
-        let c = counts_by (split.comment text) (text_in view) in
-        let o = counts-ordered (split.comment text) (text_in view) h in
+        let c = counts_by (split.comment text) (walked_text view) in
+        let o = counts-ordered (split.comment text) (walked_text view) h in
         let one = cut c.key_start c.key_end o.key in
         let two = cut c.key_end c.value_start o.between in
         let three = cut c.value_start c.value_end o.value in
         let four = last c.value_end o.end in
         record { indent = omega arith; key = omega arith; between = omega arith; value = omega arith; after = four; ending = next }
     by (split.pair key value) h starts ends next cut last =
-        let c = counts_by (split.pair key value) (text_in view) in
-        let o = counts-ordered (split.pair key value) (text_in view) h in
+        let c = counts_by (split.pair key value) (walked_text view) in
+        let o = counts-ordered (split.pair key value) (walked_text view) h in
         let one = cut c.key_start c.key_end o.key in
         let two = cut c.key_end c.value_start o.between in
         let value_order = o.value in
@@ -774,7 +774,7 @@ view-ordered {view} {group} v =
 
 -- ---- a group whose logical line is its bytes
 
-natural-bytes : (place : Place) (natural decoded joined : List ℕ) → is_natural place ≡ true → logical.bytes_at place natural decoded joined ≡ natural
+natural-bytes : (place : Place) (natural decoded joined : List ℕ) → is_natural place ≡ true → logical.placed_bytes place natural decoded joined ≡ natural
 natural-bytes Natural natural decoded joined h = refl
 natural-bytes Decoded natural decoded joined h = absurd (cc)
 natural-bytes Joined natural decoded joined h = absurd (cc)
@@ -788,9 +788,9 @@ adds-closed x h = elim (cases_Bool (is_comment_line x)) [
 -- The one line of such a group.
 record IsSingle (view : Walk) (group : WalkedGroup) : Type 0 where
   first : HeldLine
-  lines : lines_of view ≡ first ∷ []
-  is : line_of view group ≡ first.bytes
-  text : chars (line_of view group) ≡ first.text
+  lines : walked_lines view ≡ first ∷ []
+  is : walked_line view group ≡ first.bytes
+  text : chars (walked_line view group) ≡ first.text
   decoded : decoded_line (encoding_of view.before.encoding) first.bytes ≡ first.text
   add : adds true first.text ≡ first.text
 
@@ -832,24 +832,24 @@ plain-single {view} {group} v p =
     }
 
 -- In windows-1252 all bytes are text.
-pub all-texts : (lines : List HeldLine) → AreTexts windows_1252 lines
+pub all-texts : (lines : List HeldLine) → AreLinesIn windows_1252 lines
 all-texts [] = tt
 all-texts (h ∷ hs) = (tt, all-texts hs)
 
 -- Its line is text of the encoding.
-pub plain-texts : {view : Walk} {group : WalkedGroup} → IsViewed view group → IsPlain view group → AreTexts (encoding_of view.before.encoding) (lines_of view)
+pub plain-texts : {view : Walk} {group : WalkedGroup} → IsViewed view group → IsPlain view group → AreLinesIn (encoding_of view.before.encoding) (walked_lines view)
 plain-texts {view} {group} v p =
     let e = encoding_of view.before.encoding in
     let s = plain-single v p in
-    subst (AreTexts e) (sym s.lines) (line-text e s.first.bytes (viewed-editable v) (subst IsUtf8 s.is v.takes.held_text.text), tt)
+    subst (AreLinesIn e) (sym s.lines) (line-text e s.first.bytes (viewed-editable v) (subst IsUtf8 s.is v.takes.held_text.text), tt)
 
 -- A position in its line is one in its bytes.
 pub plain-place : {view : Walk} {group : WalkedGroup} (position : ℕ) → (v : IsViewed view group) → IsPlain view group
-    → IsCharBoundary (line_of view group) position
-    → position ≤ length (line_of view group) → group.group.start + position ≡ place_in view (length (chars (take position (line_of view group))))
+    → IsCharBoundary (walked_line view group) position
+    → position ≤ length (walked_line view group) → group.group.start + position ≡ place_in view (length (chars (take position (walked_line view group))))
 plain-place {view} {group} position v p b l =
     let e = encoding_of view.before.encoding in
-    let line = line_of view group in
+    let line = walked_line view group in
     let s = plain-single v p in
     let bytes = s.first.bytes in
     let u : IsUtf8 line = v.takes.held_text.text in

@@ -18,7 +18,7 @@ use Rattle.properties_format.proofs.Groups.Joined.{joined-comment_line}
 use Rattle.properties_format.proofs.Groups.Open.{open-ends}
 use Rattle.properties_format.proofs.Valued.Fronts.{indented, indent-full, indent-none, indent-only, open-indent, AreDecoded, joined_by, joined-by, front-here, front-later}
 use Rattle.properties_format.proofs.Valued.Heads.{head_of-meets}
-use Rattle.properties_editing.specs.Private.BodyCuts.{Cut, IsCutOf, added_lines, adds, cut_at, cut_size, indent_size, is_first_after, past}
+use Rattle.properties_editing.specs.Private.BodyCuts.{Cut, IsCutOf, added_lines, adds, cut_at, cut_size, indent_size, is_first_after, cut_past_line}
 use Rattle.properties_editing.proofs.BodyCuts.{added-part, cut-here, cut-past, head-inside}
 
 -- ---- the text before a cut
@@ -79,7 +79,7 @@ meets-here e first n h hs ok d l =
 
 -- One more line comes before the cut.
 meets-past : (e : Encoding) (first : Bool) (h : HeldLine) (hs : List HeldLine) (before : List ℕ) (cut : Cut) → before ≢ []
-    → IsCutOf e false hs before cut → IsCutOf e first (h ∷ hs) (adds first h.text ++ before) (past h cut)
+    → IsCutOf e false hs before cut → IsCutOf e first (h ∷ hs) (adds first h.text ++ before) (cut_past_line h cut)
 meets-past e first h hs before cut some m =
     let size = m.kept_size in
     let number = m.number in
@@ -138,7 +138,7 @@ cut-meets e first n h (i ∷ is) ok d l =
           let count : length (take (n - length a) rest) ≡ n - length a = length-take-le (n - length a) rest (omega arith) in
           let some : take (n - length a) rest ≢ [] = λ none. (let zero : length (take (n - length a) rest) ≡ 0 = ap length none in omega arith) in
           subst (λ c. IsCutOf e first (h ∷ i ∷ is) (take n (a ++ rest)) c) (sym (cut-past e first n h (i ∷ is) over))
-          (subst (λ v. IsCutOf e first (h ∷ i ∷ is) v (past h (cut_at e false (n - length a) (i ∷ is)))) (sym (take-past n a rest over))
+          (subst (λ v. IsCutOf e first (h ∷ i ∷ is) v (cut_past_line h (cut_at e false (n - length a) (i ∷ is)))) (sym (take-past n a rest over))
           (meets-past e first h (i ∷ is) (take (n - length a) rest) (cut_at e false (n - length a) (i ∷ is)) some m))
     ]
 
@@ -281,8 +281,8 @@ front-cut e first p (h ∷ hs) same =
           ap length (front-later e first p h hs k) ∙ length-append h.bytes _
           ∙ ap (λ n. length h.bytes + n) (length-append (ending_bytes h.ending) (front_in e false q hs)) in
           let rest : length (front_in e false q hs) ≡ cut_size (cut_at e false (length q) hs) = front-cut e false q hs (later-alike hs) in
-          let cut : cut_at e first (length p) (h ∷ hs) ≡ past h (cut_at e false (length q) hs) =
-          cut-past e first (length p) h hs over ∙ ap (λ n. past h (cut_at e false n hs)) (sym left) in
-          let size : cut_size (cut_at e first (length p) (h ∷ hs)) ≡ cut_size (past h (cut_at e false (length q) hs)) = ap cut_size cut in
+          let cut : cut_at e first (length p) (h ∷ hs) ≡ cut_past_line h (cut_at e false (length q) hs) =
+          cut-past e first (length p) h hs over ∙ ap (λ n. cut_past_line h (cut_at e false n hs)) (sym left) in
+          let size : cut_size (cut_at e first (length p) (h ∷ hs)) ≡ cut_size (cut_past_line h (cut_at e false (length q) hs)) = ap cut_size cut in
           omega arith
     ]

@@ -11,7 +11,7 @@ use Rattle.properties_format.specs.Split.{IsSplit}
 use Rattle.properties_format.specs.Body.{HeldLine, ending_bytes}
 use Rattle.properties_format.specs.Computed.Encoding.{pieces_of}
 use Rattle.properties_format.specs.Computed.Body.{unended_bytes}
-use Rattle.properties_format.specs.Computed.Valued.{head_of, pieces_bytes, after_key, written_value}
+use Rattle.properties_format.specs.Computed.Valued.{head_of, pieces_bytes, after_key, value_as_written}
 use Rattle.properties_format.proofs.Encodings.Pieces.{pieces_of-meets}
 use Rattle.properties_format.proofs.Split.Blanks.{without_leading_blanks-only, core-begins}
 use Rattle.properties_format.proofs.Valued.Parts.{written_value-pair, after_key-pair}
@@ -152,7 +152,7 @@ pair-counts x key value d =
     let y : without_leading_blanks x ≡ core = ap without_leading_blanks d.whole ∙ without_leading_blanks-only d.indent core d.indent_blank d.begins_full in
     let a : length (without_leading_blanks x) ≡ length core = ap length y in
     let b : length (after_key x) ≡ length (d.between ++ value) = ap length (after_key-pair x key value d) in
-    let c : length (written_value x) ≡ length value = ap length (written_value-pair x key value d) in
+    let c : length (value_as_written x) ≡ length value = ap length (written_value-pair x key value d) in
     let all : length x ≡ length d.indent + length core = ap length d.whole ∙ length-append d.indent core in
     let s = length-append key (d.between ++ value) in
     let t = length-append d.between value in

@@ -27,12 +27,12 @@ use Rattle.properties_items.specs.BorrowedItems.{outcome_pair}
 use Rattle.properties_items.specs.Texts.{characters}
 use Rattle.properties_editing.specs.Private.BodyParts as parts
 use Rattle.properties_editing.specs.Private.BodyParts.{StandFor, is_empty_part, no_part}
-use Rattle.properties_editing.specs.Private.ChangedParts.{HasBytes, key_place, with_bytes}
+use Rattle.properties_editing.specs.Private.ChangedParts.{HasBytes, key_place, part_with_bytes}
 use Rattle.properties_editing.specs.Private.EditedParts.{AreEditedParts, StandForSource}
 use Rattle.properties_editing.specs.Private.PartBounds.{AreBounds}
 use Rattle.properties_editing.specs.Private.SourceParts.{empty_front}
 use Rattle.properties_editing.specs.Private.Sound.{AreSound}
-use Rattle.properties_editing.specs.Private.Sources.{IsInForce, printed_in}
+use Rattle.properties_editing.specs.Private.Sources.{IsBodyStartOf, printed_repertoire}
 use Rattle.properties_editing.specs.declared.source.BodyStart.{BodyStart}
 use Rattle.properties_editing.specs.declared.parts.Part.{Part}
 use Rattle.properties_editing.specs.declared.parts.Parts.{Parts}
@@ -47,7 +47,7 @@ use Rattle.properties_format.proofs.Edited.ByteOrderMarks.{key_removed-in_force,
 use Rattle.properties_format.proofs.Valued.Marks.{value_set-in_force}
 
 -- The bytes after an edit are in force as those before it.
-pub edited-in_force : {r : Repertoire} {opened : BodyStart} {old new : List ℕ} (edit : Edit) → IsInForce old r opened → IsEdited r old edit new → IsInForce new r opened
+pub edited-in_force : {r : Repertoire} {opened : BodyStart} {old new : List ℕ} (edit : Edit) → IsBodyStartOf old r opened → IsEdited r old edit new → IsBodyStartOf new r opened
 edited-in_force {r} {opened} {old} {new} (put key value) h k = again new k.body h k.whole (key_set-in_force r old key value new (editable h) k)
 edited-in_force {r} {opened} {old} {new} (remove key) h k = again new _ h k.whole (key_removed-in_force r.encoding old key new (editable h) k)
 edited-in_force {r} {opened} {old} {new} (set_value key value) h k = again new k.body h k.whole (value_set-in_force r old key value new (editable h) k)
@@ -70,7 +70,7 @@ pub source-edited : {r : Repertoire} {read now : List ℕ} {named : List ℕ →
 source-edited {r} {read} {now} {named} {gs} {old} edit result body next new s edited whole slots some stand front bounds =
     let f = encoding_of old.opened.encoding in
     let start = old.opened.start in
-    let force : IsInForce result r old.opened = edited-in_force edit s.in_force edited in
+    let force : IsBodyStartOf result r old.opened = edited-in_force edit s.in_force edited in
     let own : AreSlotsOf f (drop start result) (guarded f old.guarded next) =
     subst (λ w. let v : InForce = w in AreSlotsOf v.encoding v.body (guarded f old.guarded next)) force.in_force slots in
     let mark_is = bom-front s.in_force in
@@ -190,11 +190,11 @@ module _ {r : Repertoire} {read now : List ℕ} {named : List ℕ → Bool} {gs 
       ∙ become-after f bytes.items (guarded f old.guarded before) k.group after
       ∙ sym (guarded-append f old.guarded before (group_of f bytes.items (last_ending k.group) ∷ after)) in
       let next_place : place + 1 ≡ suc place = omega arith in
-      let set = h.parts ∙ ap (λ n. take place items ++ with_bytes bytes (get_or items place no_part) ∷ drop n items) next_place in
+      let set = h.parts ∙ ap (λ n. take place items ++ part_with_bytes bytes (get_or items place no_part) ∷ drop n items) next_place in
       source-edited edit result body next new s edited whole (subst (AreSlotsIn r.encoding result) slots_are are_slots)
       (some-between before (group_of f bytes.items (last_ending k.group)) after)
       (stands-replaced f s.in_force.editable d named key gs old.parts s.turn s.stand place k bytes value new h t)
-      (ap empty_front set ∙ front-set items place (with_bytes bytes (get_or items place no_part)) no_part own-within full-part refl ∙ sym s.empty)
+      (ap empty_front set ∙ front-set items place (part_with_bytes bytes (get_or items place no_part)) no_part own-within full-part refl ∙ sym s.empty)
       (bounds-set d old.bounds place bytes items new.parts.items full-part set s.bounds)
 
 -- ---- a printed pair
@@ -218,7 +218,7 @@ pub slots-own : {r : Repertoire} {read now : List ℕ} {named : List ℕ → Boo
 slots-own {gs = gs} {old = old} s =
     subst (λ w. let v : InForce = w in AreSlotsOf v.encoding v.body (guarded (encoding_of old.opened.encoding) old.guarded gs)) (sym s.in_force.in_force) (source-slots s)
 
-pub encoding-own : {r : Repertoire} {now : List ℕ} {opened : BodyStart} → IsInForce now r opened → (byte_order_mark r.encoding now).encoding ≡ encoding_of opened.encoding
+pub encoding-own : {r : Repertoire} {now : List ℕ} {opened : BodyStart} → IsBodyStartOf now r opened → (byte_order_mark r.encoding now).encoding ≡ encoding_of opened.encoding
 encoding-own h = ap (λ w. let v : InForce = w in v.encoding) h.in_force
 
 -- What `find` returns is a place.
@@ -230,7 +230,7 @@ place-within {read = read} {named = named} {gs = gs} {old = old} s key place at 
 -- The last pair with the key got the bytes of the printed pair.
 pub source-put : {r : Repertoire} {read now : List ℕ} {named : List ℕ → Bool} {gs : List (List HeldLine)} {old : SourceParts} (s : StandForSource r read now named gs old)
     (sound : AreSound gs) (key value : List ℕ) (place : ℕ) (bytes : Vec ℕ) (text : String Global) (new : Parts) → All scalar key → All scalar value → characters text ≡ value
-    → Some place ≡ key_place old.parts.keys key → bytes.items ≡ pair_bytes (printed_in old.opened) (not old.guarded && nat_le place old.empty) key value
+    → Some place ≡ key_place old.parts.keys key → bytes.items ≡ pair_bytes (printed_repertoire old.opened) (not old.guarded && nat_le place old.empty) key value
     → HasBytes place key bytes text old.parts new → AreEditedParts r (put key value) read now named (record old { parts = new })
 source-put {r} {read} {now} {named} {gs} {old} s sound key value place bytes text new k v said at printed h =
     let f = encoding_of old.opened.encoding in

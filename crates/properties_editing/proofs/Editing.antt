@@ -29,7 +29,7 @@ use Rattle.properties_editing.specs.Editing.{edit_in, edits_in, IsRefusal, IsSet
 use Rattle.properties_format.proofs.Changed.Occur.{key_set-keeps, key_removed-keeps}
 use Rattle.properties_format.proofs.Edited.Pair.{editable-own}
 use Rattle.properties_text.specs.Encoding.{encoding_of}
-use Rattle.properties_editing.specs.Private.Sources.{IsInForce, printed_in, used_in}
+use Rattle.properties_editing.specs.Private.Sources.{IsBodyStartOf, printed_repertoire, used_in}
 use Rattle.properties_editing.specs.declared.source.BodyStart.{BodyStart}
 use Rattle.properties_items.specs.declared.error.PropertiesError.{PropertiesError}
 use Rattle.properties_lines.specs.LineSearch.{unit_size}
@@ -39,7 +39,7 @@ use Rattle.properties_format.proofs.Valued.Read.{value_set-keeps, value_set-keep
 -- ---- a source that is open
 
 -- its byte order mark comes before its body
-pub bom-front : {source : List ℕ} {r : Repertoire} {opened : BodyStart} → IsInForce source r opened → bom_of source ≡ take opened.start source
+pub bom-front : {source : List ℕ} {r : Repertoire} {opened : BodyStart} → IsBodyStartOf source r opened → bom_of source ≡ take opened.start source
 bom-front {source} {r} {opened} h =
     let body = drop opened.start source in
     let whole : source ≡ bom_of source ++ body = source-whole r.encoding source ∙ ap (λ v. let w : InForce = v in bom_of source ++ w.body) h.in_force in
@@ -49,7 +49,7 @@ bom-front {source} {r} {opened} h =
     sym (ap₂ take n whole ∙ take-append_seam (bom_of source) body)
 
 -- a source that is edited is in an encoding that is edited
-pub editable : {source : List ℕ} {r : Repertoire} {opened : BodyStart} → IsInForce source r opened → is_editable (byte_order_mark r.encoding source).encoding ≡ true
+pub editable : {source : List ℕ} {r : Repertoire} {opened : BodyStart} → IsBodyStartOf source r opened → is_editable (byte_order_mark r.encoding source).encoding ≡ true
 editable h = ap (λ v. let w : InForce = v in is_editable w.encoding) h.in_force ∙ h.editable
 
 -- An encoding whose units are one byte long is edited,
@@ -67,17 +67,17 @@ editable-unit utf_16le h = absurd (cc)
 editable-unit utf_16be h = absurd (cc)
 
 -- what may stand unescaped in it, and in what is printed for it, is what was requested
-pub used-own : {source : List ℕ} {r : Repertoire} {opened : BodyStart} → IsInForce source r opened → used_in opened ≡ in_encoding r (encoding_of opened.encoding)
+pub used-own : {source : List ℕ} {r : Repertoire} {opened : BodyStart} → IsBodyStartOf source r opened → used_in opened ≡ in_encoding r (encoding_of opened.encoding)
 used-own {opened = opened} h = ap (λ s. let t : Repertoire = record { encoding = encoding_of opened.encoding; characters = s } in t) h.characters
 
-pub printed-own : {source : List ℕ} {r : Repertoire} {opened : BodyStart} → IsInForce source r opened
-    → printed_in opened ≡ in_encoding r (encoding_of opened.encoding)
+pub printed-own : {source : List ℕ} {r : Repertoire} {opened : BodyStart} → IsBodyStartOf source r opened
+    → printed_repertoire opened ≡ in_encoding r (encoding_of opened.encoding)
 printed-own {opened = opened} h =
     ap₂ (λ e s. let t : Repertoire = record { encoding = e; characters = s } in t) (editable-own (encoding_of opened.encoding) h.editable) h.characters
 
 -- Bytes that keep the byte order mark are in force as the source is.
-pub again : {r : Repertoire} {old : List ℕ} {opened : BodyStart} (new body : List ℕ) → IsInForce old r opened → new ≡ bom_of old ++ body
-    → byte_order_mark r.encoding new ≡ record { encoding = (byte_order_mark r.encoding old).encoding; body = body } → IsInForce new r opened
+pub again : {r : Repertoire} {old : List ℕ} {opened : BodyStart} (new body : List ℕ) → IsBodyStartOf old r opened → new ≡ bom_of old ++ body
+    → byte_order_mark r.encoding new ≡ record { encoding = (byte_order_mark r.encoding old).encoding; body = body } → IsBodyStartOf new r opened
 again {r} {old} {opened} new body h whole is =
     let front : new ≡ take opened.start old ++ body = whole ∙ ap (λ v. v ++ body) (bom-front h) in
     let size : length (take opened.start old) ≡ opened.start = length-take-le opened.start old h.within in
@@ -92,14 +92,14 @@ again {r} {old} {opened} new body h whole is =
     }
 
 -- what the result of a source is, is what its groups say
-groups-of : (comments : Comments) {source : List ℕ} {r : Repertoire} {opened : BodyStart} (made : List ℕ) → IsInForce source r opened
+groups-of : (comments : Comments) {source : List ℕ} {r : Repertoire} {opened : BodyStart} (made : List ℕ) → IsBodyStartOf source r opened
     → result_for comments r.encoding source made ≡ result_from comments 1 (held_groups_of (encoding_of opened.encoding) (drop opened.start source)) made
 groups-of comments {source} {r} {opened} made h =
     result-groups comments r.encoding source made (editable h)
     ∙ ap (λ v. let w : InForce = v in result_from comments 1 (held_groups_of w.encoding w.body) made) h.in_force
 
 -- Bytes that an edit makes are its result if the groups are sound.
-pub made-result : (comments : Comments) {source : List ℕ} {r : Repertoire} {opened : BodyStart} (Makes : List ℕ → Type 0) (made : List ℕ) → IsInForce source r opened
+pub made-result : (comments : Comments) {source : List ℕ} {r : Repertoire} {opened : BodyStart} (Makes : List ℕ → Type 0) (made : List ℕ) → IsBodyStartOf source r opened
     → AreSoundFor comments (held_groups_of (encoding_of opened.encoding) (drop opened.start source)) → Makes made
     → IsResult comments r.encoding source Makes (edited made)
 made-result comments {source} {r} {opened} Makes made h sound makes =
@@ -108,13 +108,13 @@ made-result comments {source} {r} {opened} Makes made h sound makes =
 
 -- ---- refusals
 
-not-unsupported : {r : Repertoire} {source : List ℕ} {opened : BodyStart} → IsInForce source r opened
+not-unsupported : {r : Repertoire} {source : List ℕ} {opened : BodyStart} → IsBodyStartOf source r opened
     → is_editable (byte_order_mark r.encoding source).encoding ≡ false → ⊥
 not-unsupported h none = let yes = editable h in absurd (cc)
 
 -- The first fault of the groups is the refusal of their source, and what a `?` returns.
 pub refusal : {A : Type 0} (comments : Comments) {source : List ℕ} {r : Repertoire} {opened : BodyStart} {error : PropertiesError} {result : Result A PropertiesError} (Makes : List ℕ → Type 0) {made : List ℕ}
-    → IsInForce source r opened → Makes made
+    → IsBodyStartOf source r opened → Makes made
     → IsErrorOfGroups comments (held_groups_of (encoding_of opened.encoding) (take (length source - opened.start) (drop opened.start source))) error
     → IsErrAnd result (λ x. x ≡ error) → (x : PropertiesError) × (result ≡ Err x) × IsRefusal (IsResult comments r.encoding source Makes) x
 refusal comments {source} {r} {opened} {result = result} Makes {made} h makes fault returned =
@@ -182,7 +182,7 @@ no_bom-begins b = elim (cases_Bool (begins_with utf_8_bom b)) [
 ]
 
 -- a source starts with its body where it begins with no byte order mark
-pub unmarked : {source : List ℕ} {r : Repertoire} {opened : BodyStart} → IsInForce source r opened → (opened.start == 0) ≡ not (begins_like_bom source)
+pub unmarked : {source : List ℕ} {r : Repertoire} {opened : BodyStart} → IsBodyStartOf source r opened → (opened.start == 0) ≡ not (begins_like_bom source)
 unmarked {source} {r} {opened} h =
     let size : length (bom_of source) ≡ opened.start = ap length (bom-front h) ∙ length-take-le opened.start source h.within in
     ap (λ n. n == 0) (sym size) ∙ no_bom-begins source

@@ -15,7 +15,7 @@ use Rattle.properties_format.specs.Body.{HeldLine, as_lines, held_in, group_byte
 use Rattle.properties_format.specs.Computed.Body.{held_of, held_lines_of, held_groups_after, held_groups_of}
 use Rattle.properties_format.proofs.Valued.Lined.{held_in-append}
 use Rattle.properties_text.specs.Encoding.{encoding_of}
-use Rattle.properties_editing.specs.Private.BodyGroups.{IsWithin, groups_left, text_of, TakesGroup}
+use Rattle.properties_editing.specs.Private.BodyGroups.{IsWithin, groups_left, group_text, TakesHeldGroup}
 use Rattle.properties_editing.specs.declared.groups.Group.{Group}
 use Rattle.properties_editing.specs.declared.groups.GroupReader.{GroupReader}
 
@@ -42,7 +42,7 @@ read-none comments body s at passed going w = record {
 
 -- the next group was read, and nothing in it is malformed
 pub read-more : {comments : Comments} {e : Encoding} {body : List ℕ} {groups : List (List HeldLine)} {s t : GroupReader} {group : Group} → HasRead comments e body groups s
-    → (k : TakesGroup body s group t) → IsSoundFor comments (chars (text_of body t group)) → HasRead comments e body (groups ++ k.held ∷ []) t
+    → (k : TakesHeldGroup body s group t) → IsSoundFor comments (chars (group_text body t group)) → HasRead comments e body (groups ++ k.held ∷ []) t
 read-more {comments} {e} {body} {groups} {s} {t} {group} h k sound =
     let one : groups_bytes (k.held ∷ []) ≡ group_bytes k.held = append-nil (group_bytes k.held) in
     let placed = h.placed in

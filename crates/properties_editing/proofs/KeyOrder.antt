@@ -21,7 +21,7 @@ use Rattle.properties_format.specs.Computed.Maps.{Has, ComesBefore, AreFirstOf}
 use Rattle.properties_items.specs.Texts.{characters}
 use Rattle.properties_items.proofs.TextMaps.Values.{at_chars-sorted}
 use Rattle.properties_editing.specs.Documents.{characters_of}
-use Rattle.properties_editing.specs.Private.BodyParts.{Said, place_if, places_in, places_of, places_with, stored_of}
+use Rattle.properties_editing.specs.Private.BodyParts.{Said, place_if, listed_places, places_of, places_with, stored_of}
 use Rattle.properties_editing.specs.Private.KeyOrder.{AreFirsts, AreKeysAt, HasKeysOf, HavePlaces, IsFirstIn, key_at, said_key}
 use Rattle.properties_editing.specs.declared.parts.KeyPlaces.{KeyPlaces}
 use Rattle.properties_editing.specs.declared.parts.Parts.{Parts}
@@ -340,14 +340,14 @@ placing-all entries firsts h =
 -- The key of the next entry comes to its first place, which is one of the parts.
 pub placing-next : (parts : Parts) (rest : List (String Global × KeyPlaces)) (firsts : List (Option (Bor (List ℕ))))
     (key : String Global) (stored : KeyPlaces) (i : ℕ) (borrowed : Bor (List ℕ))
-    → HavePlaces parts → IsPlacing parts.keys.places.entries ((key, stored) ∷ rest) (map key_at firsts) → Some i ≡ slice_get (places_in stored) 0
+    → HavePlaces parts → IsPlacing parts.keys.places.entries ((key, stored) ∷ rest) (map key_at firsts) → Some i ≡ slice_get (listed_places stored) 0
     → borrowed.now ≡ string_bytes key → length firsts ≡ length parts.parts.items
     → (i < length firsts) × IsPlacing parts.keys.places.entries rest (map key_at (set firsts i (Some borrowed)))
 placing-next parts rest firsts key stored i borrowed have h first is size =
     let entries = parts.keys.places.entries in
     let slots = map said_key have.said in
     let are_places : (k : List ℕ) → places_of (stored_of entries k) ≡ places_at k 0 slots = λ k. have.placed.places k ∙ said-places k 0 have.said in
-    let head = head-got (places_in stored) i first in
+    let head = head-got (listed_places stored) i first in
     let this : IsFirstIn entries (characters key) i =
     (head.0, ap places_of (entry-stored parts.keys.places h.done rest key stored have.placed.ordered h.division) ∙ head.1) in
     let low = first-inside entries slots are_places (characters key) i this in
@@ -364,7 +364,7 @@ placing-next parts rest firsts key stored i borrowed have h first is size =
 
 -- An entry without places is passed over.
 pub placing-over : {Y : Type 0} (entries rest : List (String Y × KeyPlaces)) (firsts : List (Option (List ℕ))) (key : String Y) (stored : KeyPlaces)
-    → IsPlacing entries ((key, stored) ∷ rest) firsts → None ≡ slice_get (places_in stored) 0 → IsPlacing entries rest firsts
+    → IsPlacing entries ((key, stored) ∷ rest) firsts → None ≡ slice_get (listed_places stored) 0 → IsPlacing entries rest firsts
 placing-over entries rest firsts key stored h none = record {
   done = h.done ++ (key, stored) ∷ [];
   division = append_assoc h.done ((key, stored) ∷ []) rest ∙ h.division;

@@ -43,17 +43,17 @@ use Rattle.properties_editing.specs.declared.source.Comments.TheVariants.{Passed
 use Rattle.properties_format.specs.Escapes.{Meaning, means, breaks}
 use Rattle.properties_format.specs.Computed.Escapes.{meaning_of}
 use Rattle.properties_format.specs.Computed.Items.{comment_outcome, pair_outcome, split_outcome}
-use Rattle.properties_format.specs.Computed.Edited.{IsSound}
+use Rattle.properties_format.specs.Computed.Edited.{IsSoundOutcome}
 use Rattle.properties_items.specs.BorrowedItems.{outcome_pair}
 
 -- ---- what separates key and value, if a line is a pair
 
-pub between-none : (l : Logical) (x : List ℕ) → IsSound (split_outcome l) → is_some (outcome_pair (split_outcome l)) ≡ false → between_if_pair l x ≡ None
+pub between-none : (l : Logical) (x : List ℕ) → IsSoundOutcome (split_outcome l) → is_some (outcome_pair (split_outcome l)) ≡ false → between_if_pair l x ≡ None
 between-none Logical.blank x sound none = refl
 between-none (Logical.comment raw) x sound none = refl
 between-none (Logical.pair raw_key raw_value) x sound none = of-pair (meaning_of raw_key) (meaning_of raw_value) sound none
   where
-    of-pair : (k v : Meaning) → IsSound (pair_outcome k v) → is_some (outcome_pair (pair_outcome k v)) ≡ false
+    of-pair : (k v : Meaning) → IsSoundOutcome (pair_outcome k v) → is_some (outcome_pair (pair_outcome k v)) ≡ false
         → between_if_pair (Logical.pair raw_key raw_value) x ≡ None
     of-pair (breaks kind) v s n = absurd s
     of-pair (means key) (breaks kind) s n = absurd s

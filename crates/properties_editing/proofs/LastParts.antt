@@ -11,7 +11,7 @@ use Rattle.properties_items.specs.BorrowedItems.{outcome_pair}
 use Rattle.properties_editing.specs.Private.BodyParts.{outcome, is_empty_part, no_part, last_pair_bytes, pair_bytes_of, ArePartsOf, IsEnd, IsPartOf, Piece, Said, StandFor, group_said, names_said, pieces_groups}
 use Rattle.properties_editing.specs.Private.EditedParts.{IsPairIn, StandForSource, between_last}
 use Rattle.properties_editing.specs.Private.PartBounds.{AreEmpty}
-use Rattle.properties_editing.specs.Private.PartEndings.{ArePartsWithin, HaveNoBytes, last_some, part_cr_end, part_pair, IsPartWithin, kind_pair, last_of}
+use Rattle.properties_editing.specs.Private.PartEndings.{ArePartsWithin, HaveNoBytes, last_some, part_cr_end, part_pair, IsPartWithin, kind_pair, last_span}
 use Rattle.properties_editing.specs.declared.parts.source_parts.SourceParts.{SourceParts}
 use Rattle.properties_editing.proofs.PartsRemoved.{IsTail, empty-none, tail-next, lf-no_pair, tail-back}
 use Rattle.properties_editing.proofs.ValuedParts.{alone-groups}
@@ -42,12 +42,12 @@ use Rattle.properties_editing.proofs.PartsRead.{left-none}
 -- ---- spans in the bytes
 
 part-within : (d : List ℕ) (named : List ℕ → Bool) (p : Part) (q : Piece) → IsPartOf d named p q → IsPartWithin d p
-part-within d named p (parts.own g) k = (k.within, subst (λ v. parts.IsLastWithin d p.text (last_of v)) (sym k.kind) (none p.text))
+part-within d named p (parts.own g) k = (k.within, subst (λ v. parts.IsLastWithin d p.text (last_span v)) (sym k.kind) (none p.text))
   where
     none : (t : PartText) → parts.IsLastWithin d t None
     none (text.Span s) = tt
     none (text.Own v) = tt
-part-within d named p (parts.others gs) k = (k.within, subst (λ v. parts.IsLastWithin d p.text (last_of v)) (sym k.kind) k.last_within)
+part-within d named p (parts.others gs) k = (k.within, subst (λ v. parts.IsLastWithin d p.text (last_span v)) (sym k.kind) k.last_within)
 
 -- The spans of parts that stand for groups are in the bytes.
 pub parts-within : (d : List ℕ) (named : List ℕ → Bool) (ps : List Part) (qs : List Piece) → ArePartsOf d named ps qs → ArePartsWithin d ps

@@ -9,9 +9,9 @@ use Rattle.std.proofs.lemmas.Bool.{cases_Bool, cond-true, cond-false, eqb-true, 
 use Rattle.std.proofs.lemmas.Nat.{pow_pos}
 use Rattle.std.proofs.lemmas.Nat.Bits.{and_pow, bit_at-lt, bit_at-pow_same, bit_at_or}
 use Rattle.std.proofs.lemmas.Slice.Eq.{bytes_eq-Decides}
-use Rattle.properties_editing.specs.Private.BodyParts.{AddsTold, AreMasked, AreUnplaced, MayHave, NamesKey, gap_with, is_named, length_place, span_of_group, places_in, places_of, stored_of}
+use Rattle.properties_editing.specs.Private.BodyParts.{AddsTold, AreMasked, AreUnplaced, MayHave, NamesKey, gap_with, is_named, length_place, span_of_group, listed_places, places_of, stored_of}
 use Rattle.properties_format.specs.Items.{Outcome, ignored, given, broken, comment, pair}
-use Rattle.properties_format.specs.Computed.Edited.{IsSound}
+use Rattle.properties_format.specs.Computed.Edited.{IsSoundOutcome}
 use Rattle.properties_format.specs.Computed.Items.{outcome_of}
 use Rattle.properties_text.proofs.Texts.Resolving.{holds_backslash-text}
 use Rattle.properties_items.specs.BorrowedItems.{outcome_pair}
@@ -41,7 +41,7 @@ not-named keys key size masked same told =
     let none = or-not keys.all (bit_and keys.lengths (2 ^ (size % 64)) == 0) (sym told) in
     not-masked keys key masked none.0 (ap (λ n. bit_and keys.lengths (2 ^ (n % 64))) (sym same) ∙ eqb-true _ 0 none.1)
 
-pair-sound : (o : Outcome) (p : List ℕ × List ℕ) → outcome_pair o ≡ Some p → IsSound o
+pair-sound : (o : Outcome) (p : List ℕ × List ℕ) → outcome_pair o ≡ Some p → IsSoundOutcome o
 pair-sound ignored p h = tt
 pair-sound (given (comment x)) p h = tt
 pair-sound (given (pair k v)) p h = tt
@@ -52,7 +52,7 @@ pub ruleset plain_lines = (holds_backslash-text)
 -- A pair with such a key is passed over.
 pub told-other : (d x : List ℕ) (group : Group) (next : ℕ) (gap after : Gap) (p : List ℕ × List ℕ) (size : ℕ) (old : Parts)
     → AreMasked old.keys → outcome_pair (outcome_of x) ≡ Some p → size ≡ length (encode_utf8_all p.0) → MayHave old.keys size false
-    → after ≡ gap_with gap group.start (Some (span_of_group group)) → IsSound (outcome_of x) × AddsTold d group next (outcome_pair (outcome_of x)) gap old after old
+    → after ≡ gap_with gap group.start (Some (span_of_group group)) → IsSoundOutcome (outcome_of x) × AddsTold d group next (outcome_pair (outcome_of x)) gap old after old
 told-other d x group next gap after p size old masked said same told is =
     (pair-sound (outcome_of x) p said, rw said (inr (not-named old.keys p.0 size masked same told, record { parts = refl; keys = refl; gap_after = is })))
 
@@ -62,7 +62,7 @@ larger a b p q (inr h) = omega arith
 
 -- A key more is named.
 module _ (key : List ℕ) (next : KeyPlaces) (old new : NamedKeys) (unplaced : AreUnplaced old) (some : old.all ≡ false) (all : new.all ≡ old.all)
-    (none : places_in next ≡ [])
+    (none : listed_places next ≡ [])
     (stored : (k : List ℕ) → stored_of new.places.entries k ≡ update bytes_eq (stored_of old.places.entries) key (Some next) k) where
   stored-key : (k : List ℕ) → bytes_eq key k ≡ true → stored_of new.places.entries k ≡ Some next
   stored-key k same = stored k ∙ cond-true (bytes_eq key k) (Some next) (stored_of old.places.entries k) same

@@ -29,11 +29,11 @@ use Rattle.properties_lines.specs.LogicalLine as lines
 use Rattle.properties_lines.specs.declared.scanner.Scanner.{Scanner}
 use Rattle.properties_items.specs.Errors.{malformed_kind}
 use Rattle.properties_items.specs.declared.error.ErrorKind.{ErrorKind}
-use Rattle.properties_editing.specs.Views.{ArePlaces, AreTexts, EndsAt, IsCutBehind, IsFlaw, IsRawKey, IsRawValue, IsTextIn, IsViewOf, OpenView, TakesNext, TellsFlaw, TellsIllFormed, end_of, joined_with, kind_of, line_of, past, places_at, size_before, with_bytes}
+use Rattle.properties_editing.specs.Views.{ArePlaces, AreTexts, EndsAt, IsCutBehind, IsFlaw, IsRawKey, IsRawValue, IsTextIn, IsViewOf, OpenView, TakesNext, TellsFlaw, TellsIllFormed, end_of, joined_with, group_kind, viewed_line, past_group, places_at, size_before, with_bytes}
 use Rattle.properties_editing.specs.Views as public
 use Rattle.properties_editing.specs.Private.BodyCuts.{added_lines, adds, cut_size, is_first_after}
 use Rattle.properties_editing.specs.Private.BodyViews as walked
-use Rattle.properties_editing.specs.Private.BodyViews.{IsViewed, IsWalkOf, TakesWalk, counts_by, cut_in, groups_to_come, lines_of, place_in, places_by, places_in, text_in}
+use Rattle.properties_editing.specs.Private.BodyViews.{IsViewed, IsWalkOf, TakesWalk, counts_by, cut_in, groups_to_come, walked_lines, place_in, places_by, walked_places, walked_text}
 use Rattle.properties_editing.specs.Private.OpenViews.{HasGroup, IsView, open_view}
 use Rattle.properties_editing.specs.declared.group.ViewedGroup.{ViewedGroup}
 use Rattle.properties_editing.specs.declared.walk.FoundFlaw.{FoundFlaw}
@@ -84,13 +84,13 @@ opens-view {requested} {source} {walk} w =
 
 -- Where the next group begins.
 record IsPassed (walk : Walk) (group : WalkedGroup) : Type 0 where
-  at : walk.before.at + length (group_bytes (lines_of walk)) ≡ walk.reader.scanner.at
-  passed : walk.before.passed + length (lines_of walk) ≡ walk.reader.scanner.passed
+  at : walk.before.at + length (group_bytes (walked_lines walk)) ≡ walk.reader.scanner.at
+  passed : walk.before.passed + length (walked_lines walk) ≡ walk.reader.scanner.passed
   encoding : encoding_of walk.before.encoding ≡ encoding_of walk.reader.scanner.encoding
   start : group.group.start ≡ walk.before.at
   end : group.group.end ≡ end_of (shown walk (Some group))
 
-pub lines-held : {walk : Walk} {group : WalkedGroup} (v : IsViewed walk group) → lines_of walk ≡ v.takes.held
+pub lines-held : {walk : Walk} {group : WalkedGroup} (v : IsViewed walk group) → walked_lines walk ≡ v.takes.held
 lines-held {walk} {group} v = let b = left-before v in b.viewed ∙ sym b.is_held
 
 is-passed : {walk : Walk} {group : WalkedGroup} → IsViewed walk group → IsPassed walk group
@@ -98,9 +98,9 @@ is-passed {walk} {group} v =
     let held = v.takes.held in
     let at : v.old.scanner.at ≡ walk.before.at = ap (λ s. let k : Scanner = s in k.at) v.before in
     let passed : v.old.scanner.passed ≡ walk.before.passed = ap (λ s. let k : Scanner = s in k.passed) v.before in
-    let size : length (group_bytes (lines_of walk)) ≡ length (group_bytes held) = ap (λ g. length (group_bytes g)) (lines-held v) in
-    let count : length (lines_of walk) ≡ length held = ap length (lines-held v) in
-    let ending : length (ending_bytes (last_ending (lines_of walk))) ≡ length (ending_bytes (last_ending held)) =
+    let size : length (group_bytes (walked_lines walk)) ≡ length (group_bytes held) = ap (λ g. length (group_bytes g)) (lines-held v) in
+    let count : length (walked_lines walk) ≡ length held = ap length (lines-held v) in
+    let ending : length (ending_bytes (last_ending (walked_lines walk))) ≡ length (ending_bytes (last_ending held)) =
     ap (λ g. length (ending_bytes (last_ending g))) (lines-held v) in
     let whole : length (group_bytes held) ≡ length (unended_bytes held) + length (ending_bytes (last_ending held)) =
     ap length (bytes-unended held) ∙ length-append (unended_bytes held) (ending_bytes (last_ending held)) in
@@ -116,7 +116,7 @@ is-passed {walk} {group} v =
       end = omega arith;
     }
 
-pub past-view : (walk : Walk) (group : Option WalkedGroup) → HasGroup group walk → past (shown walk group) ≡ shown walk None
+pub past-view : (walk : Walk) (group : Option WalkedGroup) → HasGroup group walk → past_group (shown walk group) ≡ shown walk None
 past-view walk None h =
     let s = walk.reader.scanner in
     let at : s.at + 0 ≡ s.at = omega arith in
@@ -137,24 +137,24 @@ told group count =
 
 -- The next one was.
 pub view-taken : (old new : Walk) (last : Option WalkedGroup) (group : WalkedGroup) (count : ℕ) → IsView (record { walk = old; group = last })
-    → TakesWalk old group new → count ≡ length (lines_of new) → IsView (record { walk = new; group = Some group }) × TakesNext (shown old last) (told group count) (shown new (Some group))
+    → TakesWalk old group new → count ≡ length (walked_lines new) → IsView (record { walk = new; group = Some group }) × TakesNext (shown old last) (told group count) (shown new (Some group))
 view-taken old new last group count v t is =
     let h = t.viewed in
     let p = is-passed h in
     let source : new.source.now ≡ old.source.now = ap (λ w. let k : Walk = w in k.source.now) t.same in
     let state : new.before ≡ old.reader.scanner = ap (λ w. let k : Walk = w in k.before) t.same in
-    let what = split_of (text_in new) in
+    let what = split_of (walked_text new) in
     let number = h.takes.number in
     let before : h.old.scanner.passed ≡ new.before.passed = ap (λ s. let k : Scanner = s in k.passed) h.before in (
       record { opened = t.opened; has_group = h },
       record {
         takes = t.given ∙ ap (λ g. g ∷ with_bytes (groups_to_come new)) (sym (lines-held h));
         moves = rw (source, state) refl
-            ∙ sym (ap (λ w. let k : OpenView = w in record k { group = lines_of new; to_come = with_bytes (groups_to_come new) }) (past-view old last v.has_group));
+            ∙ sym (ap (λ w. let k : OpenView = w in record k { group = walked_lines new; to_come = with_bytes (groups_to_come new) }) (past-view old last v.has_group));
         is_group = record {
           what = what;
-          is_split = split_of-meets (text_in new);
-          kind_is = h.parts.kind_is ∙ ap (λ x. kind_of (split_of x)) (viewed-text h);
+          is_split = split_of-meets (walked_text new);
+          kind_is = h.parts.kind_is ∙ ap (λ x. group_kind (split_of x)) (viewed-text h);
           line_number = number ∙ ap (λ n. n + 1) before;
           line_count = is;
           start = p.start;
@@ -166,35 +166,35 @@ view-taken old new last group count v t is =
 
 -- ---- texts as they stand
 
-pub raw-key : {walk : Walk} {group : WalkedGroup} → IsViewed walk group → IsRawKey (text_in walk) (chars (bytes_in (walked.line_of walk group) group.parts.key))
+pub raw-key : {walk : Walk} {group : WalkedGroup} → IsViewed walk group → IsRawKey (walked_text walk) (chars (bytes_in (walked.walked_line walk group) group.parts.key))
 raw-key {walk} {group} v =
-    let line = walked.line_of walk group in
-    let x = text_in walk in
+    let line = walked.walked_line walk group in
+    let x = walked_text walk in
     let key = chars (bytes_in line group.parts.key) in
     let texts = subst (λ y. walked.AreTextsOf (split_of y) line group.parts) (viewed-text v) v.parts.texts in
     by (split_of x) (split_of-meets x) (ap (λ y. take 1 (without_leading_blanks y)) (viewed-text v)) texts
   where
-    by : (s : split.Logical) → IsSplit (text_in walk) s
-        → take 1 (without_leading_blanks (chars (walked.line_of walk group))) ≡ take 1 (without_leading_blanks (text_in walk))
-        → walked.AreTextsOf s (walked.line_of walk group) group.parts
-        → IsRawKey (text_in walk) (chars (bytes_in (walked.line_of walk group) group.parts.key))
+    by : (s : split.Logical) → IsSplit (walked_text walk) s
+        → take 1 (without_leading_blanks (chars (walked.walked_line walk group))) ≡ take 1 (without_leading_blanks (walked_text walk))
+        → walked.AreTextsOf s (walked.walked_line walk group) group.parts
+        → IsRawKey (walked_text walk) (chars (bytes_in (walked.walked_line walk group) group.parts.key))
     by split.blank d one t = (split.blank, (d, t.0))
     by (split.comment text) d one t =
         let full : is_blank d.sign ≡ false = (let k = d.is_sign in grind (arith)) in
-        let y : without_leading_blanks (text_in walk) ≡ d.sign ∷ d.rest =
+        let y : without_leading_blanks (walked_text walk) ≡ d.sign ∷ d.rest =
         ap without_leading_blanks d.whole ∙ without_leading_blanks-only d.indent (d.sign ∷ d.rest) d.indent_blank full in
         (split.comment text, (d, t.0 ∙ one ∙ ap (take 1) y))
     by (split.pair key value) d one t = (split.pair key value, (d, t.0))
 
 pub raw-value : {walk : Walk} {group : WalkedGroup} → IsViewed walk group
-    → IsRawValue (text_in walk) (chars (bytes_in (walked.line_of walk group) group.parts.value))
+    → IsRawValue (walked_text walk) (chars (bytes_in (walked.walked_line walk group) group.parts.value))
 raw-value {walk} {group} v =
-    let line = walked.line_of walk group in
-    let x = text_in walk in
+    let line = walked.walked_line walk group in
+    let x = walked_text walk in
     by (split_of x) (split_of-meets x) (subst (λ y. walked.AreTextsOf (split_of y) line group.parts) (viewed-text v) v.parts.texts)
   where
-    by : (s : split.Logical) → IsSplit (text_in walk) s → walked.AreTextsOf s (walked.line_of walk group) group.parts
-        → IsRawValue (text_in walk) (chars (bytes_in (walked.line_of walk group) group.parts.value))
+    by : (s : split.Logical) → IsSplit (walked_text walk) s → walked.AreTextsOf s (walked.walked_line walk group) group.parts
+        → IsRawValue (walked_text walk) (chars (bytes_in (walked.walked_line walk group) group.parts.value))
     by split.blank d t = (split.blank, d, t.1)
     by (split.comment text) d t = (split.comment text, d, t.1)
     by (split.pair key value) d t = (split.pair key value, d, t.1)
@@ -229,22 +229,22 @@ tail-some kept more line head tail alone joined text within some none =
 
 -- A computed cut, as callers see it.
 record IsSeen (walk : Walk) (n : ℕ) (text : List ℕ) : Type 0 where
-  cut : IsCutBehind (encoding_of walk.before.encoding) (lines_of walk) text
+  cut : IsCutBehind (encoding_of walk.before.encoding) (walked_lines walk) text
   size : cut_size (cut_in walk n) ≡ size_before cut
   number : (cut_in walk n).line ≡ length cut.kept + 1
   head : (cut_in walk n).head ≡ length cut.head
 
-cut-seen : {walk : Walk} {group : WalkedGroup} (n : ℕ) (text rest : List ℕ) → IsViewed walk group → text_in walk ≡ text ++ rest → n ≡ length text
+cut-seen : {walk : Walk} {group : WalkedGroup} (n : ℕ) (text rest : List ℕ) → IsViewed walk group → walked_text walk ≡ text ++ rest → n ≡ length text
     → IsSeen walk n text
 cut-seen {walk} {group} n text rest v whole count =
     let e = encoding_of walk.before.encoding in
-    let sizes : length (text_in walk) ≡ length text + length rest = ap length whole ∙ length-append text rest in
+    let sizes : length (walked_text walk) ≡ length text + length rest = ap length whole ∙ length-append text rest in
     let m = viewed-meets n v (omega arith) in
     let b = left-before v in
     let division = sym b.viewed ∙ m.division in
     let alone = subst IsAlone division b.alone in
     let joined = subst AreJoined division b.joined in
-    let front : take n (text_in walk) ≡ text = ap₂ take count whole ∙ take-append_seam text rest in
+    let front : take n (walked_text walk) ≡ text = ap₂ take count whole ∙ take-append_seam text rest in
     let kept_size = m.kept_size in
     let head_size = m.head_size in
     record {
@@ -270,27 +270,27 @@ cut-seen {walk} {group} n text rest v whole count =
       head = m.head_size;
     }
 
-ends-at : {walk : Walk} {group : WalkedGroup} (n : ℕ) (text rest : List ℕ) → IsViewed walk group → text_in walk ≡ text ++ rest → n ≡ length text
+ends-at : {walk : Walk} {group : WalkedGroup} (n : ℕ) (text rest : List ℕ) → IsViewed walk group → walked_text walk ≡ text ++ rest → n ≡ length text
     → EndsAt (shown walk (Some group)) text (place_in walk n)
 ends-at {walk} {group} n text rest v whole count = let s = cut-seen n text rest v whole count in (s.cut, ap (λ k. walk.before.at + k) s.size)
 
 -- ---- places
 
-pub places-seen : {walk : Walk} {group : WalkedGroup} → IsViewed walk group → ArePlaces (shown walk (Some group)) (places_in walk group)
-places-seen {walk} {group} v = by (split_of (text_in walk)) (split_of-meets (text_in walk))
+pub places-seen : {walk : Walk} {group : WalkedGroup} → IsViewed walk group → ArePlaces (shown walk (Some group)) (walked_places walk group)
+places-seen {walk} {group} v = by (split_of (walked_text walk)) (split_of-meets (walked_text walk))
   where
-    by : (s : split.Logical) → IsSplit (text_in walk) s
-        → ArePlaces (shown walk (Some group)) (places_by (kind_of s) walk group (counts_by s (text_in walk)))
+    by : (s : split.Logical) → IsSplit (walked_text walk) s
+        → ArePlaces (shown walk (Some group)) (places_by (group_kind s) walk group (counts_by s (walked_text walk)))
     by split.blank d = (split.blank, (d, ap places_at (is-passed v).end))
     by (split.comment text) d =
         let t = d.trimmed in
-        let c = comment-counts (text_in walk) text d in
+        let c = comment-counts (walked_text walk) text d in
         let after = t.before ++ (text ++ t.after) in
-        let one : text_in walk ≡ (d.indent ++ d.sign ∷ []) ++ after =
+        let one : walked_text walk ≡ (d.indent ++ d.sign ∷ []) ++ after =
         d.whole ∙ ap (λ r. d.indent ++ d.sign ∷ r) t.whole ∙ sym (append_assoc d.indent (d.sign ∷ []) after) in
-        let two : text_in walk ≡ (d.indent ++ d.sign ∷ t.before) ++ (text ++ t.after) =
+        let two : walked_text walk ≡ (d.indent ++ d.sign ∷ t.before) ++ (text ++ t.after) =
         d.whole ∙ ap (λ r. d.indent ++ d.sign ∷ r) t.whole ∙ sym (append_assoc d.indent (d.sign ∷ t.before) (text ++ t.after)) in
-        let three : text_in walk ≡ (d.indent ++ d.sign ∷ (t.before ++ text)) ++ t.after =
+        let three : walked_text walk ≡ (d.indent ++ d.sign ∷ (t.before ++ text)) ++ t.after =
         d.whole ∙ ap (λ r. d.indent ++ d.sign ∷ r) (t.whole ∙ sym (append_assoc t.before text t.after))
         ∙ sym (append_assoc d.indent (d.sign ∷ (t.before ++ text)) t.after) in
         let a = length-append d.indent (d.sign ∷ []) in
@@ -311,9 +311,9 @@ places-seen {walk} {group} v = by (split_of (text_in walk)) (split_of-meets (tex
           },
         )
     by (split.pair key value) d =
-        let c = pair-counts (text_in walk) key value d in
-        let one : text_in walk ≡ (d.indent ++ key) ++ (d.between ++ value) = d.whole ∙ sym (append_assoc d.indent key (d.between ++ value)) in
-        let two : text_in walk ≡ (d.indent ++ (key ++ d.between)) ++ value =
+        let c = pair-counts (walked_text walk) key value d in
+        let one : walked_text walk ≡ (d.indent ++ key) ++ (d.between ++ value) = d.whole ∙ sym (append_assoc d.indent key (d.between ++ value)) in
+        let two : walked_text walk ≡ (d.indent ++ (key ++ d.between)) ++ value =
         d.whole ∙ ap (λ r. d.indent ++ r) (sym (append_assoc key d.between value)) ∙ sym (append_assoc d.indent (key ++ d.between) value) in
         let a = length-append d.indent key in
         let b = length-append d.indent (key ++ d.between) in
@@ -330,11 +330,11 @@ places-seen {walk} {group} v = by (split_of (text_in walk)) (split_of-meets (tex
           },
         )
 
-pub places-ordered : {walk : Walk} {group : WalkedGroup} → IsViewed walk group → public.AreOrdered (shown walk (Some group)) (places_in walk group)
+pub places-ordered : {walk : Walk} {group : WalkedGroup} → IsViewed walk group → public.AreOrdered (shown walk (Some group)) (walked_places walk group)
 places-ordered {walk} {group} v =
     let p = is-passed v in
     let o = view-ordered v in
-    let places = places_in walk group in
+    let places = walked_places walk group in
     record {
       indent = subst (λ n. n ≤ places.key_start) p.start o.indent;
       key = o.key;
@@ -356,7 +356,7 @@ record BreaksAt (walk : Walk) (front text : List ℕ) (how : format.Malformed) (
   cut : IsSeen walk (count + 1) (before ++ backslash ∷ [])
 
 breaks-at : {walk : Walk} {group : WalkedGroup} (front text rest : List ℕ) (how : format.Malformed) (start count : ℕ) → IsViewed walk group
-    → text_in walk ≡ front ++ (text ++ rest)
+    → walked_text walk ≡ front ++ (text ++ rest)
     → start ≡ length front → walked.BreaksPart start text how count → BreaksAt walk front text how count
 breaks-at {walk} {group} front text rest how start count v whole at k =
     let b = k.breaks_at.breaks in
@@ -364,7 +364,7 @@ breaks-at {walk} {group} front text rest how start count v whole at k =
     let left = letter_u ∷ b.after in
     let before = front ++ inside in
     let parts : text ≡ inside ++ (backslash ∷ left) = b.whole ∙ before-rest b.spellings (backslash ∷ left) in
-    let line : text_in walk ≡ (before ++ backslash ∷ []) ++ (left ++ rest) =
+    let line : walked_text walk ≡ (before ++ backslash ∷ []) ++ (left ++ rest) =
     whole ∙ ap (λ t. front ++ (t ++ rest)) parts ∙ ap (λ t. front ++ t) (append_assoc inside (backslash ∷ left) rest)
     ∙ sym (append_assoc front inside (backslash ∷ (left ++ rest))) ∙ sym (append_assoc before (backslash ∷ []) (left ++ rest)) in
     let sizes : length text ≡ length inside + length (backslash ∷ left) = ap length parts ∙ length-append inside (backslash ∷ left) in
@@ -382,31 +382,31 @@ breaks-at {walk} {group} front text rest how start count v whole at k =
 record BreaksLineAt (walk : Walk) (how : format.Malformed) (count : ℕ) : Type 0 where
   what : split.Logical
   before : List ℕ
-  breaks : public.BreaksLine (text_in walk) how before what
+  breaks : public.BreaksLine (walked_text walk) how before what
   cut : IsSeen walk (count + 1) (before ++ backslash ∷ [])
 
 line-breaks : {walk : Walk} {group : WalkedGroup} (how : format.Malformed) (count : ℕ) → IsViewed walk group → (s : split.Logical)
-    → IsSplit (text_in walk) s → walked.HasFlaw s (counts_by s (text_in walk)) how count → BreaksLineAt walk how count
+    → IsSplit (walked_text walk) s → walked.HasFlaw s (counts_by s (walked_text walk)) how count → BreaksLineAt walk how count
 line-breaks {walk} {group} how count v split.blank d h = absurd h
 line-breaks {walk} {group} how count v (split.comment text) d h =
     let t = d.trimmed in
-    let c = comment-counts (text_in walk) text d in
+    let c = comment-counts (walked_text walk) text d in
     let value_start = c.value_start in
     let size = length-append d.indent (d.sign ∷ t.before) in
-    let whole : text_in walk ≡ (d.indent ++ d.sign ∷ t.before) ++ (text ++ t.after) =
+    let whole : walked_text walk ≡ (d.indent ++ d.sign ∷ t.before) ++ (text ++ t.after) =
     d.whole ∙ ap (λ r. d.indent ++ d.sign ∷ r) t.whole ∙ sym (append_assoc d.indent (d.sign ∷ t.before) (text ++ t.after)) in
     let b = breaks-at (d.indent ++ d.sign ∷ t.before) text t.after how _ count v whole (omega arith) h in
     record { what = split.comment text; before = b.before; breaks = (d, b.breaks); cut = b.cut }
 line-breaks {walk} {group} how count v (split.pair key value) d (inl h) =
-    let c = pair-counts (text_in walk) key value d in
+    let c = pair-counts (walked_text walk) key value d in
     let b = breaks-at d.indent key (d.between ++ value) how _ count v d.whole c.key_start h in
     record { what = split.pair key value; before = b.before; breaks = (d, inl b.breaks); cut = b.cut }
 line-breaks {walk} {group} how count v (split.pair key value) d (inr h) =
-    let c = pair-counts (text_in walk) key value d in
+    let c = pair-counts (walked_text walk) key value d in
     let value_start = c.value_start in
     let a = length-append d.indent (key ++ d.between) in
     let f = length-append key d.between in
-    let whole : text_in walk ≡ (d.indent ++ (key ++ d.between)) ++ (value ++ []) =
+    let whole : walked_text walk ≡ (d.indent ++ (key ++ d.between)) ++ (value ++ []) =
     d.whole ∙ ap (λ r. d.indent ++ r) (sym (append_assoc key d.between value)) ∙ sym (append_assoc d.indent (key ++ d.between) value)
     ∙ ap (λ r. (d.indent ++ (key ++ d.between)) ++ r) (sym (append-nil value)) in
     let b = breaks-at (d.indent ++ (key ++ d.between)) value [] how _ count v whole (omega arith) h.1 in
@@ -417,7 +417,7 @@ pub flaw-seen : {walk : Walk} {group : WalkedGroup} (found : FoundFlaw) (kind : 
     → IsFlaw (shown walk (Some group)) (record { kind = kind; place = found.place; line_number = found.number; column = found.column })
 flaw-seen {walk} {group} found kind v f is =
     let how = malformed_in found.how in
-    let b = line-breaks how f.count v (split_of (text_in walk)) (split_of-meets (text_in walk)) f.has_flaw in
+    let b = line-breaks how f.count v (split_of (walked_text walk)) (split_of-meets (walked_text walk)) f.has_flaw in
     record {
       what = b.what;
       how = how;
@@ -430,10 +430,10 @@ flaw-seen {walk} {group} found kind v f is =
       column = f.column ∙ b.cut.head;
     }
 
-pub none-flawed : (walk : Walk) (group : WalkedGroup) → walked.HasNoFlaw (split_of (text_in walk)) → TellsFlaw (shown walk (Some group)) None
-none-flawed walk group h = (split_of (text_in walk), split_of-meets (text_in walk), by (split_of (text_in walk)) h)
+pub none-flawed : (walk : Walk) (group : WalkedGroup) → walked.HasNoFlaw (split_of (walked_text walk)) → TellsFlaw (shown walk (Some group)) None
+none-flawed walk group h = (split_of (walked_text walk), split_of-meets (walked_text walk), by (split_of (walked_text walk)) h)
   where
-    by : (s : split.Logical) → walked.HasNoFlaw s → public.AreWhole s
+    by : (s : split.Logical) → walked.HasNoFlaw s → public.AreMeaningful s
     by split.blank h = tt
     by (split.comment text) h = h
     by (split.pair key value) h = h
@@ -453,13 +453,13 @@ line-in utf_8 bytes ok h = h
 line-in utf_16le bytes ok h = absurd (cc)
 line-in utf_16be bytes ok h = absurd (cc)
 
-texts-in : (e : Encoding) (hs : List HeldLine) → walked.AreTexts e hs → AreTexts e hs
+texts-in : (e : Encoding) (hs : List HeldLine) → walked.AreLinesIn e hs → AreTexts e hs
 texts-in e [] h = tt
 texts-in e (i ∷ hs) h = (text-in e i.bytes h.0, texts-in e hs h.1)
 
-pub ill-formed : {walk : Walk} {group : WalkedGroup} (number : Option ℕ) → IsViewed walk group → walked.TellsIllFormed walk number
+pub ill-formed : {walk : Walk} {group : WalkedGroup} (number : Option ℕ) → IsViewed walk group → walked.TellsIllFormedLine walk number
     → TellsIllFormed (shown walk (Some group)) number
-ill-formed {walk} {group} None v h = texts-in (encoding_of walk.before.encoding) (lines_of walk) h
+ill-formed {walk} {group} None v h = texts-in (encoding_of walk.before.encoding) (walked_lines walk) h
 ill-formed {walk} {group} (Some number) v (n, is, first) =
     let e = encoding_of walk.before.encoding in
     record {

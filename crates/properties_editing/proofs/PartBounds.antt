@@ -15,8 +15,8 @@ use Rattle.properties_editing.specs.declared.parts.PartKind.TheVariants as kind
 use Rattle.properties_editing.specs.declared.parts.Part.{Part}
 use Rattle.properties_editing.specs.declared.parts.Parts.{Parts}
 use Rattle.properties_editing.specs.Private.BodyParts.{is_empty_part, no_part, parts_behind, taken_all, taken_out, without_lf, without_lf_first}
-use Rattle.properties_editing.specs.Private.ChangedParts.{ClosesLast, ClosesPart, HasAdded, closed_as, with_bytes, with_last}
-use Rattle.properties_editing.specs.Private.PartBounds.{AreBounds, AreEmpty, ArePlainFrom, HasNoPair, HaveNoPair, IsPlain}
+use Rattle.properties_editing.specs.Private.ChangedParts.{ClosesLast, ClosesPart, HasAdded, closed_as, part_with_bytes, with_last}
+use Rattle.properties_editing.specs.Private.PartBounds.{AreBounds, AreEmpty, ArePlainFrom, IsPairless, HaveNoPair, IsWithoutLf}
 use Rattle.properties_editing.specs.Private.PartEndings.{kind_pair, last_some, part_pair}
 use Rattle.properties_editing.specs.Private.RemovedParts.{RemovesPairs, before_end, key_places, without_empty_end}
 use Rattle.properties_editing.specs.Private.SourceParts.{empty_front}
@@ -27,8 +27,8 @@ use Rattle.properties_editing.proofs.PartsLeft.{plus-one}
 
 -- A part that is left in the place of another. If the one has no LF at its front, no pair, or no bytes, nor has the other.
 record Leaves (d : List ℕ) (p q : Part) : Type 0 where
-  plain : IsPlain d p → IsPlain d q
-  none : HasNoPair p → HasNoPair q
+  plain : IsWithoutLf d p → IsWithoutLf d q
+  none : IsPairless p → IsPairless q
   empty : is_empty_part p ≡ true → is_empty_part q ≡ true
 
 abbrev LeavesAll : List ℕ → List Part → List Part → Type 0
@@ -154,8 +154,8 @@ front-removed d key old new told r = front-left d old.parts.items new.parts.item
 
 -- A part in the place of another. If the one has no LF at its front, or no pair, nor has the other.
 record Keeps (d : List ℕ) (p q : Part) : Type 0 where
-  plain : IsPlain d p → IsPlain d q
-  none : HasNoPair p → HasNoPair q
+  plain : IsWithoutLf d p → IsWithoutLf d q
+  none : IsPairless p → IsPairless q
 
 abbrev KeepAll : List ℕ → List Part → List Part → Type 0
 KeepAll d ps qs = (i : ℕ) → Keeps d (get_or ps i no_part) (get_or qs i no_part)
@@ -167,16 +167,16 @@ KeepEmpty ps qs = (i : ℕ) → suc i < length ps → is_empty_part (get_or ps i
 kept : (d : List ℕ) (p : Part) → Keeps d p p
 kept d p = record { plain = λ h. h; none = λ h. h }
 
-keep-set : (d : List ℕ) (bytes : Vec ℕ) (j : ℕ) (ps : List Part) → KeepAll d ps (take j ps ++ with_bytes bytes (get_or ps j no_part) ∷ drop (suc j) ps)
+keep-set : (d : List ℕ) (bytes : Vec ℕ) (j : ℕ) (ps : List Part) → KeepAll d ps (take j ps ++ part_with_bytes bytes (get_or ps j no_part) ∷ drop (suc j) ps)
 keep-set d bytes j ps =
-    around (Keeps d) (kept d) j ps (with_bytes bytes (get_or ps j no_part)) (drop (suc j) ps) (record { plain = λ h. refl; none = λ h. h })
+    around (Keeps d) (kept d) j ps (part_with_bytes bytes (get_or ps j no_part)) (drop (suc j) ps) (record { plain = λ h. refl; none = λ h. h })
     (λ i. kept d (get_or (drop (suc j) ps) i no_part))
 
 -- If the part wasn't empty, those that are still are.
 empty-set : (bytes : Vec ℕ) (j : ℕ) (ps : List Part) → is_empty_part (get_or ps j no_part) ≡ false
-    → KeepEmpty ps (take j ps ++ with_bytes bytes (get_or ps j no_part) ∷ drop (suc j) ps)
+    → KeepEmpty ps (take j ps ++ part_with_bytes bytes (get_or ps j no_part) ∷ drop (suc j) ps)
 empty-set bytes j ps full i inside =
-    around (λ p q. is_empty_part p ≡ true → is_empty_part q ≡ true) (λ p h. h) j ps (with_bytes bytes (get_or ps j no_part)) (drop (suc j) ps)
+    around (λ p q. is_empty_part p ≡ true → is_empty_part q ≡ true) (λ p h. h) j ps (part_with_bytes bytes (get_or ps j no_part)) (drop (suc j) ps)
     (λ h. absurd (cc)) (λ i h. h) i
 
 set-length : (j : ℕ) (q : Part) (ps : List Part) → length ps ≤ length (take j ps ++ q ∷ drop (suc j) ps)
@@ -202,9 +202,9 @@ bounds-kept d b ps qs k e more h =
     )
 
 pub bounds-set : (d : List ℕ) (b : Bounds) (place : ℕ) (bytes : Vec ℕ) (ps qs : List Part) → is_empty_part (get_or ps place no_part) ≡ false
-    → qs ≡ take place ps ++ with_bytes bytes (get_or ps place no_part) ∷ drop (suc place) ps → AreBounds d b ps → AreBounds d b qs
+    → qs ≡ take place ps ++ part_with_bytes bytes (get_or ps place no_part) ∷ drop (suc place) ps → AreBounds d b ps → AreBounds d b qs
 bounds-set d b place bytes ps qs full is h =
-    let p = with_bytes bytes (get_or ps place no_part) in
+    let p = part_with_bytes bytes (get_or ps place no_part) in
     subst (AreBounds d b) (sym is) (bounds-kept d b ps _ (keep-set d bytes place ps) (empty-set bytes place ps full) (set-length place p ps) h)
 
 -- ---- a part that is added
@@ -232,7 +232,7 @@ last-length p (q ∷ r ∷ qs) = ap suc (last-length p (r ∷ qs))
 keep-closed : (d opened : List ℕ) (by : declared.LineEnding) (p q : Part) → ClosesPart d opened by p q → Keeps d p q
 keep-closed d opened by p q c = subst (Keeps d p) (sym c.part) (record { plain = λ h. plain-as p.kind; none = λ h. rw h refl })
   where
-    plain-as : (k : PartKind) → IsPlain d (closed_as c.bytes by k)
+    plain-as : (k : PartKind) → IsWithoutLf d (closed_as c.bytes by k)
     plain-as kind.Pair = refl
     plain-as (kind.Others last) = refl
 
@@ -242,19 +242,19 @@ bounds-closed d b by closing ps None c h = h
 bounds-closed d b by closing ps (Some p) c h =
     bounds-kept d b ps (with_last (Some p) ps) (keep-last d p ps (keep-closed d _ by _ p c.2)) (empty-last p ps) (let m = last-length p ps in omega arith) h
 
-at-push : (d : List ℕ) (q : Part) → IsPlain d q → (ps : List Part) (i : ℕ) → IsPlain d (get_or ps i no_part) → IsPlain d (get_or (ps ++ q ∷ []) i no_part)
+at-push : (d : List ℕ) (q : Part) → IsWithoutLf d q → (ps : List Part) (i : ℕ) → IsWithoutLf d (get_or ps i no_part) → IsWithoutLf d (get_or (ps ++ q ∷ []) i no_part)
 at-push d q is [] zero h = is
 at-push d q is [] (suc i) h = refl
 at-push d q is (p ∷ ps) zero h = h
 at-push d q is (p ∷ ps) (suc i) h = at-push d q is ps i h
 
-bounds-push : (d : List ℕ) (b : Bounds) (ps : List Part) (q : Part) → IsPlain d q → AreBounds d b ps → AreBounds d b (ps ++ q ∷ [])
+bounds-push : (d : List ℕ) (b : Bounds) (ps : List Part) (q : Part) → IsWithoutLf d q → AreBounds d b ps → AreBounds d b (ps ++ q ∷ [])
 bounds-push d b ps q is h = (
   λ i from. at-push d q is ps i (h.0 i from),
   record {
     none = λ i from before.
         let n : i < length ps = (let w = h.1.within in omega arith) in
-        subst HasNoPair (sym (get_or_append_left ps (q ∷ []) no_part i n)) (h.1.none i from before);
+        subst IsPairless (sym (get_or_append_left ps (q ∷ []) no_part i n)) (h.1.none i from before);
     ordered = h.1.ordered;
     within = (let w = h.1.within in let m = length-append ps (q ∷ []) in omega arith);
     empty = λ i from before. still i (let w = h.1.within in omega arith) (h.1.empty i from before);
@@ -321,10 +321,10 @@ plain-within d n m ps h k = λ i from. elim (cases_lt i (length ps)) [
 ]
 
 -- One part more.
-pub plain-before : (d : List ℕ) (n : ℕ) (ps : List Part) (p : Part) → 0 < n → n ≤ length ps → p ≡ get_or ps (n - 1) p → IsPlain d p → ArePlainFrom d n ps
+pub plain-before : (d : List ℕ) (n : ℕ) (ps : List Part) (p : Part) → 0 < n → n ≤ length ps → p ≡ get_or ps (n - 1) p → IsWithoutLf d p → ArePlainFrom d n ps
     → ArePlainFrom d (n - 1) ps
 plain-before d n ps p some within is one h = λ i from. elim (eq-or-lt_of_le from) [
-  | inl at ↦ subst (IsPlain d) (is ∙ get_or_default ps (n - 1) p no_part (omega arith) ∙ ap (λ k. get_or ps k no_part) at) one
+  | inl at ↦ subst (IsWithoutLf d) (is ∙ get_or_default ps (n - 1) p no_part (omega arith) ∙ ap (λ k. get_or ps k no_part) at) one
   | inr behind ↦ h i (omega arith)
 ]
 

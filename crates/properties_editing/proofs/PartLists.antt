@@ -4,7 +4,7 @@ use Rattle.std.proofs.Common.{◌≡◌, ◌<◌, ℕ, zero, suc, ◌+◌, true,
 use Rattle.std.specs.Prelude.{get_or, slice_set, bytes_eq}
 use Rattle.std.proofs.lemmas.List.{set_split, get_or_default}
 use Rattle.properties_editing.specs.declared.parts.Part.{Part}
-use Rattle.properties_editing.specs.Private.BodyParts.{IsTextWithin, AreTextsWithin, is_empty_part, without_lf, without_lf_first, listed, places_in}
+use Rattle.properties_editing.specs.Private.BodyParts.{IsTextWithin, AreTextsWithin, is_empty_part, without_lf, without_lf_first, listed, listed_places}
 use Rattle.properties_editing.proofs.PartsLeft.{plus-one}
 use Rattle.std.proofs.Math.Seq.{take-suc}
 use Rattle.properties_editing.specs.Private.RemovedParts.{before_end, without_empty_end}
@@ -94,7 +94,7 @@ last_pushed [] i = refl
 last_pushed (x ∷ xs) i = ap (λ o. option_or o (Some x)) (last_pushed xs i)
 
 -- Without a last place there is none.
-pub no-last : (p : KeyPlaces) → last_place (places_in p) ≡ None → p.places ≡ None
+pub no-last : (p : KeyPlaces) → last_place (listed_places p) ≡ None → p.places ≡ None
 no-last p none = of-places p.places none
   where
     of-places : (o : Option Places) → last_place (listed o) ≡ None → o ≡ None

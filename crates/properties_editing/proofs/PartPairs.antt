@@ -13,7 +13,7 @@ use Rattle.properties_format.specs.Items.{Entry, Outcome, ignored, given, broken
 use Rattle.properties_format.specs.Items as content
 use Rattle.properties_format.specs.Body.{HeldLine, as_lines, ending_bytes, last_ending}
 use Rattle.properties_format.specs.Computed.Body.{held_groups_of, unended_bytes}
-use Rattle.properties_format.specs.Computed.Edited.{IsSound}
+use Rattle.properties_format.specs.Computed.Edited.{IsSoundOutcome}
 use Rattle.properties_format.specs.Computed.Items.{followed, outcome_of}
 use Rattle.properties_format.specs.Computed.Maps.{first_value}
 use Rattle.properties_format.proofs.Body.Numbers.{entries_in, folded-source}
@@ -30,8 +30,8 @@ use Rattle.properties_format.proofs.Plan.Listed.{guarded}
 use Rattle.properties_format.proofs.Plan.Slots.{slots-merged}
 use Rattle.properties_text.specs.Encoding.{encoding_of}
 use Rattle.properties_items.specs.BorrowedItems.{outcome_pair}
-use Rattle.properties_editing.specs.Private.BodyDocuments.{every, groups_in}
-use Rattle.properties_editing.specs.Private.BodyParts.{outcome, ArePartsOf, IsEnd, NoneNamed, Piece, Said, StandFor, group_said, names_said, piece_said, pieces_groups, value_among, value_if, value_in}
+use Rattle.properties_editing.specs.Private.BodyDocuments.{every, document_groups}
+use Rattle.properties_editing.specs.Private.BodyParts.{outcome, ArePartsOf, IsEnd, NoneNamed, Piece, Said, StandFor, group_said, names_said, piece_said, pieces_groups, value_among, value_if, value_said}
 use Rattle.properties_editing.specs.Private.BodyParts as parts
 use Rattle.properties_editing.specs.Private.EditedParts.{StandForSource}
 use Rattle.properties_editing.specs.Private.KeyOrder.{said_key}
@@ -66,9 +66,9 @@ keys_of pairs = map (λ p. p.0) pairs
 
 -- ---- values and keys by pairs
 
-value-said : {X : Type 0} (f : X → Said) (key : List ℕ) (xs : List X) → value_in key (map f xs) ≡ last_said key (filter_map f xs)
+value-said : {X : Type 0} (f : X → Said) (key : List ℕ) (xs : List X) → value_said key (map f xs) ≡ last_said key (filter_map f xs)
 value-said f key [] = refl
-value-said f key (x ∷ xs) = by (f x) (value_in key (map f xs)) (value-said f key xs)
+value-said f key (x ∷ xs) = by (f x) (value_said key (map f xs)) (value-said f key xs)
   where
     by : (o : Said) (v : Option (List ℕ)) → v ≡ last_said key (filter_map f xs) → option_or v (value_if key o) ≡ last_said key (cons_option o (filter_map f xs))
     by None v same = or-none v ∙ same
@@ -78,7 +78,7 @@ value-said f key (x ∷ xs) = by (f x) (value_in key (map f xs)) (value-said f k
 pub value-groups : (key : List ℕ) (gs : List (List HeldLine)) → value_among key gs ≡ last_said key (pairs_in gs)
 value-groups key gs = value-said group_said key gs
 
-pub value-pieces : (key : List ℕ) (ps : List Piece) → value_in key (map piece_said ps) ≡ last_said key (pairs_of ps)
+pub value-pieces : (key : List ℕ) (ps : List Piece) → value_said key (map piece_said ps) ≡ last_said key (pairs_of ps)
 value-pieces key ps = value-said piece_said key ps
 
 pub keys-pieces : (ps : List Piece) → filter_map said_key (map piece_said ps) ≡ keys_of (pairs_of ps)
@@ -100,7 +100,7 @@ pub value-entries : (n : ℕ) (gs : List (List HeldLine)) (key : List ℕ) → A
 value-entries n [] key s = refl
 value-entries n (g ∷ gs) key s = by (outcome g) (read-line _ s.0) (value-entries (n + length g) gs key s.1)
   where
-    by : (o : Outcome) → IsSound o → entry.value_in (entries_in (n + length g) gs) key ≡ last_said key (pairs_in gs)
+    by : (o : Outcome) → IsSoundOutcome o → entry.value_in (entries_in (n + length g) gs) key ≡ last_said key (pairs_in gs)
         → entry.value_in (followed n o (entries_in (n + length g) gs)) key ≡ last_said key (cons_option (outcome_pair o) (pairs_in gs))
     by ignored s h = h
     by (given (content.comment text)) s h = first-or (entry.value_in (entries_in (n + length g) gs) key) None ∙ or-none _ ∙ h
@@ -113,7 +113,7 @@ pub keys-entries : (n : ℕ) (gs : List (List HeldLine)) → AreSoundFor Read gs
 keys-entries n [] s = refl
 keys-entries n (g ∷ gs) s = by (outcome g) (read-line _ s.0) (keys-entries (n + length g) gs s.1)
   where
-    by : (o : Outcome) → IsSound o → pair_keys (entries_in (n + length g) gs) ≡ keys_of (pairs_in gs)
+    by : (o : Outcome) → IsSoundOutcome o → pair_keys (entries_in (n + length g) gs) ≡ keys_of (pairs_in gs)
         → pair_keys (followed n o (entries_in (n + length g) gs)) ≡ keys_of (cons_option (outcome_pair o) (pairs_in gs))
     by ignored s h = h
     by (given (content.comment text)) s h = h
@@ -127,7 +127,7 @@ abbrev pub pair_entries : ℕ → List (List HeldLine) → List Entry
 pair_entries n [] = []
 pair_entries n (g ∷ gs) = pair_from n (outcome g) (pair_entries (n + length g) gs)
 
-pub pairs-groups : (e : Encoding) (source : List ℕ) → pairs.pairs_of e source ≡ pair_entries 1 (groups_in e source)
+pub pairs-groups : (e : Encoding) (source : List ℕ) → pairs.pairs_of e source ≡ pair_entries 1 (document_groups e source)
 pairs-groups e source = folded-source (λ n x rest. pair_from n (outcome_of x) rest) pairs.pairs_in pair_entries (λ g gs. refl) (λ n g gs. refl) (λ n. refl) e source
 
 pub value-pair_entries : (n : ℕ) (gs : List (List HeldLine)) (key : List ℕ) → entry.value_in (pair_entries n gs) key ≡ last_said key (pairs_in gs)
@@ -163,8 +163,8 @@ sound-escapes n (g ∷ gs) h = let m = by (outcome g) refl h in (m.0, sound-esca
   where
     by : (o : Outcome) → outcome g ≡ o → AreInComments (escapes_from n (joined (as_lines g)) o (escapes_of_body (n + length g) gs))
         → IsSoundFor PassedOver (joined (as_lines g)) × AreInComments (escapes_of_body (n + length g) gs)
-    by ignored is h = (inl (subst IsSound (sym is) tt), h)
-    by (given content) is h = (inl (subst IsSound (sym is) tt), h)
+    by ignored is h = (inl (subst IsSoundOutcome (sym is) tt), h)
+    by (given content) is h = (inl (subst IsSoundOutcome (sym is) tt), h)
     by (broken kind) is h = (inr h.0, h.1)
 
 -- and only then.
@@ -176,7 +176,7 @@ escapes-sound n (g ∷ gs) s = by (outcome g) refl s.0 (escapes-sound (n + lengt
         → AreInComments (escapes_from n (joined (as_lines g)) o (escapes_of_body (n + length g) gs))
     by ignored is k h = h
     by (given content) is k h = h
-    by (broken kind) is (inl k) h = absurd (subst IsSound is k)
+    by (broken kind) is (inl k) h = absurd (subst IsSoundOutcome is k)
     by (broken kind) is (inr k) h = (k, h)
 
 -- ---- the same pairs
@@ -236,7 +236,7 @@ stand-pairs d e gs p s turn =
 
 -- and those of the groups that the bytes have.
 pub source-pairs : {r : Repertoire} {read now : List ℕ} {gs : List (List HeldLine)} {p : SourceParts} (s : StandForSource r read now every gs p)
-    → pairs_in (groups_in r.encoding now) ≡ pairs_of s.stand.pieces
+    → pairs_in (document_groups r.encoding now) ≡ pairs_of s.stand.pieces
 source-pairs {read = read} {now = now} {gs = gs} {p = p} s =
     let f = encoding_of p.opened.encoding in
     let slots = source-slots s in

@@ -12,7 +12,7 @@ use Rattle.properties_format.specs.Items as content
 use Rattle.properties_format.specs.Body.{HeldLine, groups_bytes}
 use Rattle.properties_format.specs.Computed.Body.{has_key, is_pair_with}
 use Rattle.properties_items.specs.BorrowedItems.{outcome_pair}
-use Rattle.properties_editing.specs.Private.BodyParts.{outcome, AreEnded, ArePartsOf, ArePlaced, EndsAlone, IsEnd, IsPartOf, NoneNamed, Piece, Said, group_said, no_part, piece_groups, piece_said, pieces_groups, place_if, places_of, places_with, said_with, stored_of, value_if, value_in, value_of}
+use Rattle.properties_editing.specs.Private.BodyParts.{outcome, AreEnded, ArePartsOf, ArePlaced, EndsAlone, IsEnd, IsPartOf, NoneNamed, Piece, Said, group_said, no_part, piece_groups, piece_said, pieces_groups, place_if, places_of, places_with, said_with, stored_of, value_if, value_said, value_of}
 use Rattle.properties_editing.specs.Private.BodyParts as parts
 use Rattle.properties_editing.specs.declared.parts.Part.{Part}
 use Rattle.properties_editing.specs.declared.parts.KeyPlaces.{KeyPlaces}
@@ -122,9 +122,9 @@ pub or-none : {X : Type 0} (a : Option X) → option_or a None ≡ a
 or-none None = refl
 or-none (Some x) = refl
 
-pub value-append : (key : List ℕ) (ss us : List Said) → value_in key (ss ++ us) ≡ option_or (value_in key us) (value_in key ss)
-value-append key [] us = sym (or-none (value_in key us))
-value-append key (s ∷ ss) us = ap (λ v. option_or v (value_if key s)) (value-append key ss us) ∙ or-assoc (value_in key us) (value_in key ss) (value_if key s)
+pub value-append : (key : List ℕ) (ss us : List Said) → value_said key (ss ++ us) ≡ option_or (value_said key us) (value_said key ss)
+value-append key [] us = sym (or-none (value_said key us))
+value-append key (s ∷ ss) us = ap (λ v. option_or v (value_if key s)) (value-append key ss us) ∙ or-assoc (value_said key us) (value_said key ss) (value_if key s)
 
 -- A pair with another key says nothing of it.
 pub other-value : (key : List ℕ) (s : Said) → said_with key s ≡ false → value_if key s ≡ None
@@ -151,7 +151,7 @@ place-none true n xs q = absurd (cc)
 place-none false n xs q = (refl, q)
 
 -- A key without places has no value.
-pub none-value : (key : List ℕ) (n : ℕ) (ss : List Said) → places_with key n ss ≡ [] → value_in key ss ≡ None
+pub none-value : (key : List ℕ) (n : ℕ) (ss : List Said) → places_with key n ss ≡ [] → value_said key ss ≡ None
 none-value key n [] q = refl
 none-value key n (s ∷ ss) q =
     let m = place-none (said_with key s) n (places_with key (suc n) ss) q in ap₂ option_or (none-value key (suc n) ss m.1) (other-value key s m.0)
@@ -166,13 +166,13 @@ some-said key None h = absurd (cc)
 some-said key (Some (k, v)) h = rw h refl
 
 -- A pair with a key has a value of it.
-pub some-value : (key : List ℕ) (xs : List Said) (s : Said) (ys : List Said) → said_with key s ≡ true → is_some (value_in key (xs ++ s ∷ ys)) ≡ true
-some-value key [] s ys h = (some-or (value_if key s) (value_in key ys) (some-said key s h)).1
-some-value key (x ∷ xs) s ys h = (some-or (value_in key (xs ++ s ∷ ys)) (value_if key x) (some-value key xs s ys h)).0
+pub some-value : (key : List ℕ) (xs : List Said) (s : Said) (ys : List Said) → said_with key s ≡ true → is_some (value_said key (xs ++ s ∷ ys)) ≡ true
+some-value key [] s ys h = (some-or (value_if key s) (value_said key ys) (some-said key s h)).1
+some-value key (x ∷ xs) s ys h = (some-or (value_said key (xs ++ s ∷ ys)) (value_if key x) (some-value key xs s ys h)).0
 
 -- Two lists say the same of a key.
 abbrev pub SayAlike : List ℕ → ℕ → List Said → List Said → Type 0
-SayAlike key n ss us = (places_with key n ss ≡ places_with key n us) × (value_in key ss ≡ value_in key us)
+SayAlike key n ss us = (places_with key n ss ≡ places_with key n us) × (value_said key ss ≡ value_said key us)
 
 pub alike-behind : (key : List ℕ) (ss us : List Said) → ((n : ℕ) → SayAlike key n ss us) → (xs : List Said) (n : ℕ) → SayAlike key n (xs ++ ss) (xs ++ us)
 alike-behind key ss us same [] n = same n
@@ -185,7 +185,7 @@ pub alike-other : (key : List ℕ) (s r : Said) → said_with key s ≡ false �
     → SayAlike key n (xs ++ s ∷ us) (xs ++ r ∷ us)
 alike-other key s r a b xs us n = alike-behind key (s ∷ us) (r ∷ us) (λ m. (
   ap (λ c. place_if c m (places_with key (suc m) us)) (a ∙ sym b),
-  ap (option_or (value_in key us)) (other-value key s a ∙ sym (other-value key r b)),
+  ap (option_or (value_said key us)) (other-value key s a ∙ sym (other-value key r b)),
 )) xs n
 
 -- or come last.
@@ -197,7 +197,7 @@ alike-last key s a xs n =
 -- What is stored of one key changes, and what is said of the others stays.
 pub placed-stored : (key : List ℕ) (x : Option KeyPlaces) (old new : NamedKeys) (ss us : List Said)
     → ((k : List ℕ) → stored_of new.places.entries k ≡ update bytes_eq (stored_of old.places.entries) key x k) → IsOrdered string_cmp new.places
-    → new.all ≡ old.all → ArePlaced ss old → places_of x ≡ places_with key 0 us → (old.all ≡ true → value_of x ≡ value_in key us)
+    → new.all ≡ old.all → ArePlaced ss old → places_of x ≡ places_with key 0 us → (old.all ≡ true → value_of x ≡ value_said key us)
     → ((j : List ℕ) → bytes_eq key j ≡ false → SayAlike j 0 us ss) → ArePlaced us new
 placed-stored key x old new ss us stored ordered all was places value others = record {
   places = λ j. elim (cases_Bool (bytes_eq key j)) [
@@ -205,7 +205,7 @@ placed-stored key x old new ss us stored ordered all was places value others = r
     | inr b ↦ ap places_of (isnt j b) ∙ was.places j ∙ sym (others j b).0
   ];
   values = λ has j. elim (cases_Bool (bytes_eq key j)) [
-    | inl b ↦ ap value_of (is j b) ∙ value (sym all ∙ has) ∙ ap (λ k. value_in k us) ((bytes_eq-Decides key j).0 b)
+    | inl b ↦ ap value_of (is j b) ∙ value (sym all ∙ has) ∙ ap (λ k. value_said k us) ((bytes_eq-Decides key j).0 b)
     | inr b ↦ ap value_of (isnt j b) ∙ was.values (sym all ∙ has) j ∙ sym (others j b).1
   ];
   ordered = ordered;

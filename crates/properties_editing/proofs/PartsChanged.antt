@@ -25,9 +25,9 @@ use Rattle.properties_items.specs.BorrowedItems.{outcome_pair}
 use Rattle.properties_items.specs.Texts.{characters}
 use Rattle.properties_items.specs.Line.{ending_of}
 use Rattle.properties_items.specs.declared.line.LineEnding as declared
-use Rattle.properties_editing.specs.Private.BodyParts.{outcome, ArePartsOf, ArePlaced, EndsAlone, IsPairPart, Piece, Said, StandFor, group_said, names_said, no_part, piece_said, pieces_groups, place_if, places_of, places_with, said_with, stored_of, value_if, value_in, value_of, IsEnd, IsOthersPart, IsPartOf, span_bytes}
+use Rattle.properties_editing.specs.Private.BodyParts.{outcome, ArePartsOf, ArePlaced, EndsAlone, IsPairPart, Piece, Said, StandFor, group_said, names_said, no_part, piece_said, pieces_groups, place_if, places_of, places_with, said_with, stored_of, value_if, value_said, value_of, IsEnd, IsOthersPart, IsPartOf, span_bytes}
 use Rattle.properties_editing.specs.Private.BodyParts as parts
-use Rattle.properties_editing.specs.Private.ChangedParts.{HasBytes, HasValue, closing_after_new, key_place, last_place, with_bytes, with_value, ClosesLast, ClosesPart, HasAdded, IsAsBefore, closed_as, has_to_close, is_pair, opened_by, with_last}
+use Rattle.properties_editing.specs.Private.ChangedParts.{HasBytes, HasNewValue, closing_after_new, key_place, last_place, part_with_bytes, with_value, ClosesLast, ClosesPart, HasAdded, IsAsBefore, closed_as, has_to_close, is_pair, opened_by, with_last}
 use Rattle.properties_editing.specs.declared.parts.PartKind.TheVariants as kind
 use Rattle.properties_editing.specs.declared.parts.Part.{Part}
 use Rattle.properties_editing.specs.declared.parts.KeyPlaces.{KeyPlaces}
@@ -157,7 +157,7 @@ module _ (e : Encoding) (ok : is_editable e ≡ true) (key value x : List ℕ) (
 
   -- A part with these bytes is this pair.
   pub new-part : (d : List ℕ) (named : List ℕ → Bool) (p : Part) → named key ≡ true → p.kind ≡ kind.Pair → parts.IsTextWithin d p.text
-      → parts.text_bytes d p.text ≡ x → option_map ending_of p.ending ≡ o → IsPairPart d named p new
+      → parts.part_text_bytes d p.text ≡ x → option_map ending_of p.ending ≡ o → IsPairPart d named p new
   new-part d named p is kind within bytes ending = record {
     kind = kind;
     within = within;
@@ -200,7 +200,7 @@ some-stored v (Some p) q = refl
 
 -- The last pair with a key has another value.
 placed-with : (key : List ℕ) (v : String Global) (xs : List Said) (s : Said) (ys : List Said) (n : ℕ) (old new : NamedKeys) → said_with key s ≡ true
-    → places_with key n ys ≡ [] → HasValue key v old new → ArePlaced (xs ++ s ∷ ys) old → ArePlaced (xs ++ Some (key, characters v) ∷ ys) new
+    → places_with key n ys ≡ [] → HasNewValue key v old new → ArePlaced (xs ++ s ∷ ys) old → ArePlaced (xs ++ Some (key, characters v) ∷ ys) new
 placed-with key v xs s ys n old new has none k was =
     let stored = stored_of old.places.entries key in
     let r : Said = Some (key, characters v) in
@@ -210,8 +210,8 @@ placed-with key v xs s ys n old new has none k was =
     ∙ ap (λ b. places_with key 0 xs ++ place_if b (0 + length xs) (places_with key (suc (0 + length xs)) ys)) (has ∙ sym own)
     ∙ sym (places-append key 0 xs (r ∷ ys)))
     (λ all. some-stored v stored (ap is_some (was.values all key) ∙ some-value key xs s ys has)
-    ∙ sym (value-append key xs (r ∷ ys) ∙ ap (λ o. option_or (option_or o (value_if key r)) (value_in key xs)) (none-value key n ys none)
-    ∙ ap (λ b. option_or (if b then Some (characters v) else None) (value_in key xs)) own))
+    ∙ sym (value-append key xs (r ∷ ys) ∙ ap (λ o. option_or (option_or o (value_if key r)) (value_said key xs)) (none-value key n ys none)
+    ∙ ap (λ b. option_or (if b then Some (characters v) else None) (value_said key xs)) own))
     (λ j b. alike-other j r s b (other-said key j s has b) xs ys 0)
 
 -- ---- the parts stand for the groups with another
@@ -245,10 +245,10 @@ module _ (e : Encoding) (ok : is_editable e ≡ true) (d : List ℕ) (named : Li
   found = parts-at d named old.parts.items k.before (parts.own k.group) k.after held
 
   -- The part has the bytes of the group.
-  pub found-bytes : parts.text_bytes d (get_or old.parts.items place no_part).text ≡ unended_bytes k.group
+  pub found-bytes : parts.part_text_bytes d (get_or old.parts.items place no_part).text ≡ unended_bytes k.group
   found-bytes =
       let at : place ≡ size = (let a = k.at in omega arith) in
-      ap (λ n. let p : Part = get_or old.parts.items n no_part in parts.text_bytes d p.text) at ∙ found.part.bytes
+      ap (λ n. let p : Part = get_or old.parts.items n no_part in parts.part_text_bytes d p.text) at ∙ found.part.bytes
 
   named-key : named key ≡ true
   named-key = of-said (group_said k.group) (sym (said-key key k.group) ∙ k.has) found.part.is_named_pair
@@ -272,10 +272,10 @@ module _ (e : Encoding) (ok : is_editable e ≡ true) (d : List ℕ) (named : Li
       let at : place ≡ size = let a = k.at in omega arith in
       let old_part = get_or old.parts.items size no_part in
       let next : place + 1 ≡ suc size = omega arith in
-      let items : new.parts.items ≡ take size old.parts.items ++ with_bytes bytes old_part ∷ drop (suc size) old.parts.items =
+      let items : new.parts.items ≡ take size old.parts.items ++ part_with_bytes bytes old_part ∷ drop (suc size) old.parts.items =
       h.parts
-      ∙ ap₂ (λ n m. take n old.parts.items ++ with_bytes bytes (get_or old.parts.items n no_part) ∷ drop m old.parts.items) at next in
-      let own = new-part e ok key (characters value) bytes.items t o d named (with_bytes bytes old_part) named-key found.part.kind tt refl found.part.ending in
+      ∙ ap₂ (λ n m. take n old.parts.items ++ part_with_bytes bytes (get_or old.parts.items n no_part) ∷ drop m old.parts.items) at next in
+      let own = new-part e ok key (characters value) bytes.items t o d named (part_with_bytes bytes old_part) named-key found.part.kind tt refl found.part.ending in
       let said = new-said e ok key (characters value) bytes.items t o in
       let were = ap (map piece_said) k.are_pieces ∙ map-append piece_said k.before (parts.own k.group ∷ k.after) in
       let are = map-append piece_said k.before (parts.own g ∷ k.after) ∙ ap (λ r. map piece_said k.before ++ r ∷ map piece_said k.after) said in
@@ -288,7 +288,7 @@ module _ (e : Encoding) (ok : is_editable e ≡ true) (d : List ℕ) (named : Li
               alone-with k.before (parts.own k.group) k.after (parts.own g ∷ k.after) (same-alone k.group g k.after) (subst EndsAlone k.are_pieces alone));
         };
         are_parts = subst (λ v. ArePartsOf d named v qs) (sym items)
-            (parts-append d named (take size old.parts.items) k.before (with_bytes bytes old_part ∷ drop (suc size) old.parts.items) (parts.own g ∷ k.after)
+            (parts-append d named (take size old.parts.items) k.before (part_with_bytes bytes old_part ∷ drop (suc size) old.parts.items) (parts.own g ∷ k.after)
             found.front (own, found.back));
         placed = subst (λ v. ArePlaced v new.keys) (sym are)
             (placed-with key value (map piece_said k.before) (group_said k.group) (map piece_said k.after) (suc place) old.keys new.keys
@@ -397,7 +397,7 @@ module _ (e : Encoding) (d : List ℕ) (named : List ℕ → Bool) (by : declare
       let is : new ≡ closed_as c.bytes by kind.Pair = c.part ∙ ap (closed_as c.bytes by) p.kind in
       let bytes : c.bytes.items ≡ unended_bytes h =
       c.are_bytes
-      ∙ ap (λ q. parts.text_bytes d old.text ++ (opened ++ parts.ended_bytes (if is_pair q then None else Some by))) p.kind
+      ∙ ap (λ q. parts.part_text_bytes d old.text ++ (opened ++ parts.ended_bytes (if is_pair q then None else Some by))) p.kind
       ∙ ap₂ (λ v w. v ++ w) p.bytes (append-nil opened)
       ∙ sym k.bytes in
       subst (λ v. IsPairPart d named v h) (sym is) (record {
@@ -415,11 +415,11 @@ module _ (e : Encoding) (d : List ℕ) (named : List ℕ → Bool) (by : declare
       let n = length c.bytes.items - length end in
       let s : BodySpan = record { start = 0; end = n } in
       let is : new ≡ closed_as c.bytes by (kind.Others p.last) = c.part ∙ ap (closed_as c.bytes by) p.kind in
-      let text_is : parts.text_bytes d old.text ≡ unended_bytes g = p.bytes ∙ append-nil (group_bytes g) ∙ whole in
+      let text_is : parts.part_text_bytes d old.text ≡ unended_bytes g = p.bytes ∙ append-nil (group_bytes g) ∙ whole in
       let some : unended_bytes g ≢ [] = λ q. p.have.0 (whole ∙ q) in
       let all : c.bytes.items ≡ unended_bytes g ++ (opened ++ end) =
       c.are_bytes
-      ∙ ap (λ q. parts.text_bytes d old.text ++ (opened ++ parts.ended_bytes (if is_pair q then None else Some by))) p.kind
+      ∙ ap (λ q. parts.part_text_bytes d old.text ++ (opened ++ parts.ended_bytes (if is_pair q then None else Some by))) p.kind
       ∙ ap (λ v. v ++ (opened ++ end)) text_is in
       let front : c.bytes.items ≡ unended_bytes h ++ end = all ∙ sym (append_assoc (unended_bytes g) opened end) ∙ ap (λ v. v ++ end) (sym k.bytes) in
       let group : group_bytes h ≡ unended_bytes h ++ end = bytes-unended h ∙ ap (λ o. unended_bytes h ++ ending_bytes o) k.ending in
@@ -439,7 +439,7 @@ module _ (e : Encoding) (d : List ℕ) (named : List ℕ → Bool) (by : declare
         others_text = ap begins_with_lf all ∙ no_lf-left (unended_bytes g) (opened ++ end) some first;
         unnamed = (ap (names_said named) outcome-same ∙ p.unnamed.0, tt);
         last_within = and-within p.last s (omega arith) (omega arith);
-        last_pair = same-said (outcome_pair (outcome g)) (outcome_pair (outcome h)) (parts.bytes_in d old.text) (span_bytes c.bytes.items)
+        last_pair = same-said (outcome_pair (outcome g)) (outcome_pair (outcome h)) (parts.part_span_bytes d old.text) (span_bytes c.bytes.items)
             (unended_bytes g) (unended_bytes h) s p.last p.last_pair (ap₂ take size front ∙ take-append_seam (unended_bytes h) end) outcome-same;
       })
     where

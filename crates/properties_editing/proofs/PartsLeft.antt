@@ -6,7 +6,7 @@ use Rattle.std.proofs.lemmas.Bool.{cases_Bool}
 use Rattle.std.proofs.lemmas.Bool.Decides.{nat_tests}
 use Rattle.properties_items.specs.declared.line.LineEnding as declared
 use Rattle.properties_items.specs.declared.line.LineEnding.TheVariants.{CR, LF, CRLF}
-use Rattle.properties_editing.specs.Private.BodyParts.{AreTextsWithin, IsTextWithin, all_places, cut_text, begins_so, is_empty_part, no_part, parts_behind, taken_all, taken_out, without_lf_first, text_bytes}
+use Rattle.properties_editing.specs.Private.BodyParts.{AreTextsWithin, IsTextWithin, all_places, cut_text, begins_so, is_empty_part, no_part, parts_behind, taken_all, taken_out, without_lf_first, part_text_bytes}
 use Rattle.properties_editing.specs.Private.RemovedParts.{AreBelow, RemovesPairs, before_end, key_places, without_empty_end}
 use Rattle.properties_editing.specs.declared.parts.PartText.{PartText}
 use Rattle.properties_editing.specs.declared.parts.PartText.TheVariants as text
@@ -137,7 +137,7 @@ front_all (p ∷ ps) = let m = front_all ps in omega arith
 
 -- ---- the text that comes first
 
-pub front_text : (d : List ℕ) (ps : List Part) (p : Part) → empty_front ps < length ps → first_text d ps ≡ text_bytes d (get_or ps (empty_front ps) p).text
+pub front_text : (d : List ℕ) (ps : List Part) (p : Part) → empty_front ps < length ps → first_text d ps ≡ part_text_bytes d (get_or ps (empty_front ps) p).text
 front_text d [] p k = absurd (omega arith)
 front_text d (s ∷ ss) p k = elim (cases_Bool (is_empty_part s)) [
   | inl e ↦ let h = rw e at k in rw e (front_text d ss p (omega arith))

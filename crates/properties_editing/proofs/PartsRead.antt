@@ -22,8 +22,8 @@ use Rattle.properties_text.specs.Encoding.{encoding_of}
 use Rattle.properties_items.specs.BorrowedItems.{outcome_pair}
 use Rattle.properties_items.specs.Line.{ending_of}
 use Rattle.properties_editing.specs.Private.Sound.{IsSoundFor, AreSoundFor}
-use Rattle.properties_editing.specs.Private.BodyGroups.{IsWithin, TakesGroup, groups_left, text_of, closing_of}
-use Rattle.properties_editing.specs.Private.BodyParts.{outcome, place_if, length_place, HaveBytes, AddsOther, AddsPair, AddsTold, AreMasked, ArePartsOf, ArePlaced, AreUnplaced, ClosesGap, EndsAlone, HasPlaceAdded, IsPairPart, IsSpanWithin, NoneNamed, Piece, StandFor, ending_read, is_named, last_pair_bytes, names_group, names_said, no_gap, Said, piece_said, others_part, pair_bytes_of, pair_part, part_if, pieces_groups, places_with, span_bytes, span_of_group, stored_of, value_in, value_of}
+use Rattle.properties_editing.specs.Private.BodyGroups.{IsWithin, TakesHeldGroup, groups_left, group_text, closing_of}
+use Rattle.properties_editing.specs.Private.BodyParts.{outcome, place_if, length_place, HaveBytes, AddsOther, AddsReadPair, AddsTold, AreMasked, ArePartsOf, ArePlaced, AreUnplaced, ClosesGap, EndsAlone, HasPlaceAdded, IsPairPart, IsSpanWithin, NoneNamed, Piece, StandFor, ending_read, is_named, last_pair_bytes, names_group, names_said, no_gap, Said, piece_said, others_part, pair_bytes_of, pair_part, part_if, pieces_groups, places_with, span_bytes, span_of_group, stored_of, value_said, value_of}
 use Rattle.std.specs.Int.{bit_at}
 use Rattle.properties_editing.specs.Private.BodyParts as parts
 use Rattle.properties_editing.specs.declared.source.Comments.{Comments}
@@ -270,7 +270,7 @@ module _ (said : List Said) (key value : List ℕ) (place : ℕ) (old new : Name
       placed-stored key (Some k.pair) old new said (said ++ Some (key, value) ∷ []) k.stored k.ordered k.all was
       (k.places ∙ ap₂ (λ v n. v ++ n ∷ []) (was.places key) at ∙ ap (λ b. places_with key 0 said ++ place_if b (0 + length said) []) (sym own)
       ∙ sym (places-append key 0 said (Some (key, value) ∷ [])))
-      (λ all. ap Some (k.has_value all) ∙ ap (λ b. option_or (if b then Some value else None) (value_in key said)) (sym own)
+      (λ all. ap Some (k.has_value all) ∙ ap (λ b. option_or (if b then Some value else None) (value_said key said)) (sym own)
       ∙ sym (value-append key said (Some (key, value) ∷ [])))
       (λ j b. alike-last j (Some (key, value)) b said 0)
 
@@ -301,7 +301,7 @@ ending-after d g rest end next back size =
     (ap₂ (λ m v. take m v) n back ∙ take-append_seam (ending_bytes (last_ending g)) (groups_bytes rest))
     ∙ read-ending (last_ending g)
 
-ends-at : {body : List ℕ} {s t : GroupReader} {group : Group} (k : TakesGroup body s group t) → t.scanner.at ≡ group.end + length (ending_bytes (last_ending k.held))
+ends-at : {body : List ℕ} {s t : GroupReader} {group : Group} (k : TakesHeldGroup body s group t) → t.scanner.at ≡ group.end + length (ending_bytes (last_ending k.held))
 ends-at {body} {s} {t} {group} k =
     let sizes = ap length (bytes-unended k.held) ∙ length-append (unended_bytes k.held) (ending_bytes (last_ending k.held)) in
     let next = k.span.next in
@@ -309,14 +309,14 @@ ends-at {body} {s} {t} {group} k =
     omega arith
 
 -- A group ends before the next one.
-pub group-within : {body : List ℕ} {s t : GroupReader} {group : Group} (k : TakesGroup body s group t) → group.end ≤ t.scanner.at
+pub group-within : {body : List ℕ} {s t : GroupReader} {group : Group} (k : TakesHeldGroup body s group t) → group.end ≤ t.scanner.at
 group-within k = let ends = ends-at k in omega arith
 
 -- ---- a group that isn't a pair with a key that is named
 
 -- Where the groups are in the body.
 read-division : {comments : Comments} {e : Encoding} {body : List ℕ} {groups : List (List HeldLine)} {s t : GroupReader} {group : Group}
-    → HasRead comments e body groups s → (k : TakesGroup body s group t) → held_groups_of e body ≡ groups ++ k.held ∷ groups_left body t
+    → HasRead comments e body groups s → (k : TakesHeldGroup body s group t) → held_groups_of e body ≡ groups ++ k.held ∷ groups_left body t
 read-division {comments} {e} {body} {groups} h k = h.all ∙ ap (λ v. groups ++ v) k.groups
 
 closing-after : (groups others : List (List HeldLine)) (g : List HeldLine) (group : Group) (closing : Closing)
@@ -327,7 +327,7 @@ closing-after groups others g group closing is empty opens same =
     ∙ ap (λ v. closing_of (is_empty_line v) (is_left_open v)) (sym (ap final_group same ∙ final_group-push groups g))
 
 module _ {comments : Comments} {e : Encoding} {body : List ℕ} {keys : NamedKeys} {s t : GroupReader} {group : Group} (old new : Parts) {was : Closing} (gap after : Gap)
-    (h : HasParted comments e body keys s old was gap) (k : TakesGroup body s group t) (sound : IsSoundFor comments (chars (text_of body t group)))
+    (h : HasParted comments e body keys s old was gap) (k : TakesHeldGroup body s group t) (sound : IsSoundFor comments (chars (group_text body t group)))
     (closing : Closing) (closes : closing ≡ closing_of group.is_empty group.is_open) where
   pub parted-other : (told : Option BodySpan) → AddsOther group told gap old after new → names_group (is_named keys) k.held ≡ false
       → IsSpanWithin body told → option_map (span_bytes body) told ≡ pair_bytes_of k.held
@@ -368,7 +368,7 @@ module _ {comments : Comments} {e : Encoding} {body : List ℕ} {keys : NamedKey
 
   -- ---- a pair with a key that is named
 
-  pub parted-pair : (key value : List ℕ) → is_editable e ≡ true → AddsPair body group t.scanner.at key value gap old after new
+  pub parted-pair : (key value : List ℕ) → is_editable e ≡ true → AddsReadPair body group t.scanner.at key value gap old after new
       → outcome_pair (outcome k.held) ≡ Some (key, value) → HasParted comments e body keys t new closing after
   parted-pair key value ok adds said =
       let named = is_named keys in

@@ -13,7 +13,7 @@ use Rattle.properties_format.specs.Plan.{removal}
 use Rattle.properties_format.proofs.InTurn.Lines.{bytes-unended}
 use Rattle.properties_format.proofs.InTurn.Merged.{AreInTurn, after-lf, are_one_ending, one-ending, turn-first, turn-some, after-cr}
 use Rattle.properties_format.proofs.Plan.Slots.{groups_after, last-empty, lf-no_key, no_line, turn-cons, lf-ignored}
-use Rattle.properties_editing.specs.Private.BodyParts.{AreEnded, ArePartsOf, ArePlaced, AreTextsWithin, EndsAlone, IsEnd, IsPartOf, Piece, Said, StandFor, group_said, is_empty_part, no_part, parts_behind, piece_groups, piece_said, pieces_groups, place_if, places_with, said_with, taken_all, taken_out, value_among, value_if, value_in, outcome, IsOthersPart, IsLastWithin, IsOthersText, IsTextWithin, begins_so, cut_text, is_empty_text, last_pair_bytes, pair_bytes_of, span_bytes, text_bytes, without_lf, without_lf_first}
+use Rattle.properties_editing.specs.Private.BodyParts.{AreEnded, ArePartsOf, ArePlaced, AreTextsWithin, EndsAlone, IsEnd, IsPartOf, Piece, Said, StandFor, group_said, is_empty_part, no_part, parts_behind, piece_groups, piece_said, pieces_groups, place_if, places_with, said_with, taken_all, taken_out, value_among, value_if, value_said, outcome, IsOthersPart, IsLastWithin, IsOthersText, IsTextWithin, begins_so, cut_text, is_empty_text, last_pair_bytes, pair_bytes_of, span_bytes, part_text_bytes, without_lf, without_lf_first}
 use Rattle.properties_editing.specs.Private.BodyGroups.{closing_of}
 use Rattle.properties_editing.specs.Private.BodyParts as parts
 use Rattle.properties_editing.specs.Private.RemovedParts.{AreBelow, ForgetsKey, RemovesPairs, before_end, key_places, without_empty_end}
@@ -55,12 +55,12 @@ span-some d s w n =
     ((omega arith), ap₂ take size (drop-cons d s.start 0 (omega arith)))
 
 -- A text with bytes isn't empty.
-pub some-text : (d : List ℕ) (t : PartText) → text_bytes d t ≢ [] → is_empty_text t ≡ false
+pub some-text : (d : List ℕ) (t : PartText) → part_text_bytes d t ≢ [] → is_empty_text t ≡ false
 some-text d (text.Own v) n = refl
 some-text d (text.Span s) n = elim (cases_Bool (s.start == s.end)) [ inl q ↦ absurd (n (span-none d s q)) | inr q ↦ q ]
 
 -- A text that doesn't begin with an LF stays as it is.
-stays : (d : List ℕ) (t : PartText) → lines.begins_with_lf (text_bytes d t) ≡ false → IsTextWithin d t → cut_text d t ≡ t
+stays : (d : List ℕ) (t : PartText) → lines.begins_with_lf (part_text_bytes d t) ≡ false → IsTextWithin d t → cut_text d t ≡ t
 stays d (text.Own v) m w = refl
 stays d (text.Span s) m w = elim (cases_Bool (s.start == s.end)) [
   | inl e ↦ rw e refl
@@ -72,14 +72,14 @@ stays d (text.Span s) m w = elim (cases_Bool (s.start == s.end)) [
 -- A text that begins with an LF is a span, and is cut.
 record IsTextCut (d : List ℕ) (t : PartText) (x : List ℕ) : Type 0 where
   some : is_empty_text t ≡ false
-  bytes : text_bytes d (cut_text d t) ≡ x
+  bytes : part_text_bytes d (cut_text d t) ≡ x
   within : IsTextWithin d (cut_text d t)
   empty : x ≡ [] → is_empty_text (cut_text d t) ≡ true
   others_text : IsOthersText (cut_text d t)
   last_within : (last : Option BodySpan) → IsLastWithin d t last → IsLastWithin d (cut_text d t) last
-  bytes_in : parts.bytes_in d (cut_text d t) ≡ parts.bytes_in d t
+  bytes_in : parts.part_span_bytes d (cut_text d t) ≡ parts.part_span_bytes d t
 
-text-cut : (d : List ℕ) (t : PartText) (x : List ℕ) → IsTextWithin d t → text_bytes d t ≡ line_feed ∷ x → IsOthersText t → IsTextCut d t x
+text-cut : (d : List ℕ) (t : PartText) (x : List ℕ) → IsTextWithin d t → part_text_bytes d t ≡ line_feed ∷ x → IsOthersText t → IsTextCut d t x
 text-cut d (text.Own v) x w b o = let n = ap lines.begins_with_lf b in absurd (cc)
 text-cut d (text.Span s) x w b o = elim (cases_Bool (s.start == s.end)) [
   | inl e ↦ let no : [] ≡ line_feed ∷ x = sym (span-none d s e) ∙ b in absurd (cc)
@@ -94,7 +94,7 @@ text-cut d (text.Span s) x w b o = elim (cases_Bool (s.start == s.end)) [
       let within : IsTextWithin d (text.Span rest) = (more.0, w.1) in
       record {
         some = e;
-        bytes = ap (text_bytes d) is ∙ rest_is;
+        bytes = ap (part_text_bytes d) is ∙ rest_is;
         within = subst (IsTextWithin d) (sym is) within;
         empty = λ y. ap is_empty_text is ∙ elim (cases_Bool (suc s.start == s.end)) [
           | inl t ↦ t
@@ -102,7 +102,7 @@ text-cut d (text.Span s) x w b o = elim (cases_Bool (s.start == s.end)) [
         ];
         others_text = subst IsOthersText (sym is) tt;
         last_within = λ last h. subst (λ v. IsLastWithin d v last) (sym is) h;
-        bytes_in = ap (parts.bytes_in d) is;
+        bytes_in = ap (parts.part_span_bytes d) is;
       }
 ]
 
@@ -171,12 +171,12 @@ module _ (d : List ℕ) (named : List ℕ → Bool) (e : Encoding) (line : List 
 
   -- If no LF comes first, nothing changes.
   first-kept : (p : Part) (ps : List Part) (qs : List Piece) (h : List HeldLine) (gs : List (List HeldLine)) (more : List ℕ) → ArePartsOf d named (p ∷ ps) qs
-      → pieces_groups qs ++ line ≡ h ∷ gs → IsTextWithin d p.text → text_bytes d p.text ≢ [] → groups_bytes (h ∷ gs) ≡ text_bytes d p.text ++ more
+      → pieces_groups qs ++ line ≡ h ∷ gs → IsTextWithin d p.text → part_text_bytes d p.text ≢ [] → groups_bytes (h ∷ gs) ≡ part_text_bytes d p.text ++ more
       → last_ending g ≡ Some format.cr → AreInTurn e (h ∷ gs) → are_one_ending g h ≡ false
       → IsCut d named (without_lf_first d (p ∷ ps)) qs line (behind g (pieces_groups qs ++ line))
   first-kept p ps qs h gs more k s w some bytes l a n =
       let is_some = some-text d p.text some in
-      let own = stays d p.text (front-lf (text_bytes d p.text) more some (sym (ap lines.begins_with_lf bytes) ∙ after-cr e g h gs a l n)) w in
+      let own = stays d p.text (front-lf (part_text_bytes d p.text) more some (sym (ap lines.begins_with_lf bytes) ∙ after-cr e g h gs a l n)) w in
       let part : without_lf_first d (p ∷ ps) ≡ p ∷ ps =
       rw is_some (ap (λ t. let q : Part = record { text = t; ending = p.ending; kind = p.kind } in q ∷ ps) own) in
       let same : behind g (h ∷ gs) ≡ h ∷ gs = rw n refl in
@@ -207,7 +207,7 @@ module _ (d : List ℕ) (named : List ℕ → Bool) (e : Encoding) (line : List 
       })
   lf-cut (p ∷ ps) (parts.own h ∷ qs) k l a =
       let rest = groups_bytes (pieces_groups qs ++ line) in
-      let bytes : group_bytes h ++ rest ≡ text_bytes d p.text ++ (ending_bytes (last_ending h) ++ rest) =
+      let bytes : group_bytes h ++ rest ≡ part_text_bytes d p.text ++ (ending_bytes (last_ending h) ++ rest) =
       ap (λ v. v ++ rest) (bytes-unended h) ∙ append_assoc (unended_bytes h) (ending_bytes (last_ending h)) rest
       ∙ ap (λ v. v ++ (ending_bytes (last_ending h) ++ rest)) (sym k.0.bytes) in
       elim (cases_Bool (are_one_ending g h)) [
@@ -469,7 +469,7 @@ module _ (d : List ℕ) (named : List ℕ → Bool) where
               groups = m.groups ∙ ap pieces_groups nothing;
               alike = λ key n. let a = m.alike key (suc n) in (
                 ap (λ v. places_with key (suc n) (map piece_said v)) (sym nothing) ∙ a.0,
-                ap (λ v. value_in key (map piece_said v)) (sym nothing) ∙ a.1 ∙ sym (or-none (value_in key (map piece_said qs))),
+                ap (λ v. value_said key (map piece_said v)) (sym nothing) ∙ a.1 ∙ sym (or-none (value_said key (map piece_said qs))),
               );
             })
         | inr n ↦ rw n (kept [] m)
@@ -572,7 +572,7 @@ module _ (d : List ℕ) (named : List ℕ → Bool) (e : Encoding) (key : List �
         let pieces_are = says (parts.others []) cut.pieces cut.said in
         let were = ap (map piece_said) k.are_pieces ∙ says (parts.own k.group) k.after refl in (
           ap (places_with j 0) pieces_are ∙ alike.0 ∙ sym (ap (places_with j 0) were) ∙ was.0,
-          ap (value_in j) pieces_are ∙ alike.1 ∙ sym (ap (value_in j) were) ∙ was.1,
+          ap (value_said j) pieces_are ∙ alike.1 ∙ sym (ap (value_said j) were) ∙ was.1,
         )
 
     left-by : AreEnded pieces (front ++ going e k.group rest)
@@ -743,7 +743,7 @@ module _ (d : List ℕ) (named : List ℕ → Bool) (e : Encoding) (key : List �
       some [] q n = absurd (n refl)
       some (i ∷ is) q n =
           let k = own-at key 0 [] i is s.pieces (sym (s.placed.places key) ∙ q) in
-          sym (ap (λ v. is_some (value_in key v)) (ap (map group_said) (own-division gs k s.ended) ∙ map-append group_said (pieces_groups k.before) _)
+          sym (ap (λ v. is_some (value_said key v)) (ap (map group_said) (own-division gs k s.ended) ∙ map-append group_said (pieces_groups k.before) _)
           ∙ some-value key (map group_said (pieces_groups k.before)) (group_said k.group) _ (sym (said-key key k.group) ∙ k.has))
   removed-by false r =
       let m = first [] r.1.none in (

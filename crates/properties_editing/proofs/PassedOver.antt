@@ -15,7 +15,7 @@ use Rattle.properties_format.specs.Computed.Items.{comment_outcome, followed, ou
 use Rattle.properties_format.specs.Computed.Escapes.{meaning_of}
 use Rattle.properties_format.specs.Computed.Split.{split_of}
 use Rattle.properties_format.specs.Computed.Body.{held_groups_of, outcome_key}
-use Rattle.properties_format.specs.Computed.Edited.{IsSound}
+use Rattle.properties_format.specs.Computed.Edited.{IsSoundOutcome}
 use Rattle.properties_format.proofs.Body.Numbers.{items_of-groups, entries_in}
 use Rattle.properties_format.proofs.Edited.Results.{result_of-meets, result-editable, result_by, result_of, result-after}
 use Rattle.properties_format.proofs.Edits.Escapes.{escapes_of_body, malformed_escapes_of-groups}
@@ -30,7 +30,7 @@ use Rattle.properties_editing.specs.declared.source.Comments.TheVariants.{Read, 
 -- ---- one line
 
 -- Where comments are read, nothing in a sound line is malformed.
-pub read-line : (x : List ℕ) → IsSoundFor Read x → IsSound (outcome_of x)
+pub read-line : (x : List ℕ) → IsSoundFor Read x → IsSoundOutcome (outcome_of x)
 read-line x (inl s) = s
 read-line x (inr h) = absurd (cc)
 
@@ -74,7 +74,7 @@ pub items-sound : (n : ℕ) (gs : List (List HeldLine)) → AreSoundFor Read gs 
 items-sound n [] s = tt
 items-sound n (g ∷ gs) s = of-outcome (outcome_of (joined (as_lines g))) (read-line _ s.0) (items-sound (n + length g) gs s.1)
   where
-    of-outcome : (o : Outcome) → IsSound o → AreItems (entries_in (n + length g) gs) → AreItems (followed n o (entries_in (n + length g) gs))
+    of-outcome : (o : Outcome) → IsSoundOutcome o → AreItems (entries_in (n + length g) gs) → AreItems (followed n o (entries_in (n + length g) gs))
     of-outcome ignored s h = h
     of-outcome (given content) s h = h
     of-outcome (broken kind) s h = absurd s
@@ -96,7 +96,7 @@ pairs-step : (n : ℕ) (x : List ℕ) (o : Outcome) (ms : List MalformedEscape) 
     → result_by_pairs (escapes_from n x o ms) made ≡ result_by_pairs ms made
 pairs-step n x ignored ms made s h = refl
 pairs-step n x (given content) ms made s h = refl
-pairs-step n x (broken kind) ms made s (inl h) = absurd (subst IsSound (sym s) h)
+pairs-step n x (broken kind) ms made s (inl h) = absurd (subst IsSoundOutcome (sym s) h)
 pairs-step n x (broken kind) ms made s (inr h) = cond-true (is_comment_line x) _ _ h
 
 pairs-after : (n : ℕ) (gs hs : List (List HeldLine)) (made : List ℕ) → AreSound gs

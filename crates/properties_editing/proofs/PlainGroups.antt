@@ -6,7 +6,7 @@ use Rattle.std.proofs.Math.Utf8 as std_utf8
 use Rattle.std.proofs.lemmas.Bool.{and_parts}
 use Rattle.std.proofs.lemmas.List.{take-append-drop, length-take-le, length-drop}
 use Rattle.std.proofs.lemmas.Str.{chars-append, encodes-chars, scalars-chars, IsUtf8-take, IsUtf8-drop, length-le-encodes}
-use Rattle.properties_format.specs.Text.{characters}
+use Rattle.properties_format.specs.Text.{piece_characters}
 use Rattle.properties_format.specs.Encoding.{Encoding, windows_1252, utf_8, utf_16le, utf_16be}
 use Rattle.properties_format.specs.Edited.{is_editable}
 use Rattle.properties_format.specs.Computed.Cut.{decoded_line}
@@ -37,7 +37,7 @@ bytes-head (suc n) (b ∷ d) l =
 
 bytes-count : (d : List ℕ) → length (decoded_line windows_1252 d) ≡ length d
 bytes-count [] = ap length (decoded-nil windows_1252)
-bytes-count (b ∷ d) = ap (λ ps. length (characters ps)) (pieces_of-step windows_1252 b d) ∙ ap suc (bytes-count d)
+bytes-count (b ∷ d) = ap (λ ps. length (piece_characters ps)) (pieces_of-step windows_1252 b d) ∙ ap suc (bytes-count d)
 
 few-chars : (x : List ℕ) → IsUtf8 x → length (chars x) ≤ length x
 few-chars x u = let l = length-le-encodes (chars x) in let s : length (encode_utf8_all (chars x)) ≡ length x = ap length (encodes-chars x u) in omega arith

@@ -9,7 +9,7 @@ use Rattle.properties_format.specs.Lines.{joined}
 use Rattle.properties_format.specs.Body.{HeldLine, as_lines}
 use Rattle.properties_format.specs.Edited.{is_editable, is_empty_line}
 use Rattle.properties_format.specs.Computed.Body.{has_key}
-use Rattle.properties_format.specs.Computed.Edited.{IsSound}
+use Rattle.properties_format.specs.Computed.Edited.{IsSoundOutcome}
 use Rattle.properties_format.proofs.Body.Decoded.{decoded-nil}
 use Rattle.properties_format.proofs.Edited.Fronts.{outcome-empty}
 use Rattle.properties_format.proofs.InTurn.Merged.{AreInTurn, are_one_ending}
@@ -23,9 +23,9 @@ use Rattle.properties_editing.proofs.PartsChanged.{group-closed, IsPairText, new
 use Rattle.properties_editing.proofs.PartsRemoved.{left_of}
 
 pub empty-sound : (e : Encoding) → IsSoundFor PassedOver (joined (as_lines (no_line e ∷ [])))
-empty-sound e = inl (rw (decoded-nil e) (subst IsSound (sym outcome-empty) tt))
+empty-sound e = inl (rw (decoded-nil e) (subst IsSoundOutcome (sym outcome-empty) tt))
 
-pair-sound : (o : Outcome) (key value : List ℕ) → outcome_pair o ≡ Some (key, value) → IsSound o
+pair-sound : (o : Outcome) (key value : List ℕ) → outcome_pair o ≡ Some (key, value) → IsSoundOutcome o
 pair-sound ignored key value q = absurd (cc)
 pair-sound (given (content.comment t)) key value q = absurd (cc)
 pair-sound (given (content.pair k v)) key value q = tt

@@ -27,12 +27,12 @@ use Rattle.properties_format.proofs.Plan.Listed.{guarded}
 use Rattle.properties_text.specs.Encoding.{encoding_of}
 use Rattle.properties_editing.specs.Private.BodyParts as parts
 use Rattle.properties_editing.specs.Private.BodyParts.{ArePartsOf, AreTextsWithin, IsEnd, Piece, StandFor, is_empty_part, is_named, part_bytes, parts_bytes, pieces_groups, value_among}
-use Rattle.properties_editing.specs.Private.SourceParts.{ReadsSource, RemovesKey, empty_front, first_text, lf_if, source_bytes}
+use Rattle.properties_editing.specs.Private.SourceParts.{ReadsSourceParts, RemovesKeyFromParts, empty_front, first_text, lf_if, source_bytes}
 use Rattle.properties_editing.specs.Private.PartBounds.{AreBounds}
 use Rattle.properties_editing.specs.Private.RemovedParts.{AreBelow, key_places}
 use Rattle.properties_editing.specs.Private.EditedParts.{StandForSource}
 use Rattle.properties_editing.specs.Private.Sound.{AreSoundFor}
-use Rattle.properties_editing.specs.Private.Sources.{IsInForce}
+use Rattle.properties_editing.specs.Private.Sources.{IsBodyStartOf}
 use Rattle.properties_editing.specs.declared.parts.Part.{Part}
 use Rattle.properties_editing.specs.declared.source.BodyStart.{BodyStart}
 use Rattle.properties_editing.specs.declared.source.Comments.{Comments}
@@ -100,7 +100,7 @@ pieces-mark d named e line z (p ∷ ps) (q ∷ qs) k t = elim (cases_Bool (is_em
 ]
   where
     of-piece : (q : Piece) → parts.IsPartOf d named p q → is_empty_part p ≡ false → IsTail e (pieces_groups (q ∷ qs) ++ line)
-        → begins_like_bom (parts.text_bytes d p.text) ≡ begins_like_bom (groups_bytes (pieces_groups (q ∷ qs) ++ line))
+        → begins_like_bom (parts.part_text_bytes d p.text) ≡ begins_like_bom (groups_bytes (pieces_groups (q ∷ qs) ++ line))
     of-piece (parts.own g) k some t =
         let rest = pieces_groups qs ++ line in ap begins_like_bom k.bytes ∙ sym (groups-mark g rest (turn-mark e g rest t))
     of-piece (parts.others []) k some t = let no = sym (k.empty refl) ∙ some in absurd (cc)
@@ -155,8 +155,8 @@ source-slots {gs = gs} {p = p} s =
     record { turn = guarded-turn f p.guarded gs s.turn; bytes = guarded-bytes f p.guarded gs ∙ sym s.body }
 
 -- A source that was read stands in parts.
-pub source-read : (r : Repertoire) (read : List ℕ) (comments : Comments) (opened : BodyStart) (keys : NamedKeys) (p : SourceParts) → IsInForce read r opened
-    → ReadsSource comments opened (drop opened.start read) keys (Ok p)
+pub source-read : (r : Repertoire) (read : List ℕ) (comments : Comments) (opened : BodyStart) (keys : NamedKeys) (p : SourceParts) → IsBodyStartOf read r opened
+    → ReadsSourceParts comments opened (drop opened.start read) keys (Ok p)
     → (let gs = held_groups_of (encoding_of opened.encoding) (drop opened.start read) in
     AreSoundFor comments gs × StandForSource r read read (is_named keys) gs p × (p.parts.keys.all ≡ keys.all))
 source-read r read comments opened keys p h reads =
@@ -262,7 +262,7 @@ pub source-again : {r : Repertoire} {read now : List ℕ} {named : List ℕ → 
     → AreBounds (drop old.opened.start read) new.bounds new.parts.parts.items → StandForSource r read result named left new
 source-again {r = r} {read = read} {now = now} {old = old} result body s whole force opened body_is turn stand empty bounds =
     let start = old.opened.start in
-    let again_in : IsInForce result r old.opened = again result body s.in_force whole force in
+    let again_in : IsBodyStartOf result r old.opened = again result body s.in_force whole force in
     let front = bom-front s.in_force in
     let size : start ≡ length (bom_of now) = sym (ap length front ∙ length-take-le start now s.in_force.within) in
     let mark : take start result ≡ take start read = ap₂ take size whole ∙ take-append_seam (bom_of now) body ∙ front ∙ s.mark in
@@ -306,7 +306,7 @@ guards now true xs = elim (cases_Bool (not (begins_like_bom now))) [ inl n ↦ r
 -- If parts stand for a source, they stand for it without the key after they have been removed.
 pub source-removed : {r : Repertoire} {read now : List ℕ} {named : List ℕ → Bool} {gs : List (List HeldLine)} {old : SourceParts} (key : List ℕ)
     (told : Bool) (new : SourceParts)
-    → named key ≡ true → StandForSource r read now named gs old → RemovesKey (drop old.opened.start read) key old told new
+    → named key ≡ true → StandForSource r read now named gs old → RemovesKeyFromParts (drop old.opened.start read) key old told new
     → StandForSource r read (with_key_removed r.encoding now key) named (left_of (encoding_of old.opened.encoding) key gs) new
     × (told ≡ is_some (value_among key gs)) × (new.parts.keys.all ≡ old.parts.keys.all)
 source-removed {r} {read} {now} {named} {gs} {old} key told new is s removes =

@@ -16,7 +16,7 @@ use Rattle.properties_format.specs.Plan.{Change, stay, become, all_stay, at_last
 use Rattle.properties_format.specs.Valued.{value_text}
 use Rattle.properties_format.specs.Computed.Items.{outcome_of}
 use Rattle.properties_format.specs.Computed.Body.{has_key, held_groups_of, held_lines_of, unended_bytes}
-use Rattle.properties_format.specs.Computed.Valued.{between_of, front_of, has_value}
+use Rattle.properties_format.specs.Computed.Valued.{between_of, value_front, has_value}
 use Rattle.properties_format.proofs.Body.Groups.{IsLastFit}
 use Rattle.properties_format.proofs.Edited.LogicalLines.{key-outcome}
 use Rattle.properties_format.proofs.Edited.Made.{has_key-true}
@@ -33,7 +33,7 @@ use Rattle.properties_format.proofs.Valued.Unended.{unended-bytes, unended-joine
 use Rattle.properties_text.specs.Encoding.{encoding_of}
 use Rattle.properties_items.specs.BorrowedItems.{outcome_pair}
 use Rattle.properties_items.specs.Texts.{characters}
-use Rattle.properties_editing.specs.Private.BodyParts.{no_part, text_bytes}
+use Rattle.properties_editing.specs.Private.BodyParts.{no_part, part_text_bytes}
 use Rattle.properties_editing.specs.Private.BodyValues.{IsPairAlone}
 use Rattle.properties_editing.specs.Private.ChangedParts.{HasBytes, key_place}
 use Rattle.properties_editing.specs.Private.EditedParts.{AreEditedParts, StandForSource}
@@ -83,7 +83,7 @@ module _ (r : Repertoire) (ok : is_editable r.encoding ≡ true) (key value : Li
   alone-change h is first = ap (value_change r value first) (same-alone h is) ∙ value-with r key value first o None g ok a has
 
   -- The bytes of its front and the value read as the pair.
-  pub new-text : (first : Bool) (x : List ℕ) → value_change r value first g ≡ become x → x ≡ front_of e alone ++ encoded_text e (value_text r (between_of alone) value)
+  pub new-text : (first : Bool) (x : List ℕ) → value_change r value first g ≡ become x → x ≡ value_front e alone ++ encoded_text e (value_text r (between_of alone) value)
       → IsPairText e key value x
   new-text first x makes is =
       let h = has_key-true key g has in
@@ -110,7 +110,7 @@ module _ {r : Repertoire} {read now : List ℕ} {named : List ℕ → Bool} {gs 
   t = in_encoding r f
 
   abbrev pair : List ℕ
-  pair = text_bytes (drop old.opened.start read) (get_or old.parts.parts.items place no_part).text
+  pair = part_text_bytes (drop old.opened.start read) (get_or old.parts.parts.items place no_part).text
 
   abbrev own : IsLastOwn key place s.stand.pieces
   own = found-own (drop old.opened.start read) named gs old.parts key place s.stand (sym at)
@@ -150,20 +150,20 @@ module _ {r : Repertoire} {read now : List ℕ} {named : List ℕ → Bool} {gs 
 
   -- The pair got other bytes.
   pub source-valued : (group : List HeldLine) (bytes : Vec ℕ) (text : String Global) (new : Parts) → held_groups_of f pair ≡ group ∷ [] → has_value value group ≡ false
-      → characters text ≡ value → bytes.items ≡ front_of f group ++ encoded_text f (value_text (used_in old.opened) (between_of group) value)
+      → characters text ≡ value → bytes.items ≡ value_front f group ++ encoded_text f (value_text (used_in old.opened) (between_of group) value)
       → HasBytes place key bytes text old.parts new → AreEditedParts r (set_value key value) read now named (record old { parts = new })
   source-valued group bytes text new one other said made h =
       let result = with_value_set r now key value in
       let own_one = ap (held_groups_of f) (sym pair-bytes) ∙ one in
-      let bytes_are : bytes.items ≡ front_of f group ++ encoded_text f (value_text t (between_of group) value) =
-      made ∙ ap (λ u. front_of f group ++ encoded_text f (value_text u (between_of group) value)) (used-own s.in_force) in
+      let bytes_are : bytes.items ≡ value_front f group ++ encoded_text f (value_text t (between_of group) value) =
+      made ∙ ap (λ u. value_front f group ++ encoded_text f (value_text u (between_of group) value)) (used-own s.in_force) in
       let makes : value_change t value first own.group ≡ become bytes.items =
       sym (alone-change t s.in_force.editable key value v own.group lines.0 lines.1 lines.2 own.has group own_one first)
-      ∙ ap (λ b. if b then stay else become (front_of f group ++ encoded_text f (value_text t (between_of group) value))) other
+      ∙ ap (λ b. if b then stay else become (value_front f group ++ encoded_text f (value_text t (between_of group) value))) other
       ∙ ap become (sym bytes_are) in
       let same = same-alone t s.in_force.editable key value v own.group lines.0 lines.1 lines.2 own.has group own_one in
       let is_text = new-text t s.in_force.editable key value v own.group lines.0 lines.1 lines.2 own.has first bytes.items makes
-      (bytes_are ∙ ap (λ g. front_of f g ++ encoded_text f (value_text t (between_of g) value)) same) in
+      (bytes_are ∙ ap (λ g. value_front f g ++ encoded_text f (value_text t (between_of g) value)) same) in
       let edited = (value_set-is_planned r now key value result (editable s.in_force)).1 refl in
       record {
         result = result;
@@ -183,7 +183,7 @@ module _ {r : Repertoire} {read now : List ℕ} {named : List ℕ → Bool} {gs 
       let own_one = ap (held_groups_of f) (sym pair-bytes) ∙ one in
       let stays : value_change t value first own.group ≡ stay =
       sym (alone-change t s.in_force.editable key value v own.group lines.0 lines.1 lines.2 own.has group own_one first)
-      ∙ ap (λ b. if b then stay else become (front_of f group ++ encoded_text f (value_text t (between_of group) value))) there in
+      ∙ ap (λ b. if b then stay else become (value_front f group ++ encoded_text f (value_text t (between_of group) value))) there in
       let front = guarded f old.guarded (before s key place own) in
       let back = after s key place own in
       let plan = changed-plan s key place own (value_change t value) ∙ ap (λ c. Some (all_stay front ++ c ∷ all_stay back)) stays in

@@ -59,44 +59,44 @@ OpensView requested source (Ok v) = IsViewOf requested source v
 OpensView requested source (Err e) = (is_editable (byte_order_mark requested source).encoding ≡ false) × IsBareError error.Unsupported e
 
 -- the logical line of the group; an empty one if there is none
-abbrev pub line_of : OpenView → List ℕ
-line_of v = joined (as_lines v.group)
+abbrev pub viewed_line : OpenView → List ℕ
+viewed_line v = joined (as_lines v.group)
 
 -- where the group's last line ending begins
 abbrev pub end_of : OpenView → ℕ
 end_of v = v.start + (length (group_bytes v.group) - length (ending_bytes (last_ending v.group)))
 
-abbrev pub kind_of : Logical → GroupKind
-kind_of blank = kind.Blank
-kind_of (comment text) = kind.Comment
-kind_of (pair key value) = kind.Pair
+abbrev pub group_kind : Logical → GroupKind
+group_kind blank = kind.Blank
+group_kind (comment text) = kind.Comment
+group_kind (pair key value) = kind.Pair
 
 -- the view after its group
-abbrev pub past : OpenView → OpenView
-past v = record v { group = []; start = v.start + length (group_bytes v.group); passed = v.passed + length v.group }
+abbrev pub past_group : OpenView → OpenView
+past_group v = record v { group = []; start = v.start + length (group_bytes v.group); passed = v.passed + length v.group }
 
 -- What is told of the group.
 pub record IsGroup (v : OpenView) (group : ViewedGroup) : Type 0 where
   pub what : Logical
-  pub is_split : IsSplit (line_of v) what
-  pub kind_is : group.kind ≡ kind_of what
+  pub is_split : IsSplit (viewed_line v) what
+  pub kind_is : group.kind ≡ group_kind what
   pub line_number : group.line_number ≡ v.passed + 1
   pub line_count : group.line_count ≡ length v.group
   pub start : group.start ≡ v.start
   pub end : group.end ≡ end_of v
-  pub next : group.next ≡ (past v).start
+  pub next : group.next ≡ (past_group v).start
 
 -- The next group was given,
 pub record TakesNext (old : OpenView) (group : ViewedGroup) (new : OpenView) : Type 0 where
   pub takes : old.to_come ≡ new.group ∷ new.to_come
-  pub moves : new ≡ record (past old) { group = new.group; to_come = new.to_come }
+  pub moves : new ≡ record (past_group old) { group = new.group; to_come = new.to_come }
   pub is_group : IsGroup new group
 
 -- or there is none; or memory ran out, and the same groups are to come.
 abbrev pub GivesNext : {E : Type 0} → OpenView → Result (Option ViewedGroup) E → OpenView → Type 0
-GivesNext old (Ok None) new = (old.to_come ≡ []) × (new ≡ past old)
+GivesNext old (Ok None) new = (old.to_come ≡ []) × (new ≡ past_group old)
 GivesNext old (Ok (Some group)) new = TakesNext old group new
-GivesNext old (Err e) new = new ≡ past old
+GivesNext old (Err e) new = new ≡ past_group old
 
 -- ---- texts as they stand
 
@@ -110,13 +110,13 @@ abbrev pub IsRawKey : List ℕ → List ℕ → Type 0
 IsRawKey x key = (what : Logical) × IsKeyOf x key what
 
 -- The value of a pair; or the text of a comment; or nothing.
-abbrev pub value_in : Logical → List ℕ
-value_in blank = []
-value_in (comment text) = text
-value_in (pair key value) = value
+abbrev pub text_or_value : Logical → List ℕ
+text_or_value blank = []
+text_or_value (comment text) = text
+text_or_value (pair key value) = value
 
 abbrev pub IsRawValue : List ℕ → List ℕ → Type 0
-IsRawValue x value = (what : Logical) × IsSplit x what × (value ≡ value_in what)
+IsRawValue x value = (what : Logical) × IsSplit x what × (value ≡ text_or_value what)
 
 -- ---- places
 
@@ -158,14 +158,14 @@ abbrev pub places_at : ℕ → PartPlaces
 places_at end = record { key_start = end; key_end = end; value_start = end; value_end = end }
 
 pub record AreOfComment (v : OpenView) (text : List ℕ) (places : PartPlaces) : Type 0 where
-  pub is_comment : IsComment (line_of v) text
+  pub is_comment : IsComment (viewed_line v) text
   pub key_start : EndsAt v is_comment.indent places.key_start
   pub key_end : EndsAt v (is_comment.indent ++ is_comment.sign ∷ []) places.key_end
   pub value_start : EndsAt v (is_comment.indent ++ is_comment.sign ∷ is_comment.trimmed.before) places.value_start
   pub value_end : EndsAt v (is_comment.indent ++ is_comment.sign ∷ (is_comment.trimmed.before ++ text)) places.value_end
 
 pub record AreOfPair (v : OpenView) (key value : List ℕ) (places : PartPlaces) : Type 0 where
-  pub is_pair : IsPair (line_of v) key value
+  pub is_pair : IsPair (viewed_line v) key value
   pub key_start : EndsAt v is_pair.indent places.key_start
   pub key_end : EndsAt v (is_pair.indent ++ key) places.key_end
   pub value_start : EndsAt v (is_pair.indent ++ (key ++ is_pair.between)) places.value_start
@@ -173,7 +173,7 @@ pub record AreOfPair (v : OpenView) (key value : List ℕ) (places : PartPlaces)
 
 -- The places of the parts, by what the group is: each is the end of the text before it.
 abbrev pub ArePlacesOf : OpenView → PartPlaces → Logical → Type 0
-ArePlacesOf v places blank = AreBlanks (line_of v) × (places ≡ places_at (end_of v))
+ArePlacesOf v places blank = AreBlanks (viewed_line v) × (places ≡ places_at (end_of v))
 ArePlacesOf v places (comment text) = AreOfComment v text places
 ArePlacesOf v places (pair key value) = AreOfPair v key value places
 
@@ -195,8 +195,8 @@ pub record BreaksBehind (front text : List ℕ) (how : Malformed) (before : List
   pub breaks : Breaks text how
   pub before_is : before ≡ front ++ spellings_before breaks.spellings []
 
-abbrev pub IsWhole : List ℕ → Type 0
-IsWhole text = (meant : List ℕ) × Means text meant
+abbrev pub IsMeaningful : List ℕ → Type 0
+IsMeaningful text = (meant : List ℕ) × Means text meant
 
 -- The first malformed escape of a logical line comes behind this text of it: in a comment's text; or in a pair's key,
 -- or in its value if the key has none.
@@ -205,20 +205,20 @@ BreaksLine x how before blank = ⊥
 BreaksLine x how before (comment text) = (c : IsComment x text) × BreaksBehind (c.indent ++ c.sign ∷ c.trimmed.before) text how before
 BreaksLine x how before (pair key value) =
     (p : IsPair x key value)
-    × (BreaksBehind p.indent key how before ⊎ IsWhole key × BreaksBehind (p.indent ++ (key ++ p.between)) value how before)
+    × (BreaksBehind p.indent key how before ⊎ IsMeaningful key × BreaksBehind (p.indent ++ (key ++ p.between)) value how before)
 
 -- Or it has none.
-abbrev pub AreWhole : Logical → Type 0
-AreWhole blank = Unit {0}
-AreWhole (comment text) = IsWhole text
-AreWhole (pair key value) = IsWhole key × IsWhole value
+abbrev pub AreMeaningful : Logical → Type 0
+AreMeaningful blank = Unit {0}
+AreMeaningful (comment text) = IsMeaningful text
+AreMeaningful (pair key value) = IsMeaningful key × IsMeaningful value
 
 -- The first malformed escape of the group: the cut is behind its backslash.
 pub record IsFlaw (v : OpenView) (flaw : Flaw) : Type 0 where
   pub what : Logical
   pub how : Malformed
   pub before : List ℕ
-  pub breaks : BreaksLine (line_of v) how before what
+  pub breaks : BreaksLine (viewed_line v) how before what
   pub kind_is : flaw.kind ≡ malformed_kind how
   pub cut : IsCutBehind v.encoding v.group (before ++ backslash ∷ [])
   pub place : flaw.place + 1 ≡ v.start + size_before cut
@@ -226,7 +226,7 @@ pub record IsFlaw (v : OpenView) (flaw : Flaw) : Type 0 where
   pub column : flaw.column ≡ length cut.head
 
 abbrev pub TellsFlaw : OpenView → Option Flaw → Type 0
-TellsFlaw v None = (what : Logical) × IsSplit (line_of v) what × AreWhole what
+TellsFlaw v None = (what : Logical) × IsSplit (viewed_line v) what × AreMeaningful what
 TellsFlaw v (Some flaw) = IsFlaw v flaw
 
 -- ---- ill-formed lines

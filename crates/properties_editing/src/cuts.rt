@@ -6,7 +6,7 @@ ghost use Rattle.properties_format.specs.Computed.Cut.{decoded_line};
 ghost use Rattle.properties_format.specs.Computed.Valued.{head_of};
 ghost use Rattle.properties_text.specs.Encoding.{encoding_of};
 ghost use Rattle.properties_lines.specs.LineSearch.{unit_size};
-ghost use Rattle.properties_lines.specs.Private.HeldLines.{lines_left};
+ghost use Rattle.properties_lines.specs.Private.HeldLines.{held_lines_left};
 ghost use Rattle.properties_editing.specs.Private.BodyGroups.{IsWithin};
 ghost use Rattle.properties_editing.specs.Private.BodyCuts.{adds, cut_at, indent_size, placed};
 
@@ -33,7 +33,7 @@ pub struct Cut {
 pub fn find_cut(lines: GroupReader, body: &[u8], count: usize) -> Result<Cut, AllocError>
     requires { IsWithin body.now lines }
     ensures { let s = lines.scanner in IfOk result (λ cut.
-        cut ≡ placed s.at s.passed (cut_at (encoding_of s.encoding) true count (lines_left body.now s))) }
+        cut ≡ placed s.at s.passed (cut_at (encoding_of s.encoding) true count (held_lines_left body.now s))) }
 {
     let mut lines = lines;
     let mut wanted = count;

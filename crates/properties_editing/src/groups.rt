@@ -6,7 +6,7 @@ ghost use Rattle.properties_text.specs.Encoding.{encoding_of};
 ghost use Rattle.properties_lines.specs.LineSearch.{unit_size};
 ghost use Rattle.properties_lines.specs.LogicalLine.{TellsLine, is_natural};
 ghost use Rattle.properties_lines.specs.Scanner.{HasRightFlags};
-ghost use Rattle.properties_editing.specs.Private.BodyGroups.{closing_of, IsWithin, FindsLine, GivesGroup, IsBegun, JoinsGroup, IsFirstGroup, text_of, IsTextHeld};
+ghost use Rattle.properties_editing.specs.Private.BodyGroups.{closing_of, IsWithin, FindsLine, GivesGroup, IsBegun, JoinsReadGroup, IsFirstGroup, group_text, IsTextHeld};
 ghost use Rattle.properties_editing.specs.Private.BodyParts.{span_of_group};
 
 use crate::bytes::BodySpan;
@@ -126,7 +126,7 @@ impl GroupReader {
     /// Returns the logical line of the group that was returned last.
     pub fn line<'a>(&'a self, body: &'a [u8], group: Group) -> &'a str
         requires { IsTextHeld body.now self.now group }
-        ensures { result.now ≡ text_of body.now self.now group }
+        ensures { result.now ≡ group_text body.now self.now group }
     {
         self.line.as_str(&body[group.start..group.end])
     }
@@ -187,7 +187,7 @@ impl GroupReader {
     // decodes the logical line.
     fn join(&mut self, body: &[u8], group: Group) -> Result<Group, AllocError>
         requires { IsBegun body.now self.old group }
-        ensures { IfOk result (λ joined. JoinsGroup body.now self.old group joined self.new) }
+        ensures { IfOk result (λ joined. JoinsReadGroup body.now self.old group joined self.new) }
     {
         let mut joined = group;
         while joined.is_open && self.find_line(body)? {

@@ -14,7 +14,7 @@ ghost use Rattle.properties_text.specs.Printing.{AppendsOnOk};
 ghost use Rattle.properties_lines.specs.LineSearch.{unit_size};
 ghost use Rattle.properties_items.specs.Texts.{characters};
 ghost use Rattle.properties_editing.specs.Private.BodyValues.{IsGroupAlone, unended_pair};
-ghost use Rattle.properties_editing.specs.Private.Sources.{PrintsIn, printed_in};
+ghost use Rattle.properties_editing.specs.Private.Sources.{PrintsIn, printed_repertoire};
 ghost use Rattle.properties_format.specs.Encoding.{latin_1_in, output_encoding};
 
 use crate::groups::first_group;
@@ -37,7 +37,7 @@ pub fn print_new(
     key: &str,
     value: &str,
 ) -> Result<(), AllocError>
-    ensures { AppendsOnOk line.old (pair_bytes (printed_in opened) first (chars key.now) (chars value.now)) result line.new }
+    ensures { AppendsOnOk line.old (pair_bytes (printed_repertoire opened) first (chars key.now) (chars value.now)) result line.new }
 {
     let layout = PairLayout {
         repertoire: repertoire_of(opened),
@@ -58,7 +58,7 @@ pub fn print_new_pair(
     value: &str,
 ) -> Result<(), AllocError>
     requires { is_good_separator (chars separator.now) ≡ true }
-    ensures { AppendsOnOk line.old (unended_pair (printed_in opened) first (chars key.now) (chars separator.now) (chars value.now)) result line.new }
+    ensures { AppendsOnOk line.old (unended_pair (printed_repertoire opened) first (chars key.now) (chars separator.now) (chars value.now)) result line.new }
 {
     let repertoire = repertoire_of(opened);
     let layout = PairLayout {
@@ -140,7 +140,7 @@ fn push_shortened(short: &mut String, was_blank: bool, character: char) -> Resul
 /// Returns the characters that an edit prints as they are: all that the encoding has, those of them whose bytes
 /// ISO 8859-1 reads alike, or those of ASCII.
 pub fn repertoire_of(opened: BodyStart) -> Repertoire
-    ensures { PrintsIn (printed_in opened) result }
+    ensures { PrintsIn (printed_repertoire opened) result }
 {
     if opened.ascii_only {
         return Repertoire::Ascii;

@@ -7,11 +7,11 @@ ghost use Rattle.properties_format.specs.Valued.{value_text};
 ghost use Rattle.properties_text.specs.Encoding.{encoding_of};
 ghost use Rattle.properties_text.specs.Printing.{AppendsOnOk};
 ghost use Rattle.properties_lines.specs.LineSearch.{unit_size};
-ghost use Rattle.properties_format.specs.Computed.Edited.{IsSound};
+ghost use Rattle.properties_format.specs.Computed.Edited.{IsSoundOutcome};
 ghost use Rattle.properties_format.specs.Computed.Items.{outcome_of};
 ghost use Rattle.properties_format.specs.Computed.Valued.{is_pair_to};
 ghost use Rattle.properties_editing.specs.Private.BodyValues.{GivesValue, IsBetweenAt, IsPairAlone};
-ghost use Rattle.properties_editing.specs.Private.Sources.{printed_in, used_in};
+ghost use Rattle.properties_editing.specs.Private.Sources.{printed_repertoire, used_in};
 
 use crate::groups::first_group;
 use crate::layout::{front_size, separator_span};
@@ -61,7 +61,7 @@ pub fn new_value(
 // value. No escape of the line is malformed.
 fn has_value(alloc: Global, line: &str, separator: Span, value: &str) -> Result<bool, AllocError>
     requires separator { IsBetweenAt line.now separator }
-    requires sound { IsSound (outcome_of (chars line.now)) }
+    requires sound { IsSoundOutcome (outcome_of (chars line.now)) }
     ensures { IfOk result (λ answer. answer ≡ is_pair_to (chars value.now) (outcome_of (chars line.now))) }
 {
     match unescape(alloc, &line[separator.end..]) {
@@ -78,7 +78,7 @@ fn print_value_after(
     separator: &str,
     value: &str,
 ) -> Result<(), AllocError>
-    ensures { AppendsOnOk line.old (encoded_text (printed_in opened).encoding (value_text (printed_in opened) (chars separator.now) (chars value.now))) result line.new }
+    ensures { AppendsOnOk line.old (encoded_text (printed_repertoire opened).encoding (value_text (printed_repertoire opened) (chars separator.now) (chars value.now))) result line.new }
 {
     let repertoire = repertoire_of(opened);
     if separator.is_empty() {

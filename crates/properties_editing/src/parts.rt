@@ -2,7 +2,7 @@
 
 ghost use Rattle.std.specs.Prelude.{◌≡◌, false, Some};
 ghost use Rattle.properties_format.specs.Text.{is_empty};
-ghost use Rattle.properties_editing.specs.Private.BodyParts.{IsLastWithin, IsTextWithin, is_empty_part, text_bytes, bytes_in};
+ghost use Rattle.properties_editing.specs.Private.BodyParts.{IsLastWithin, IsTextWithin, is_empty_part, part_text_bytes, part_span_bytes};
 
 use crate::bytes::{BodySpan, bytes_at};
 use crate::groups::Closing;
@@ -114,7 +114,7 @@ pub struct EmptyRun {
 // Returns the bytes of a part's text.
 fn bytes_of<'a>(body: &'a [u8], text: &'a PartText) -> &'a [u8]
     requires { IsTextWithin body.now text.now }
-    ensures { result.now ≡ text_bytes body.now text.now }
+    ensures { result.now ≡ part_text_bytes body.now text.now }
 {
     match text {
         PartText::Span(span) => bytes_at(body, *span),
@@ -125,7 +125,7 @@ fn bytes_of<'a>(body: &'a [u8], text: &'a PartText) -> &'a [u8]
 // Returns the bytes of a span where a text is: in the body, or in own bytes.
 fn bytes_in<'a>(body: &'a [u8], text: &'a PartText, span: BodySpan) -> &'a [u8]
     requires { IsLastWithin body.now text.now (Some span) }
-    ensures { result.now ≡ bytes_in body.now text.now span }
+    ensures { result.now ≡ part_span_bytes body.now text.now span }
 {
     match text {
         PartText::Span(_) => bytes_at(body, span),

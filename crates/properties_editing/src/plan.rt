@@ -13,7 +13,7 @@ ghost use Rattle.properties_editing.specs.Private.BodyParts.{AreUnplaced, is_nam
 ghost use Rattle.properties_editing.specs.Private.ChangedParts.{key_place};
 ghost use Rattle.properties_editing.specs.Private.EditedParts.{AreNamed, EditsParts, HaveParts, IsPairIn, RemovesFromParts, between_last, edit_key};
 ghost use Rattle.properties_editing.specs.Private.Sound.{Returns};
-ghost use Rattle.properties_editing.specs.Private.Sources.{IsInForce, borrowed_edit_in};
+ghost use Rattle.properties_editing.specs.Private.Sources.{IsBodyStartOf, borrowed_edit_in};
 
 use crate::bytes::concatenated;
 use crate::edit::{BorrowedEdit, Edit};
@@ -66,7 +66,7 @@ fn edit_opened(
     opened: BodyStart,
     edits: &[Edit],
 ) -> Result<Vec<u8>, PropertiesError>
-    requires { IsInForce source.now (asked_for options) opened }
+    requires { IsBodyStartOf source.now (asked_for options) opened }
     ensures { Returns options.comments (encoding_of options.encoding) source.now (AreEdited (asked_for options) source.now (edits_in edits.now)) result }
 {
     let keys = keys_of(alloc, edits)?;

@@ -3,7 +3,7 @@
 ghost use Rattle.std.specs.Prelude.{◌≡◌, ◌<◌, IfOk, OnSome, length};
 ghost use Rattle.std.specs.Str.{chars};
 ghost use Rattle.properties_text.specs.Encoding.{encoding_of};
-ghost use Rattle.properties_editing.specs.Views.{AreOrdered, ArePlaces, GivesNext, IsRawKey, IsRawValue, OpensView, TellsFlaw, TellsIllFormed, line_of};
+ghost use Rattle.properties_editing.specs.Views.{AreOrdered, ArePlaces, GivesNext, IsRawKey, IsRawValue, OpensView, TellsFlaw, TellsIllFormed, viewed_line};
 
 use crate::group::{Flaw, PartPlaces, ViewedGroup};
 use crate::walk::{Walk, WalkedGroup};
@@ -114,7 +114,7 @@ impl<'a> View<'a> {
     /// assert_eq!(rt; view.line(), "key = \\u0041B");
     /// ```
     pub fn line(&self) -> &str
-        ensures { chars result.now ≡ line_of self.now }
+        ensures { chars result.now ≡ viewed_line self.now }
     {
         match self.group {
             Some(group) => self.walk.line(group),
@@ -130,7 +130,7 @@ impl<'a> View<'a> {
     /// assert_eq!(rt; view.raw_key(), "a\\ b");
     /// ```
     pub fn raw_key(&self) -> &str
-        ensures { IsRawKey (line_of self.now) (chars result.now) }
+        ensures { IsRawKey (viewed_line self.now) (chars result.now) }
     {
         match self.group {
             Some(group) => self.walk.raw_key(group),
@@ -147,7 +147,7 @@ impl<'a> View<'a> {
     /// assert_eq!(rt; view.raw_value(), "C:\\users");
     /// ```
     pub fn raw_value(&self) -> &str
-        ensures { IsRawValue (line_of self.now) (chars result.now) }
+        ensures { IsRawValue (viewed_line self.now) (chars result.now) }
     {
         match self.group {
             Some(group) => self.walk.raw_value(group),

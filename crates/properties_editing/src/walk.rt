@@ -4,7 +4,7 @@ ghost use Rattle.std.specs.Prelude.{◌≡◌, IfOk, true, length, take};
 ghost use Rattle.std.specs.Str.{IsCharBoundary, chars};
 ghost use Rattle.properties_text.specs.Encoding.{encoding_of};
 ghost use Rattle.properties_text.specs.Parsing.{IsSpan, bytes_in};
-ghost use Rattle.properties_editing.specs.Private.BodyViews.{ArePartsOf, FindsFlaw, FindsKeyFlaw, FindsPartFlaw, GivesWalk, IsOpened, IsPlain, IsViewed, OpensWalk, line_of, lines_of, TellsFlaw, TellsIllFormed, place_in, places_in};
+ghost use Rattle.properties_editing.specs.Private.BodyViews.{ArePartsOfLine, FindsFlaw, FindsKeyFlaw, FindsPartFlaw, GivesWalk, IsOpened, IsPlain, IsViewed, OpensWalk, walked_line, walked_lines, TellsFoundFlaw, TellsIllFormedLine, place_in, walked_places};
 
 use crate::cuts::{count_characters, find_cut};
 use crate::group::{GroupKind, PartPlaces};
@@ -127,7 +127,7 @@ impl<'a> Walk<'a> {
     /// Returns how many natural lines the group that was returned last has.
     pub fn line_count(&self, group: WalkedGroup) -> usize
         requires { IsViewed self.now group }
-        ensures { result ≡ length (lines_of self.now) }
+        ensures { result ≡ length (walked_lines self.now) }
     {
         self.reader.number() - self.before.number()
     }
@@ -135,7 +135,7 @@ impl<'a> Walk<'a> {
     /// Returns the logical line of the group that was returned last.
     pub fn line(&self, group: WalkedGroup) -> &str
         requires { IsViewed self.now group }
-        ensures { result.now ≡ line_of self.now group }
+        ensures { result.now ≡ walked_line self.now group }
     {
         self.reader.line(self.source, group.group)
     }
@@ -143,7 +143,7 @@ impl<'a> Walk<'a> {
     /// Returns the key of the pair that was returned last, as it stands, with its escapes; or the sign of a comment.
     pub fn raw_key(&self, group: WalkedGroup) -> &str
         requires { IsViewed self.now group }
-        ensures { result.now ≡ bytes_in (line_of self.now group) group.parts.key }
+        ensures { result.now ≡ bytes_in (walked_line self.now group) group.parts.key }
     {
         group.parts.key.cut(self.line(group))
     }
@@ -151,7 +151,7 @@ impl<'a> Walk<'a> {
     /// Returns the value of the pair that was returned last, or the text of a comment, as it stands.
     pub fn raw_value(&self, group: WalkedGroup) -> &str
         requires { IsViewed self.now group }
-        ensures { result.now ≡ bytes_in (line_of self.now group) group.parts.value }
+        ensures { result.now ≡ bytes_in (walked_line self.now group) group.parts.value }
     {
         group.parts.value.cut(self.line(group))
     }
@@ -160,7 +160,7 @@ impl<'a> Walk<'a> {
     /// encoding, if there is one.
     pub fn ill_formed_line(&self, group: WalkedGroup) -> Result<Option<usize>, AllocError>
         requires { IsViewed self.now group }
-        ensures { IfOk result (λ number. TellsIllFormed self.now number) }
+        ensures { IfOk result (λ number. TellsIllFormedLine self.now number) }
     {
         if let Encoding::WINDOWS_1252 = self.before.encoding() {
             // Each byte is a character.
@@ -183,7 +183,7 @@ impl<'a> Walk<'a> {
     /// Returns the places of the parts of the group that was returned last.
     pub fn places(&self, group: WalkedGroup) -> Result<PartPlaces, AllocError>
         requires { IsViewed self.now group }
-        ensures { IfOk result (λ places. places ≡ places_in self.now group) }
+        ensures { IfOk result (λ places. places ≡ walked_places self.now group) }
     {
         let end = group.group.end;
         let parts = group.parts;
@@ -213,7 +213,7 @@ impl<'a> Walk<'a> {
     /// Returns the first malformed escape of the group that was returned last, if it has one.
     pub fn flaw(&self, group: WalkedGroup) -> Result<Option<FoundFlaw>, AllocError>
         requires { IsViewed self.now group }
-        ensures { IfOk result (λ flaw. TellsFlaw self.now flaw) }
+        ensures { IfOk result (λ flaw. TellsFoundFlaw self.now flaw) }
     {
         let line = self.line(group);
         let Some((position, how)) = line_flaw(line, group.parts) else {
@@ -244,9 +244,9 @@ impl<'a> Walk<'a> {
     #[inline(always)]
     fn place_in_line(&self, group: WalkedGroup, position: usize) -> Result<usize, AllocError>
         requires viewed { IsViewed self.now group }
-        requires whole { IsCharBoundary (line_of self.now group) position }
+        requires whole { IsCharBoundary (walked_line self.now group) position }
         ensures { IfOk result (λ place.
-            place ≡ place_in self.now (length (chars (take position (line_of self.now group))))) }
+            place ≡ place_in self.now (length (chars (take position (walked_line self.now group))))) }
     {
         if self.is_plain(group) {
             return Ok(group.group.start + position);
@@ -260,7 +260,7 @@ impl<'a> Walk<'a> {
 
 // Returns the parts of a logical line.
 fn parts_of(line: &str) -> Parts
-    ensures { ArePartsOf line.now result }
+    ensures { ArePartsOfLine line.now result }
 {
     match parse_spans(line) {
         None => Parts {
@@ -295,7 +295,7 @@ fn parts_of(line: &str) -> Parts
 
 // Returns the position of the first malformed escape of a logical line, and how it is malformed, if it has one.
 fn line_flaw(line: &str, parts: Parts) -> Option<(usize, Malformed)>
-    requires { ArePartsOf line.now parts }
+    requires { ArePartsOfLine line.now parts }
     ensures { FindsFlaw line.now result }
 {
     match key_flaw(line, parts) {
@@ -305,7 +305,7 @@ fn line_flaw(line: &str, parts: Parts) -> Option<(usize, Malformed)>
 }
 
 fn key_flaw(line: &str, parts: Parts) -> Option<(usize, Malformed)>
-    requires { ArePartsOf line.now parts }
+    requires { ArePartsOfLine line.now parts }
     ensures { FindsKeyFlaw line.now parts result }
 {
     match parts.kind {

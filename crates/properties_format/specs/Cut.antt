@@ -2,7 +2,7 @@
 -- by itself. A unit is one byte, or two bytes in UTF-16. The text of an ended line is its bytes here, until it is
 -- decoded. Source: java.util.Properties of Java SE 7, load (what ends a line); The Unicode Standard, D77 (code units).
 use Rattle.std.specs.Prelude.{◌≡◌, ℕ, List, [], ◌∷◌, ◌++◌}
-use Rattle.properties_format.specs.Text.{line_feed, carriage_return, LineEnding, lf, cr, crlf, Piece, characters}
+use Rattle.properties_format.specs.Text.{line_feed, carriage_return, LineEnding, lf, cr, crlf, Piece, piece_characters}
 use Rattle.properties_format.specs.Lines.{Ended, Lines, HoldsNoLineEnding, BeginsWithNoLoneLf}
 use Rattle.properties_format.specs.Utf16.{low_first, high_first}
 use Rattle.properties_format.specs.Encoding.{Encoding, utf_16le, utf_16be, IsPieces, IsAligned, ascii_bytes, byte_order_mark}
@@ -53,7 +53,7 @@ pub record IsCut (e : Encoding) (d : List ℕ) (lines : Lines) : Type 0 where
 
 -- The bytes of a line, by themselves, are decoded to this text.
 abbrev pub IsDecodedLine : Encoding → List ℕ → List ℕ → Type 0
-IsDecodedLine e d x = (ps : List Piece) × IsPieces e d ps × (x ≡ characters ps)
+IsDecodedLine e d x = (ps : List Piece) × IsPieces e d ps × (x ≡ piece_characters ps)
 
 -- Lines of bytes are decoded one by one to these lines, and keep their ends.
 abbrev pub AreDecodedLines : Encoding → List Ended → List Ended → Type 0

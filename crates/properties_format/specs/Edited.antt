@@ -2,7 +2,7 @@
 -- Source: java.util.Properties of Java SE 7, load (a later pair takes the place of an earlier one) and store (how a pair is written).
 use Rattle.std.specs.Prelude.{◌≡◌, ◌⊎◌, ℕ, ◌&&◌, not, Bool, true, false, if◌then◌else◌, List, [], ◌∷◌, ◌++◌}
 use Rattle.properties_format.specs.Text.{line_feed, equals_sign, lf, cr, line_ending_text, is_empty}
-use Rattle.properties_format.specs.Encoding.{Encoding, windows_1252, utf_8, byte_order_mark, begins_with, begins_like_bom, utf_8_bom, utf_16be_bom, utf_16le_bom, Repertoire, in_force}
+use Rattle.properties_format.specs.Encoding.{Encoding, windows_1252, utf_8, byte_order_mark, begins_with, begins_like_bom, utf_8_bom, utf_16be_bom, utf_16le_bom, Repertoire, repertoire_in_force}
 use Rattle.properties_format.specs.Lines.{end, ends_in_cr, is_open, is_comment_line}
 use Rattle.properties_format.specs.Escapes.{Malformed}
 use Rattle.properties_format.specs.Items.{Entry, malformed, AreItems, IsItems}
@@ -76,7 +76,7 @@ pub record IsKeySet (r : Repertoire) (source key value result : List ℕ) : Type
   pub groups : List (List HeldLine)
   pub held : AreGroupsOf (byte_order_mark r.encoding source).encoding (byte_order_mark r.encoding source).body groups
   pub body : List ℕ
-  pub edited : IsReplaced (in_force r source) groups key value body ⊎ IsAppended (in_force r source) source groups key value body
+  pub edited : IsReplaced (repertoire_in_force r source) groups key value body ⊎ IsAppended (repertoire_in_force r source) source groups key value body
   pub whole : result ≡ bom_of source ++ body
 
 -- ---- A key is removed.

@@ -5,7 +5,7 @@ use Rattle.std.specs.Prelude.{◌≡◌, ℕ, ◌%◌, ◌==◌, ◌&&◌, ◌||
 use Rattle.properties_format.specs.Windows1252.{windows_1252_byte, is_in_table, IsWindows1252Piece}
 use Rattle.properties_format.specs.Utf8.{IsUtf8Piece}
 use Rattle.properties_format.specs.Utf16.{low_first, high_first, IsUtf16Piece}
-pub use Rattle.properties_format.specs.Text.{Piece, characters}
+pub use Rattle.properties_format.specs.Text.{Piece, piece_characters}
 
 -- the four encodings
 pub data Encoding : Type 0 where
@@ -83,7 +83,7 @@ IsPieces e d (p ∷ ps) = (rest : List ℕ) × (d ≡ p.bytes ++ rest) × IsPiec
 
 -- The bytes are decoded to this text: the characters of the pieces after any byte order mark.
 abbrev pub IsDecoded : Encoding → List ℕ → List ℕ → Type 0
-IsDecoded e b x = (ps : List Piece) × IsPieces (byte_order_mark e b).encoding (byte_order_mark e b).body ps × (x ≡ characters ps)
+IsDecoded e b x = (ps : List Piece) × IsPieces (byte_order_mark e b).encoding (byte_order_mark e b).body ps × (x ≡ piece_characters ps)
 
 -- the bytes of an ASCII character
 abbrev pub ascii_bytes : Encoding → ℕ → List ℕ
@@ -145,5 +145,5 @@ abbrev pub in_encoding : Repertoire → Encoding → Repertoire
 in_encoding r e = record r { encoding = e }
 
 -- a repertoire in the encoding that is in force in a source
-abbrev pub in_force : Repertoire → List ℕ → Repertoire
-in_force r source = in_encoding r (byte_order_mark r.encoding source).encoding
+abbrev pub repertoire_in_force : Repertoire → List ℕ → Repertoire
+repertoire_in_force r source = in_encoding r (byte_order_mark r.encoding source).encoding

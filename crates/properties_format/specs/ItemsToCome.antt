@@ -1,7 +1,7 @@
 -- The items that a reader will still return, at any point between two of its calls.
 -- Source: java.util.Properties of Java SE 7, load.
 use Rattle.std.specs.Prelude.{◌≡◌, ◌≢◌, ◌⊎◌, ℕ, ◌+◌, ◌^◌, Bool, true, false, if◌then◌else◌, List, [], ◌∷◌, ◌++◌}
-use Rattle.properties_format.specs.Text.{line_feed, Piece, characters}
+use Rattle.properties_format.specs.Text.{line_feed, Piece, piece_characters}
 use Rattle.properties_format.specs.Encoding.{Encoding, InForce, byte_order_mark, IsPieces}
 use Rattle.properties_format.specs.Lines.{InputEnd, more, Line, Lines, IsLines, line_endings, numbered, IsGroups}
 use Rattle.properties_format.specs.Items.{Entry, AreEntries, last_entries}
@@ -38,7 +38,7 @@ pub record AreFurtherEntries (s : ReaderState) (d : List ℕ) (ending : InputEnd
   pub lines : Lines
   pub groups : List (List Line)
   pub are_pieces : IsPieces (in_force s d).encoding (in_force s d).body pieces
-  pub after_end : IsAfterEnd s.after_cr (characters pieces) text
+  pub after_end : IsAfterEnd s.after_cr (piece_characters pieces) text
   pub divided : IsLines text lines
   pub grouped : IsGroups (numbered s.passed lines.ended lines.last ending) ending groups
   pub are_entries : AreEntries (s.passed + line_endings lines) ending groups entries
@@ -54,7 +54,7 @@ pub record AreFurtherLines (s : ReaderState) (d : List ℕ) (ending : InputEnd) 
   pub text : List ℕ
   pub all : Lines
   pub are_pieces : IsPieces (in_force s d).encoding (in_force s d).body pieces
-  pub after_end : IsAfterEnd s.after_cr (characters pieces) text
+  pub after_end : IsAfterEnd s.after_cr (piece_characters pieces) text
   pub divided : IsLines text all
   pub are_lines : lines ≡ numbered s.passed all.ended all.last ending
   pub are_last : last ≡ last_entries (s.passed + line_endings all) ending

@@ -8,7 +8,7 @@ use Rattle.properties_format.specs.Body.{HeldLine, ending_bytes, group_bytes, gr
 use Rattle.properties_format.specs.Edited.{pair_bytes, final_group, separation_by, added_ending, bom_of, guarding_lf}
 use Rattle.properties_format.specs.Valued.{value_text, ending_in, new_pair_bytes}
 use Rattle.properties_format.specs.Computed.Body.{held_groups_of, has_key}
-use Rattle.properties_format.specs.Computed.Valued.{front_of, between_of, has_value, last_between, separator_by}
+use Rattle.properties_format.specs.Computed.Valued.{value_front, between_of, has_value, last_between, separator_by}
 
 -- ---- plans
 
@@ -69,7 +69,7 @@ put_in r source key value gs = planned_or (at_last key (put_change r key value) 
 -- a value is set, and the front of its pair stays
 abbrev pub value_change : Repertoire → List ℕ → Bool → List HeldLine → Change
 value_change r value first g =
-    if has_value value g then stay else become (front_of r.encoding g ++ encoded_text r.encoding (value_text r (between_of g) value))
+    if has_value value g then stay else become (value_front r.encoding g ++ encoded_text r.encoding (value_text r (between_of g) value))
 
 abbrev pub value_added : Repertoire → List ℕ → List ℕ → List (List HeldLine) → List ℕ
 value_added r key value gs =

@@ -51,33 +51,33 @@ pub data KeyUnit : Type 0 where
   last : KeyUnit
 
 -- the text of a unit
-abbrev pub unit_text : KeyUnit → List ℕ
-unit_text (plain c) = c ∷ []
-unit_text (escaped c) = backslash ∷ c ∷ []
-unit_text last = backslash ∷ []
+abbrev pub key_unit_text : KeyUnit → List ℕ
+key_unit_text (plain c) = c ∷ []
+key_unit_text (escaped c) = backslash ∷ c ∷ []
+key_unit_text last = backslash ∷ []
 
 -- the texts of the units, one after another, and then the rest of the line
-abbrev pub units_before : List KeyUnit → List ℕ → List ℕ
-units_before [] rest = rest
-units_before (u ∷ us) rest = unit_text u ++ units_before us rest
+abbrev pub key_units_before : List KeyUnit → List ℕ → List ℕ
+key_units_before [] rest = rest
+key_units_before (u ∷ us) rest = key_unit_text u ++ key_units_before us rest
 
 -- The unit may come before this rest of the line. A character that is itself neither escapes nor separates, and nothing
 -- follows a backslash at the end.
-abbrev pub IsUnit : KeyUnit → List ℕ → Type 0
-IsUnit (plain c) rest = ((c == backslash) ≡ false) × (is_blank c ≡ false) × (is_separator c ≡ false)
-IsUnit (escaped c) rest = Unit {0}
-IsUnit last rest = rest ≡ []
+abbrev pub IsKeyUnit : KeyUnit → List ℕ → Type 0
+IsKeyUnit (plain c) rest = ((c == backslash) ≡ false) × (is_blank c ≡ false) × (is_separator c ≡ false)
+IsKeyUnit (escaped c) rest = Unit {0}
+IsKeyUnit last rest = rest ≡ []
 
 -- Each unit may come before what follows it.
-abbrev pub AreUnits : List KeyUnit → List ℕ → Type 0
-AreUnits [] rest = Unit {0}
-AreUnits (u ∷ us) rest = IsUnit u (units_before us rest) × AreUnits us rest
+abbrev pub AreKeyUnits : List KeyUnit → List ℕ → Type 0
+AreKeyUnits [] rest = Unit {0}
+AreKeyUnits (u ∷ us) rest = IsKeyUnit u (key_units_before us rest) × AreKeyUnits us rest
 
 -- The text is a sequence of units, each of which may come before what follows it in the line.
 pub record IsKey (key rest : List ℕ) : Type 0 where
   pub units : List KeyUnit
-  pub whole : key ≡ units_before units []
-  pub each : AreUnits units rest
+  pub whole : key ≡ key_units_before units []
+  pub each : AreKeyUnits units rest
 
 -- What separates the key from this value: nothing, and then the value is empty; blanks; or a separator with any blanks
 -- around it.

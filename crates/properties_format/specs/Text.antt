@@ -107,6 +107,6 @@ abbrev pub piece : List ℕ → ℕ → Piece
 piece bytes character = record { bytes = bytes; character = character }
 
 -- the characters of the pieces, in order
-abbrev pub characters : List Piece → List ℕ
-characters [] = []
-characters (p ∷ ps) = p.character ∷ characters ps
+abbrev pub piece_characters : List Piece → List ℕ
+piece_characters [] = []
+piece_characters (p ∷ ps) = p.character ∷ piece_characters ps

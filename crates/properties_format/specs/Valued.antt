@@ -4,7 +4,7 @@
 -- a key, its separator and its value are distinguished).
 use Rattle.std.specs.Prelude.{◌≡◌, ◌⊎◌, ℕ, ◌&&◌, Bool, true, false, if◌then◌else◌, List, [], ◌∷◌, ◌++◌, None, unwrap_or}
 use Rattle.properties_format.specs.Text.{LineEnding, lf, line_ending_text, equals_sign, is_blank, is_blanks, is_empty}
-use Rattle.properties_format.specs.Encoding.{Encoding, byte_order_mark, Repertoire, in_force}
+use Rattle.properties_format.specs.Encoding.{Encoding, byte_order_mark, Repertoire, repertoire_in_force}
 use Rattle.properties_format.specs.Cut.{IsDecodedLine}
 use Rattle.properties_format.specs.Lines.{is_open, joined}
 use Rattle.properties_format.specs.Split.{AreBlanks, IsPair}
@@ -48,8 +48,8 @@ pub record IsFrontOf (e : Encoding) (group : List HeldLine) (between front : Lis
   pub bytes : front ≡ group_bytes kept ++ head
 
 -- The group is a pair with this key and this value.
-abbrev pub HasPair : List ℕ → List ℕ → List HeldLine → Type 0
-HasPair key value group = IsOutcome (joined (as_lines group)) (given (pair key value))
+abbrev pub HoldsPair : List ℕ → List ℕ → List HeldLine → Type 0
+HoldsPair key value group = IsOutcome (joined (as_lines group)) (given (pair key value))
 
 -- The last pair with the key already has the value, and no byte changes.
 pub record IsThere (groups : List (List HeldLine)) (key value result : List ℕ) : Type 0 where
@@ -57,7 +57,7 @@ pub record IsThere (groups : List (List HeldLine)) (key value result : List ℕ)
   pub group : List HeldLine
   pub after : List (List HeldLine)
   pub division : groups ≡ before ++ group ∷ after
-  pub has_pair : HasPair key value group
+  pub has_pair : HoldsPair key value group
   pub no_later : NoneHasKey key after
   pub bytes : result ≡ groups_bytes groups
 
@@ -69,7 +69,7 @@ pub record IsRevalued (r : Repertoire) (groups : List (List HeldLine)) (key valu
   pub after : List (List HeldLine)
   pub division : groups ≡ before ++ group ∷ after
   pub has_key : HasKey key group
-  pub other_value : ¬ (HasPair key value group)
+  pub other_value : ¬ (HoldsPair key value group)
   pub no_later : NoneHasKey key after
   pub between : List ℕ
   pub front : List ℕ
@@ -147,7 +147,7 @@ pub record IsValueSet (r : Repertoire) (source key value result : List ℕ) : Ty
   pub groups : List (List HeldLine)
   pub held : AreGroupsOf (byte_order_mark r.encoding source).encoding (byte_order_mark r.encoding source).body groups
   pub body : List ℕ
-  pub edited : IsBodyValued (in_force r source) groups key value body
+  pub edited : IsBodyValued (repertoire_in_force r source) groups key value body
   pub whole : result ≡ bom_of source ++ body
 
 -- the results of setting a value

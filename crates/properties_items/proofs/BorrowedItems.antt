@@ -7,7 +7,7 @@ use Rattle.properties_format.specs.Split as split
 use Rattle.properties_format.specs.Split.{IsSplit}
 use Rattle.properties_format.proofs.Escapes.Laws.{meaning_of-plain}
 use Rattle.properties_text.specs.Escaping.{holds_backslash}
-use Rattle.properties_items.specs.BorrowedItems.{IsTextIn, IsFoundIn}
+use Rattle.properties_items.specs.BorrowedItems.{IsFoundText, IsFoundIn}
 use Rattle.properties_text.specs.Parsing.{bytes_in, IsSpan}
 use Rattle.properties_items.specs.declared.found.FoundContent.TheVariants as found
 use Rattle.properties_text.specs.declared.parse.Span.{Span}
@@ -15,7 +15,7 @@ use Rattle.properties_text.proofs.Texts.Resolving.{holds-part, holds_backslash-t
 
 -- a slice without a backslash is its own text
 pub plain-text : (line : List ℕ) (span : Span) (slice : List ℕ) → IsSpan line span → slice ≡ bytes_in line span
-    → true ≡ not (holds_backslash (chars slice)) → IsTextIn line (record { span = span; resolved = None })
+    → true ≡ not (holds_backslash (chars slice)) → IsFoundText line (record { span = span; resolved = None })
 plain-text line span slice is same h =
     let raw = chars (bytes_in line span) in
     let none : holds_backslash raw ≡ false = ap (λ v. holds_backslash (chars v)) (sym same) ∙ not-true _ (sym h) in
@@ -25,7 +25,7 @@ pub ruleset plain_texts = (plain-text, holds_backslash-text)
 
 -- the same of a slice of a line without one
 plain-slice : (line : List ℕ) (span : Span) → IsSpan line span → holds_backslash (chars (bytes_in line span)) ≡ false
-    → IsTextIn line (record { span = span; resolved = None })
+    → IsFoundText line (record { span = span; resolved = None })
 plain-slice line span is none = plain-text line span (bytes_in line span) is refl (ap not (sym none))
 
 pub plain-comment : (line : List ℕ) (number : ℕ) (text : Span) → IsSpan line text → holds_backslash (chars line) ≡ false

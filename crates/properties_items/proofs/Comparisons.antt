@@ -27,7 +27,7 @@ use Rattle.properties_items.specs.contracts.line.LineClone.TheImpl as line_clone
 use Rattle.properties_items.specs.contracts.line.LineEndingPartialEq.TheImpl as ending_eq
 use Rattle.properties_items.specs.contracts.line.LineEndingOrd.TheImpl as ending_cmp
 use Rattle.properties_items.specs.contracts.line.LineEndingHash.TheImpl as ending_hash
-use Rattle.properties_items.specs.Line.{number_of, content_of, IsSameContent, IsSameLine, content_order, ending_place, line_order}
+use Rattle.properties_items.specs.Line.{line_number_of, content_of, IsSameContent, IsSameLine, content_order, ending_place, line_order}
 
 -- ---- which comes first
 
@@ -48,7 +48,7 @@ content-cmp (KVPair k v) (KVPair l w) =
 
 -- `cmp` of two lines
 pub line-cmp : (x y : Line) → (line_cmp.ghosts).cmp x y ≡ line_order x y
-line-cmp x y = ap (ordering_then (nat_cmp (number_of x) (number_of y))) (content-cmp (content_of x) (content_of y))
+line-cmp x y = ap (ordering_then (nat_cmp (line_number_of x) (line_number_of y))) (content-cmp (content_of x) (content_of y))
 
 -- `cmp` of two line endings
 pub ending-cmp : (x y : LineEnding) → (ending_cmp.ghosts).cmp x y ≡ nat_cmp (ending_place x) (ending_place y)
@@ -76,7 +76,7 @@ content-eq (KVPair k v) (KVPair l w) =
 
 -- `==` of two lines
 pub line-eq : (x y : Line) → IsTrue ((line_eq.ghosts).eq x y) ↔ IsSameLine x y
-line-eq x y = both-tests _ _ (Decides-eqb (number_of x) (number_of y)) (content-eq (content_of x) (content_of y))
+line-eq x y = both-tests _ _ (Decides-eqb (line_number_of x) (line_number_of y)) (content-eq (content_of x) (content_of y))
 
 -- ---- equal items hash alike
 

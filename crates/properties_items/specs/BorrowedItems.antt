@@ -4,7 +4,7 @@ use Rattle.std.specs.Borrow.{Bor}
 use Rattle.std.specs.Str.{chars}
 use Rattle.properties_format.specs.Escapes.{Malformed, Means}
 use Rattle.properties_format.specs.Items.{ignored, broken, Outcome, given, comment, pair, Content, Entry, item}
-use Rattle.properties_format.specs.Computed.Edited.{IsSound}
+use Rattle.properties_format.specs.Computed.Edited.{IsSoundOutcome}
 use Rattle.properties_format.specs.Computed.Items.{outcome_of}
 use Rattle.properties_items.specs.Errors.{IsBareError, IsMalformed, IsUnresolvedError}
 use Rattle.properties_text.specs.Escaping.{IsRefused, holds_backslash}
@@ -27,7 +27,7 @@ use Rattle.std.specs.declared.borrow.CowStr.TheVariants.{Borrowed, Owned}
 use Rattle.properties_format.specs.Items as entry
 use Rattle.properties_format.specs.Split as split
 use Rattle.properties_format.specs.Split.{IsSplit}
-use Rattle.properties_items.specs.Line.{number_of, content_of}
+use Rattle.properties_items.specs.Line.{line_number_of, content_of}
 use Rattle.properties_items.specs.declared.found.FoundContent.TheVariants as found
 use Rattle.properties_items.specs.declared.borrowed.ContentRef.{ContentRef}
 use Rattle.properties_items.specs.declared.borrowed.ContentRef.TheVariants as borrowed
@@ -49,7 +49,7 @@ outcome_pair other = None
 
 -- A logical line is a pair, the key of which has so many bytes in UTF-8; or it is none, and nothing in it is malformed.
 abbrev pub TellsKeySize : List ℕ → Option ℕ → Type 0
-TellsKeySize x None = IsSound (outcome_of x) × (outcome_pair (outcome_of x) ≡ None)
+TellsKeySize x None = IsSoundOutcome (outcome_of x) × (outcome_pair (outcome_of x) ≡ None)
 TellsKeySize x (Some size) = (pair : List ℕ × List ℕ) × (outcome_pair (outcome_of x) ≡ Some pair) × (size ≡ length (encode_utf8_all pair.0))
 
 -- the characters of a key and of its value
@@ -89,7 +89,7 @@ IsCopyOf content other = ⊥
 
 -- The owned copy of a borrowed item; or memory ran out.
 abbrev pub IsLineOf : LineRef → Result Line PropertiesError → Type 0
-IsLineOf line (Ok copy) = (number_of copy ≡ line.line_number) × IsCopyOf line.content (content_of copy)
+IsLineOf line (Ok copy) = (line_number_of copy ≡ line.line_number) × IsCopyOf line.content (content_of copy)
 IsLineOf line (Err e) = IsBareError kind.Memory e
 
 abbrev pub IsContentOf : ContentRef → Result LineContent PropertiesError → Type 0
@@ -99,12 +99,12 @@ IsContentOf content (Err e) = IsBareError kind.Memory e
 -- ---- what was found
 
 -- the bytes of a text: its slice of the line, or the text with its escapes resolved
-abbrev pub bytes_of : {Z : Type 0} → List ℕ → Option (String Z) → List ℕ
-bytes_of slice None = slice
-bytes_of slice (Some text) = string_bytes text
+abbrev pub resolved_bytes : {Z : Type 0} → List ℕ → Option (String Z) → List ℕ
+resolved_bytes slice None = slice
+resolved_bytes slice (Some text) = string_bytes text
 
 abbrev pub found_bytes : List ℕ → FoundText → List ℕ
-found_bytes line text = bytes_of (bytes_in line text.span) text.resolved
+found_bytes line text = resolved_bytes (bytes_in line text.span) text.resolved
 
 abbrev pub found_content : List ℕ → FoundContent → Content
 found_content line (found.Comment text) = entry.comment (chars (found_bytes line text))
@@ -119,14 +119,14 @@ spans_of (found.Comment text) = spans.Comment text.span
 spans_of (found.KVPair key value) = spans.KVPair key.span value.span
 
 -- The text is what a slice of the line means. It was resolved if and only if the slice contains a backslash.
-pub record IsTextIn (line : List ℕ) (text : FoundText) : Type 0 where
+pub record IsFoundText (line : List ℕ) (text : FoundText) : Type 0 where
   pub span : IsSpan line text.span
   pub means : Means (chars (bytes_in line text.span)) (chars (found_bytes line text))
   pub resolved : is_some text.resolved ≡ holds_backslash (chars (bytes_in line text.span))
 
 abbrev pub AreTextsIn : List ℕ → FoundContent → Type 0
-AreTextsIn line (found.Comment text) = IsTextIn line text
-AreTextsIn line (found.KVPair key value) = IsTextIn line key × IsTextIn line value
+AreTextsIn line (found.Comment text) = IsFoundText line text
+AreTextsIn line (found.KVPair key value) = IsFoundText line key × IsFoundText line value
 
 -- It was found in this logical line.
 pub record IsFoundIn (line : List ℕ) (found : Found) : Type 0 where
@@ -137,7 +137,7 @@ pub record IsFoundIn (line : List ℕ) (found : Found) : Type 0 where
 
 -- The text of this span of the line; or why it can't be resolved.
 abbrev pub FindsText : List ℕ → Span → Result FoundText UnescapeError → Type 0
-FindsText line span (Ok text) = (text.span ≡ span) × IsTextIn line text
+FindsText line span (Ok text) = (text.span ≡ span) × IsFoundText line text
 FindsText line span (Err e) = IsRefused (chars (bytes_in line span)) e
 
 -- The texts of these spans of the line; or why they can't be resolved, whatever the line's number. In a pair, a

@@ -60,13 +60,13 @@ reason_display (reason.Refused kind text) = Some (description kind) ++? Some (co
 reason_display (reason.Kind kind) = Some (description kind)
 
 -- `:LINE`, or nothing without a line
-abbrev pub numbered : Option ℕ → List ℕ
-numbered None = []
-numbered (Some number) = codes ":" ++ decimal number
+abbrev pub number_suffix : Option ℕ → List ℕ
+number_suffix None = []
+number_suffix (Some number) = codes ":" ++ decimal number
 
 -- `NAME:LINE: REASON`, or `NAME: REASON` without a line
 abbrev pub at_display : At → Option (List ℕ)
-at_display at = Some (at.name.now ++ (numbered at.line ++ codes ": ")) ++? reason_display at.reason
+at_display at = Some (at.name.now ++ (number_suffix at.line ++ codes ": ")) ++? reason_display at.reason
 
 -- ---- lines and line endings
 

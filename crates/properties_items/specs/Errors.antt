@@ -23,8 +23,8 @@ abbrev pub kind_of : PropertiesError → ErrorKind
 kind_of e = e.kind
 
 -- the line number of an error, if it has one
-abbrev pub line_of : PropertiesError → Option ℕ
-line_of e = e.line_number
+abbrev pub line_of_error : PropertiesError → Option ℕ
+line_of_error e = e.line_number
 
 abbrev pub cause_of : PropertiesError → Cause
 cause_of e = e.cause
@@ -66,7 +66,7 @@ pub record IsAt (e : PropertiesError) (name : List ℕ) (at : At) : Type 0 where
 -- An error with this kind, line and cause, and without a refused text.
 pub record IsError (kind : ErrorKind) (line : Option ℕ) (cause : Cause) (error : PropertiesError) : Type 0 where
   pub its_kind : kind_of error ≡ kind
-  pub its_line : line_of error ≡ line
+  pub its_line : line_of_error error ≡ line
   pub its_cause : cause_of error ≡ cause
   pub its_text : refused_of error ≡ None
 
@@ -116,7 +116,7 @@ IsLineError why.Memory error = IsBareError kind.Memory error
 -- A text was refused, and the error of this kind holds it. The error has no line and no cause.
 pub record RefusesText (kind : ErrorKind) (text : List ℕ) (error : PropertiesError) : Type 0 where
   pub its_kind : kind_of error ≡ kind
-  pub its_line : line_of error ≡ None
+  pub its_line : line_of_error error ≡ None
   pub its_cause : cause_of error ≡ cause.None
   pub its_text : refused_of error ≡ Some text
 

@@ -15,8 +15,8 @@ use Rattle.properties_items.specs.declared.line.LineEnding.TheVariants.{CR, LF, 
 use Rattle.properties_format.specs.Text as text
 
 -- the number of the line that the item begins in
-abbrev pub number_of : Line → ℕ
-number_of l = l.line_number
+abbrev pub line_number_of : Line → ℕ
+line_number_of l = l.line_number
 
 abbrev pub content_of : Line → LineContent
 content_of l = l.content
@@ -27,7 +27,7 @@ format_content (Comment text) = entry.comment (chars (string_bytes text))
 format_content (KVPair key value) = entry.pair (chars (string_bytes key)) (chars (string_bytes value))
 
 abbrev pub entry_of : Line → Entry
-entry_of line = item (number_of line) (format_content (content_of line))
+entry_of line = item (line_number_of line) (format_content (content_of line))
 
 -- the order of the kinds: 0 for a comment and 1 for a pair
 abbrev pub rank : LineContent → ℕ
@@ -44,7 +44,7 @@ abbrev pub IsSameContent : LineContent → LineContent → Type 0
 IsSameContent x y = (rank x ≡ rank y) × (texts x ≡ texts y)
 
 abbrev pub IsSameLine : Line → Line → Type 0
-IsSameLine l m = (number_of l ≡ number_of m) × IsSameContent (content_of l) (content_of m)
+IsSameLine l m = (line_number_of l ≡ line_number_of m) × IsSameContent (content_of l) (content_of m)
 
 -- Comments order before pairs. Two comments, or two pairs, are ordered by the bytes of their texts.
 abbrev pub content_order : LineContent → LineContent → Ordering
@@ -52,7 +52,7 @@ content_order = then_cmp (on rank nat_cmp) (on texts (slice_cmp (slice_cmp nat_c
 
 -- Lines are ordered by number, then by content.
 abbrev pub line_order : Line → Line → Ordering
-line_order = then_cmp (on number_of nat_cmp) (on content_of content_order)
+line_order = then_cmp (on line_number_of nat_cmp) (on content_of content_order)
 
 -- Line endings are ordered as they stand here.
 abbrev pub ending_place : LineEnding → ℕ

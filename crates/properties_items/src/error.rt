@@ -3,7 +3,7 @@
 ghost use Rattle.std.specs.Prelude.{◌≡◌, Some, None};
 ghost use Rattle.std.specs.Str.{chars};
 ghost use Rattle.std.specs.String.{string_bytes};
-ghost use Rattle.properties_items.specs.Errors.{kind_of, line_of, cause_of, IsError, IsBareError, IsLineError, IsStreamError, RefusesText, IsReason, message_line, IsAt};
+ghost use Rattle.properties_items.specs.Errors.{kind_of, line_of_error, cause_of, IsError, IsBareError, IsLineError, IsStreamError, RefusesText, IsReason, message_line, IsAt};
 ghost use Rattle.properties_items.specs.DisplayTexts.{at_display, description, cause_display, error_display, reason_display};
 ghost use Rattle.properties_items.specs.declared.error.ErrorKind.TheVariants.{Memory};
 
@@ -117,7 +117,7 @@ pub struct PropertiesError {
 impl PropertiesError {
     /// Returns the number of the line that the error belongs to, if there is one. Lines are numbered from 1.
     pub fn line_number(&self) -> Option<usize>
-        ensures { result ≡ line_of self.now }
+        ensures { result ≡ line_of_error self.now }
     {
         self.line_number
     }

@@ -9,7 +9,7 @@ ghost use Rattle.properties_format.specs.Items.{given};
 ghost use Rattle.properties_format.specs.Computed.Body.{outcome_key};
 ghost use Rattle.properties_items.specs.Line.{entry_of};
 ghost use Rattle.properties_items.specs.Texts.{characters};
-ghost use Rattle.properties_items.specs.BorrowedItems.{pair_characters, text_characters, outcome_pair, FindsItem, FindsText, FindsContent, FindsIn, borrowed_entry, borrowed_content, is_borrowed, BorrowsPlain, found_bytes, found_content, found_entry, AreTextsIn, spans_of, IsFoundIn, IsTextIn, TellsKeySize};
+ghost use Rattle.properties_items.specs.BorrowedItems.{pair_characters, text_characters, outcome_pair, FindsItem, FindsText, FindsContent, FindsIn, borrowed_entry, borrowed_content, is_borrowed, BorrowsPlain, found_bytes, found_content, found_entry, AreTextsIn, spans_of, IsFoundIn, IsFoundText, TellsKeySize};
 ghost use Rattle.properties_format.specs.Split.{IsSplit};
 ghost use Rattle.properties_text.specs.Escaping.{holds_backslash};
 
@@ -270,7 +270,7 @@ impl FoundText {
     // Returns how many bytes the text has.
     #[inline(always)]
     fn size(&self, line: &str) -> usize
-        requires { IsTextIn line.now self.now }
+        requires { IsFoundText line.now self.now }
         ensures { result ≡ length (encode_utf8_all (chars (found_bytes line.now self.now))) }
     {
         match &self.resolved {
@@ -282,7 +282,7 @@ impl FoundText {
     // Returns the text.
     #[inline(always)]
     fn text<'a>(&'a self, line: &'a str) -> &'a str
-        requires { IsTextIn line.now self.now }
+        requires { IsFoundText line.now self.now }
         ensures { result.now ≡ found_bytes line.now self.now }
     {
         match &self.resolved {
@@ -294,7 +294,7 @@ impl FoundText {
     // Returns the text as one of its own. Copies it only if no escape was resolved.
     #[inline(always)]
     fn into_owned(self, alloc: Global, line: &str) -> Result<String, AllocError>
-        requires { IsTextIn line.now self }
+        requires { IsFoundText line.now self }
         ensures { IfOk result (λ text. characters text ≡ chars (found_bytes line.now self)) }
     {
         let FoundText { span, resolved } = self;
@@ -305,7 +305,7 @@ impl FoundText {
     }
 
     fn cut(self, line: &str) -> CowStr<'_>
-        requires { IsTextIn line.now self }
+        requires { IsFoundText line.now self }
         ensures text { cow_str_bytes result ≡ found_bytes line.now self }
         ensures borrowed { is_borrowed result ≡ not (is_some self.resolved) }
     {

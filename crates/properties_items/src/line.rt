@@ -1,7 +1,7 @@
 // Comments and pairs with their line numbers, and what ends lines.
 
 ghost use Rattle.std.specs.Prelude.{◌≡◌};
-ghost use Rattle.properties_items.specs.Line.{number_of, content_of, ending_of};
+ghost use Rattle.properties_items.specs.Line.{line_number_of, content_of, ending_of};
 ghost use Rattle.properties_items.specs.DisplayTexts.{content_display, line_display};
 ghost use Rattle.std.specs.Str.{chars};
 ghost use Rattle.properties_format.specs.Text.{line_ending_text};
@@ -31,7 +31,7 @@ pub struct Line {
 
 impl Line {
     pub(crate) fn new(line_number: usize, content: LineContent) -> Line
-        ensures number { number_of result ≡ line_number }
+        ensures number { line_number_of result ≡ line_number }
         ensures content { content_of result ≡ content }
     {
         Line {
@@ -42,7 +42,7 @@ impl Line {
 
     /// Returns the number of the line that the comment or pair begins in.
     pub fn line_number(&self) -> usize
-        ensures { result ≡ number_of self.now }
+        ensures { result ≡ line_number_of self.now }
     {
         self.line_number
     }

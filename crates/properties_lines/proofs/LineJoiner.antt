@@ -24,10 +24,10 @@ use Rattle.properties_text.specs.Escaping.{holds_backslash, text_in, IsWell}
 use Rattle.properties_lines.specs.LineReader.{LineReading, Finds, FindsNext, Passes, IsLazy, HasRightLineFlags, FindsError, found_line}
 use Rattle.properties_text.specs.Encoding.{line_of}
 use Rattle.properties_text.specs.declared.encoding.line_encoding.LineEncoding.{LineEncoding}
-use Rattle.properties_lines.specs.LogicalLine.{bytes_at, bytes_with, is_natural, IsLineIn, HasText, IsTextOf, IsNotContinued, OpensJoin, unfinished_text}
+use Rattle.properties_lines.specs.LogicalLine.{placed_bytes, bytes_with, is_natural, IsLineIn, HasText, IsTextOf, IsNotContinued, OpensJoin, unfinished_text}
 use Rattle.properties_lines.specs.declared.logical.Place.{Place}
 use Rattle.properties_lines.specs.declared.logical.Place.TheVariants.{Natural, Decoded, Joined}
-use Rattle.properties_lines.specs.LineJoiner.{line_text, join_of, numbered_bytes, EndJoin, IsLazyJoin, JoinsLines, JoinsAll, JoinError, JoinsNone, JoinsOn, LineJoining, Comes, Joins, Advances, JoinsNoLine, JoinsBytes, JoinsGroup, JoinsLine, JoinsError, ReadsWhole, ReadsNone, ReadsRest}
+use Rattle.properties_lines.specs.LineJoiner.{line_text, join_of, numbered_bytes, EndJoin, IsLazyJoin, JoinsLines, JoinsAll, JoinError, JoinsNone, JoinsOn, LineJoining, Comes, Joins, Advances, JoinsNoLine, JoinsBytes, JoinsGroup, JoinsLine, JoinsError, ReadsWholeLine, ReadsNone, ReadsRest}
 use Rattle.properties_lines.specs.declared.error.LineError.TheVariants as why
 use Rattle.properties_lines.specs.declared.error.LineError.{LineError}
 use Rattle.properties_lines.specs.declared.logical.LogicalLine.{LogicalLine}
@@ -475,14 +475,14 @@ module _ {R : Type 0} {reader : Reader R} where
 -- ---- the rest of a logical line
 
 -- the bytes of a borrowed line
-natural-bytes : (place : Place) (natural decoded joined : List ℕ) → is_natural place ≡ true → bytes_at place natural decoded joined ≡ natural
+natural-bytes : (place : Place) (natural decoded joined : List ℕ) → is_natural place ≡ true → placed_bytes place natural decoded joined ≡ natural
 natural-bytes Natural natural decoded joined h = refl
 natural-bytes Decoded natural decoded joined h = absurd (cc)
 natural-bytes Joined natural decoded joined h = absurd (cc)
 
 -- the bytes of a joined line
 joined-bytes : (place : Place) (natural decoded joined : List ℕ) → place ≡ Joined
-    → (bytes_at place natural decoded joined ≡ joined) × (is_natural place ≡ false)
+    → (placed_bytes place natural decoded joined ≡ joined) × (is_natural place ≡ false)
 joined-bytes place natural decoded joined h = rw h (refl, refl)
 
 module _ {R : Type 0} {reader : Reader R} where
@@ -490,7 +490,7 @@ module _ {R : Type 0} {reader : Reader R} where
   pub reads-alone : {from : R} (found : LineReading) (line : LogicalLine) (has_backslash : Bool) → IsNotContinued (line_text found)
       → HasText line found.line (line_text found)
       → HasRightLineFlags found → (has_backslash ≡ false → holds_backslash found.line ≡ false) → found.error ≡ None
-      → ReadsWhole reader found from found.state.passed found line has_backslash from
+      → ReadsWholeLine reader found from found.state.passed found line has_backslash from
   reads-alone {from} found line has_backslash c h flags plain error = record {
     number_is = refl;
     error = error;
@@ -511,7 +511,7 @@ module _ {R : Type 0} {reader : Reader R} where
       → JoinsAll reader found.state from (unfinished_text begun) (unfinished_text line) lines.state to → lines.error ≡ None → line.place ≡ Joined
       → IsWell line.encoding line.joined
       → (has_backslash ≡ false → holds_backslash (bytes_with line lines.line) ≡ false)
-      → ReadsWhole reader found from found.state.passed lines line has_backslash to
+      → ReadsWholeLine reader found from found.state.passed lines line has_backslash to
   reads-joined {from} {to} found lines begun line has_backslash o j error place well plain =
       let P : List ℕ → Type 0 = λ v. JoinsAll reader found.state from v (unfinished_text line) lines.state to in
       let at = joined-bytes line.place lines.line line.decoded line.joined place in

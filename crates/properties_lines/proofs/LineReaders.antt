@@ -13,7 +13,7 @@ use Rattle.properties_format.specs.Computed.ItemsToCome.{text_to_come, natural_t
 use Rattle.properties_format.proofs.ItemsToCome.Entries.{gives-on}
 use Rattle.properties_format.proofs.ItemsToCome.Steps.{lines-start, lines-on, lines-then, lines-read}
 use Rattle.properties_text.specs.Encoding.{encoding_of}
-use Rattle.properties_lines.specs.Scanner.{is_decided, after_cr, scanner_state, bytes_of, Fits, Scans, KeepsEncoding}
+use Rattle.properties_lines.specs.Scanner.{is_decided, after_cr, scanner_state, raw_line_bytes, Fits, Scans, KeepsEncoding}
 use Rattle.properties_lines.specs.LineReader as reading
 use Rattle.properties_lines.specs.LineReader.{LineReading, found_line, reads_left, HoldsLine, HoldsNone, ScansHeld, IsLazy, ReleasesOrKeeps, ReadsBytes, HasFailedFor, IsReadError, Finds, FindsNext, FindsError}
 use Rattle.properties_lines.specs.declared.error.LineError.{LineError}
@@ -75,7 +75,7 @@ done-end s h = elim (cases_Bool s.is_done) [
 abbrev pub reading_of : Scanner → List ℕ → Option LineError → LineReading
 reading_of s held error = record {
   state = scanner_state s held;
-  line = bytes_of held s.line;
+  line = raw_line_bytes held s.line;
   is_ascii = s.line.is_ascii;
   has_backslash = s.line.has_backslash;
   waiting = length held - s.at;
@@ -126,7 +126,7 @@ scans-held s new held error ended More h (on, g) = (
     encoding = g.encoding;
     nearer = reads-nearer s new held error g.stays;
     error = refl;
-    line = ap (bytes_of held) g.line;
+    line = ap (raw_line_bytes held) g.line;
   },
 )
 scans-held s new held error ended scan.End h (done, same) = (done, ap (λ v. reading_of v held error) same)
@@ -152,7 +152,7 @@ pub passed-left : (s new : Scanner) (gone : ℕ) → new ≡ release s gone → 
 passed-left s new gone is = rw is refl
 
 -- no line is held then
-pub line-left : (s new : Scanner) (held : List ℕ) (gone : ℕ) → new ≡ release s gone → bytes_of held new.line ≡ []
+pub line-left : (s new : Scanner) (held : List ℕ) (gone : ℕ) → new ≡ release s gone → raw_line_bytes held new.line ≡ []
 line-left s new held gone is = rw is refl
 
 -- ---- reading on

@@ -22,7 +22,7 @@ use Rattle.properties_text.proofs.TextFronts.{text-decoded}
 use Rattle.properties_text.proofs.Texts.Backslashes.{ending_backslashes-text}
 use Rattle.properties_text.proofs.Texts.Joins.{is_comment_line-text, without_open_backslash-part}
 use Rattle.properties_text.proofs.Texts.Split.{without_leading_blanks-part}
-use Rattle.properties_lines.specs.LogicalLine.{bytes_at, IsTextOf, IsLineIn, AddsText, BeginsText, Begins, AddsLine, is_continued, IsNotContinued, IsUnfinished, OpensJoin}
+use Rattle.properties_lines.specs.LogicalLine.{placed_bytes, IsTextOf, IsLineIn, AddsText, BeginsText, BeginsLine, AddsLine, is_continued, IsNotContinued, IsUnfinishedLine, OpensJoin}
 use Rattle.properties_lines.specs.declared.logical.LogicalLine.{LogicalLine}
 use Rattle.properties_lines.specs.declared.logical.Place.{Place}
 use Rattle.properties_lines.specs.declared.logical.Place.TheVariants.{Joined}
@@ -143,8 +143,8 @@ module _ (e : LineEncoding) (bytes text : List ℕ) (b : IsBytesOf e bytes text)
 -- The line begins a join, or its bytes are in this place.
 pub begun : (asked : Encoding) (natural bytes : List ℕ) (line : LogicalLine) (is_joined : Bool) (place : Place)
     → IsBytesOf line.encoding bytes (decoded_line asked natural) → line_of line.encoding ≡ output_encoding asked
-    → bytes_at place natural line.decoded line.joined ≡ bytes → BeginsText {E = AllocError} bytes (Ok is_joined) line.joined
-    → Begins {E = AllocError} asked natural (Ok is_joined) (record line { place = if is_joined then Joined else place })
+    → placed_bytes place natural line.decoded line.joined ≡ bytes → BeginsText {E = AllocError} bytes (Ok is_joined) line.joined
+    → BeginsLine {E = AllocError} asked natural (Ok is_joined) (record line { place = if is_joined then Joined else place })
 begun asked natural bytes line true place b same is h =
     opened-text line.encoding bytes (decoded_line asked natural) b asked (record line { place = Joined }) h.0 refl refl same h.1
 begun asked natural bytes line false place b same is h = (
@@ -154,7 +154,7 @@ begun asked natural bytes line false place b same is h = (
 
 -- A line was joined.
 pub adds : (asked : Encoding) (natural bytes : List ℕ) (old : LogicalLine) (decoded new : List ℕ) (result : Result Bool AllocError)
-    → IsBytesOf old.encoding bytes (decoded_line asked natural) → IsUnfinished asked old → AddsText bytes old.joined result new
+    → IsBytesOf old.encoding bytes (decoded_line asked natural) → IsUnfinishedLine asked old → AddsText bytes old.joined result new
     → AddsLine asked natural old result (record old { decoded = decoded; joined = new })
 adds asked natural bytes old decoded new (Ok left_open) b u h =
     let added = added-text old.encoding bytes (decoded_line asked natural) b old.joined new left_open u.well h in

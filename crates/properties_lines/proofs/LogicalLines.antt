@@ -1,10 +1,10 @@
 -- Texts of lines without a backslash.
 use Rattle.std.proofs.Common.{◌≡◌, ◌==◌, ◌||◌, ap₂, ℕ, true, false, eqb-true, List, [], ◌∷◌, ◌++◌, refl, sym, ap, ◌∙◌, inl, inr, arith, append-nil}
 use Rattle.std.proofs.lemmas.Bool.{cases_Bool, or_from}
-use Rattle.properties_format.specs.Text.{backslash, Piece, characters}
+use Rattle.properties_format.specs.Text.{backslash, Piece, piece_characters}
 use Rattle.properties_format.specs.Encoding.{Encoding, windows_1252, utf_8, utf_16le, utf_16be, ascii_bytes, IsPieces}
 use Rattle.properties_format.specs.Computed.Encoding.{pieces_of}
-use Rattle.properties_format.specs.Computed.Cut.{decoded_line, characters_of}
+use Rattle.properties_format.specs.Computed.Cut.{decoded_line, windows_1252_characters}
 use Rattle.properties_format.proofs.Encodings.Pieces.{pieces_of-meets}
 use Rattle.properties_format.proofs.Encodings.Characters.{piece-ascii}
 use Rattle.properties_format.proofs.Undecoded.{same-backslash}
@@ -23,11 +23,11 @@ backslash-bytes utf_16le = refl
 backslash-bytes utf_16be = refl
 
 -- no piece is a backslash then
-unescaped-pieces : (e : Encoding) (d : List ℕ) (ps : List Piece) → IsPieces e d ps → holds_backslash d ≡ false → holds_backslash (characters ps) ≡ false
+unescaped-pieces : (e : Encoding) (d : List ℕ) (ps : List Piece) → IsPieces e d ps → holds_backslash d ≡ false → holds_backslash (piece_characters ps) ≡ false
 unescaped-pieces e d [] h k = refl
 unescaped-pieces e d (p ∷ ps) (rest, same, is, others) k =
     let none : holds_backslash (p.bytes ++ rest) ≡ false = ap holds_backslash (sym same) ∙ k in
-    or_from (p.character == backslash) (holds_backslash (characters ps))
+    or_from (p.character == backslash) (holds_backslash (piece_characters ps))
     (elim (cases_Bool (p.character == backslash)) [
       | inl b ↦
           let c : p.character ≡ backslash = eqb-true p.character backslash b in
@@ -44,7 +44,7 @@ unescaped-decoded e d h = unescaped-pieces e d (pieces_of e d) (pieces_of-meets 
 -- ---- windows-1252 and UTF-8
 
 -- a byte of windows-1252 is a backslash exactly if its character is
-holds-bytes : (d : List ℕ) → holds_backslash (characters_of d) ≡ holds_backslash d
+holds-bytes : (d : List ℕ) → holds_backslash (windows_1252_characters d) ≡ holds_backslash d
 holds-bytes [] = refl
 holds-bytes (b ∷ d) = ap₂ (λ x y. x || y) (same-backslash b) (holds-bytes d)
 

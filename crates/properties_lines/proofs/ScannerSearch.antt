@@ -29,7 +29,7 @@ use Rattle.properties_text.specs.Escaping.{holds_backslash}
 use Rattle.properties_text.proofs.Blocks.{ascii-before}
 use Rattle.properties_text.proofs.Texts.Resolving.{holds-at}
 use Rattle.properties_lines.specs.LineSearch.{unit_size, IsFirstLineEnding, end_character}
-use Rattle.properties_lines.specs.Scanner.{scanner_state, HasRightFlags, EndsWhole, bytes_of, line_of, IsReady, IsFresh, IsBefore, FindsByte, TellsBackslash, TakesLine, SkipsFeed, feed_size, Searches, is_decided, after_cr}
+use Rattle.properties_lines.specs.Scanner.{scanner_state, HasRightFlags, EndsWhole, raw_line_bytes, scanned_line, IsReady, IsFresh, IsBefore, FindsByte, TellsBackslash, ScansLine, SkipsFeed, feed_size, Searches, is_decided, after_cr}
 use Rattle.properties_lines.specs.Private.PlainEnds.{is_plain_end}
 use Rattle.properties_lines.specs.declared.search.FoundEnding.{FoundEnding}
 use Rattle.properties_lines.specs.declared.search.BlockSearch.{BlockSearch}
@@ -158,7 +158,7 @@ takes-line : (s : Scanner) (held : List ℕ) (n unit : ℕ) (is_ascii has_backsl
     (r : Tail (encoding_of s.encoding) after) → IsReady s held
     → IsFirstLineEnding (encoding_of s.encoding) (drop s.at held) (record { at = n; is_cr = is_cr_of r }) → unit ≡ unit_size (encoding_of s.encoding)
     → HasRightFlags (encoding_of s.encoding) (take n (drop s.at held)) (line_at s n is_ascii has_backslash)
-    → TakesLine s held (taken s (front_at r) (s.at + n + unit + feed_at r) (line_at s n is_ascii has_backslash))
+    → ScansLine s held (taken s (front_at r) (s.at + n + unit + feed_at r) (line_at s n is_ascii has_backslash))
 takes-line s held n unit is_ascii has_backslash r ready found size told =
     let e = encoding_of s.encoding in
     let bytes = drop s.at held in
@@ -186,11 +186,11 @@ takes-line s held n unit is_ascii has_backslash r ready found size told =
       none = found.none_before;
     } in
     let count : s.at + n - s.at ≡ n = omega arith in
-    let whole : bytes_of held line ≡ l = ap (λ m. take m bytes) count in
+    let whole : raw_line_bytes held line ≡ l = ap (λ m. take m bytes) count in
     let left-is : drop feed after ≡ drop (from + feed) held = drop-drop feed from held in
     let reads = take-reads t l after r holds in
     let R : List ℕ → Type 0 = λ v. ReadsLines t [] (record { number = s.passed + 1; text = decoded_line e v } ∷ []) (left t (front_at r) (drop feed after)) in
-    let S : List ℕ → Type 0 = λ v. ReadsLines t [] (line_of held new ∷ []) (left t (front_at r) v) in
+    let S : List ℕ → Type 0 = λ v. ReadsLines t [] (scanned_line held new ∷ []) (left t (front_at r) v) in
     let Ends : List ℕ → Type 0 = λ v. EndsWhole e (Some ending.by) v in
     let Tells : List ℕ → Type 0 = λ v. HasRightFlags e v line in
     let room : length after ≡ length held - from = length-drop from held in
@@ -237,7 +237,7 @@ takes : (s : Scanner) (held : List ℕ) (end : FoundEnding) (unit feed : ℕ) (f
     → IsTaken s held end unit is_ascii has_backslash
     → let after = drop (s.at + end.at + unit) held in
     (r : Tail (encoding_of s.encoding) after) → end.is_cr ≡ is_cr_of r → front ≡ front_at r → feed ≡ feed_at r
-    → TakesLine s held (record s { front = front; passed = s.passed + 1; at = s.at + end.at + unit + feed; line = line_at s end.at is_ascii has_backslash })
+    → ScansLine s held (record s { front = front; passed = s.passed + 1; at = s.at + end.at + unit + feed; line = line_at s end.at is_ascii has_backslash })
 takes s held end unit feed front is_ascii has_backslash h r cr at-front at-feed =
     let e = encoding_of s.encoding in
     let line = line_at s end.at is_ascii has_backslash in
@@ -245,34 +245,34 @@ takes s held end unit feed front is_ascii has_backslash h r cr at-front at-feed 
     let Ascii : ℕ → Type 0 = λ m. (is_ascii ≡ true) ↔ (m ≡ 1) × IsAscii (take end.at (drop s.at held)) in
     let told : HasRightFlags e (take end.at (drop s.at held)) line = record { ascii = subst Ascii h.size h.ascii; backslash = h.backslash } in
     let done = takes-line s held end.at unit is_ascii has_backslash r h.ready (subst First cr h.found) h.size told in
-    let P : Front → ℕ → ℕ → Type 0 = λ f m n. TakesLine s held (record s { front = f; passed = s.passed + 1; at = s.at + end.at + unit + m; searched = n; line = line }) in
+    let P : Front → ℕ → ℕ → Type 0 = λ f m n. ScansLine s held (record s { front = f; passed = s.passed + 1; at = s.at + end.at + unit + m; searched = n; line = line }) in
     let fed : P (front_at r) feed 0 = subst (λ m. P (front_at r) m 0) (sym at-feed) done in
     let fronted : P front feed 0 = subst (λ f. P f feed 0) (sym at-front) fed in
     subst (λ n. P front feed n) (sym h.nothing) fronted
 
 -- up to a line ending that is an LF
 pub takes-lf : (s : Scanner) (held : List ℕ) (end : FoundEnding) (unit : ℕ) (is_ascii has_backslash : Bool) → IsTaken s held end unit is_ascii has_backslash → end.is_cr ≡ false
-    → TakesLine s held (after_line_ending s end.at unit is_ascii has_backslash)
+    → ScansLine s held (after_line_ending s end.at unit is_ascii has_backslash)
 takes-lf s held end unit is_ascii has_backslash h lf =
     let same : s.at + end.at + unit + 0 ≡ s.at + end.at + unit = omega arith in
-    let P : ℕ → Type 0 = λ m. TakesLine s held (record s { passed = s.passed + 1; at = m; line = line_at s end.at is_ascii has_backslash }) in
+    let P : ℕ → Type 0 = λ m. ScansLine s held (record s { passed = s.passed + 1; at = m; line = line_at s end.at is_ascii has_backslash }) in
     subst P same (takes s held end unit 0 s.front is_ascii has_backslash h of_lf lf h.ready.settled refl)
 
 -- or a CR, with the LF after it
 pub takes-cr : (s new : Scanner) (held : List ℕ) (end : FoundEnding) (unit : ℕ) (is_ascii has_backslash passed : Bool) → IsTaken s held end unit is_ascii has_backslash
-    → end.is_cr ≡ true → SkipsFeed (after_line_ending s end.at unit is_ascii has_backslash) held false passed new → TakesLine s held new
+    → end.is_cr ≡ true → SkipsFeed (after_line_ending s end.at unit is_ascii has_backslash) held false passed new → ScansLine s held new
 takes-cr s new held end unit is_ascii has_backslash true h cr k =
     let e = encoding_of s.encoding in
     let after = drop (s.at + end.at + unit) held in
-    let P : Scanner → Type 0 = λ v. TakesLine s held v in
+    let P : Scanner → Type 0 = λ v. ScansLine s held v in
     subst P (sym k.1) (elim (cases_Bool (begins_with_lf (units e after))) [
       | inl b ↦ takes s held end unit (feed_size e after) s.front is_ascii has_backslash h (of_crlf b) cr h.ready.settled (rw b refl)
       | inr b ↦ takes s held end unit (feed_size e after) s.front is_ascii has_backslash h (of_cr b (k.0 refl)) cr h.ready.settled (rw b refl)
     ])
 takes-cr s new held end unit is_ascii has_backslash false h cr k =
     let same : s.at + end.at + unit + 0 ≡ s.at + end.at + unit = omega arith in
-    let P : Scanner → Type 0 = λ v. TakesLine s held v in
-    let Q : ℕ → Type 0 = λ m. TakesLine s held (record s { front = Feed; passed = s.passed + 1; at = m; line = line_at s end.at is_ascii has_backslash }) in
+    let P : Scanner → Type 0 = λ v. ScansLine s held v in
+    let Q : ℕ → Type 0 = λ m. ScansLine s held (record s { front = Feed; passed = s.passed + 1; at = m; line = line_at s end.at is_ascii has_backslash }) in
     subst P (sym k.2) (subst Q same (takes s held end unit 0 Feed is_ascii has_backslash h (of_last_cr k.1) cr refl refl))
 
 -- ---- where a unit is one byte

@@ -11,7 +11,7 @@ use Rattle.properties_format.specs.Computed.ItemsToCome.{HoldsNoEnd}
 use Rattle.properties_format.proofs.ItemsToCome.Lines.{natural-more}
 use Rattle.properties_text.specs.Encoding.{encoding_of}
 use Rattle.properties_lines.specs.LineSearch.{unit_size, whole_units}
-use Rattle.properties_lines.specs.Scanner.{is_decided, scanner_state, front_of, bytes_of, Fits, Comes, IsCutOff, HasRightFlags, GivesLine, AsksForMore, IsAlike, IsReady, TakesLine, LacksEnd, TakesLast}
+use Rattle.properties_lines.specs.Scanner.{is_decided, scanner_state, front_of, raw_line_bytes, Fits, Comes, IsCutOff, HasRightFlags, GivesScannedLine, AsksForMore, IsAlike, IsReady, ScansLine, LacksEnd, TakesLast}
 use Rattle.properties_lines.specs.declared.scanner.Front.{Front}
 use Rattle.properties_lines.specs.declared.scanner.Front.TheVariants.{Mark, Feed, Nothing}
 use Rattle.properties_lines.specs.declared.scanner.RawLine.{RawLine}
@@ -40,8 +40,8 @@ kept-encoding s e body d h = sym (ap (λ v. let w : InForce = v in w.encoding) (
 
 -- ---- a line up to its end
 
-pub gives-ended_line : (old mid new : Scanner) (held : List ℕ) (ended : Bool) → old.is_done ≡ false → old.passed + 1 < 2 ^ 64 → IsAlike old held ended mid → TakesLine mid held new
-    → GivesLine old held ended new
+pub gives-ended_line : (old mid new : Scanner) (held : List ℕ) (ended : Bool) → old.is_done ≡ false → old.passed + 1 < 2 ^ 64 → IsAlike old held ended mid → ScansLine mid held new
+    → GivesScannedLine old held ended new
 gives-ended_line old mid new held ended g n h m =
     let e = encoding_of mid.encoding in
     let f = encoding_of new.encoding in
@@ -60,7 +60,7 @@ gives-ended_line old mid new held ended g n h m =
       decided = m.decided;
       going = inl (done, cut.1);
       fits = m.fits;
-      flags = subst (λ v. HasRightFlags v (bytes_of held new.line) new.line) same m.flags;
+      flags = subst (λ v. HasRightFlags v (raw_line_bytes held new.line) new.line) same m.flags;
     }
 
 -- ---- the last line
@@ -94,11 +94,11 @@ abbrev after_last : Scanner → List ℕ → RawLine → Scanner
 after_last s held line = record s { is_done = true; passed = s.passed + 1; at = length held; searched = 0; line = line }
 
 last-of : (old mid : Scanner) (held : List ℕ) (line : RawLine) → old.is_done ≡ false → old.passed + 1 < 2 ^ 64 → IsAlike old held true mid → HoldsNoEnd (scanner_state mid held)
-    → line.start ≡ mid.at → line.end ≡ length held → HasRightFlags (encoding_of mid.encoding) (drop mid.at held) line → GivesLine old held true (after_last mid held line)
+    → line.start ≡ mid.at → line.end ≡ length held → HasRightFlags (encoding_of mid.encoding) (drop mid.at held) line → GivesScannedLine old held true (after_last mid held line)
 last-of old mid held line g n h holds starts ends told =
     let e = encoding_of mid.encoding in
     let new = after_last mid held line in
-    let text : bytes_of held line ≡ drop mid.at held = ap₂ (λ m n. take (m - n) (drop n held)) ends starts ∙ take_rest held mid.at in
+    let text : raw_line_bytes held line ≡ drop mid.at held = ap₂ (λ m n. take (m - n) (drop n held)) ends starts ∙ take_rest held mid.at in
     let nothing : drop (length held) held ≡ [] = drop_all (length held) held (omega arith) in
     let all = comes-then h.comes (comes-last (scanner_state mid held) (scanner_state new held) holds refl) in
     let P : List ℕ → Type 0 = λ v. Comes true (scanner_state old held) (record { number = mid.passed + 1; text = decoded_line e v } ∷ []) (scanner_state new held) in
@@ -110,7 +110,7 @@ last-of old mid held line g n h holds starts ends told =
       cut = record {
         ending = None;
         ordered = (omega (arith, starts, ends, h.fits.within), omega (arith, ends), omega arith);
-        division = ap (λ n. drop n held) starts ∙ sym text ∙ sym (append-nil (bytes_of held line)) ∙ ap (λ v. bytes_of held line ++ v) (sym nothing);
+        division = ap (λ n. drop n held) starts ∙ sym text ∙ sym (append-nil (raw_line_bytes held line)) ∙ ap (λ v. raw_line_bytes held line ++ v) (sym nothing);
         aligned = inl refl;
         none = subst (HoldsNoLineEndingUnit e) (sym text) holds.none;
         whole = nothing;
@@ -129,14 +129,14 @@ last-of old mid held line g n h holds starts ends told =
     }
 
 pub gives-last_line : (old mid s new : Scanner) (held : List ℕ) → old.is_done ≡ false → old.passed + 1 < 2 ^ 64 → IsAlike old held true mid → LacksEnd mid held s → TakesLast s held new
-    → GivesLine old held true new
+    → GivesScannedLine old held true new
 gives-last_line old mid s new held g n h k m =
     let line = new.line in
     let at : s.at ≡ mid.at = ap (λ v. let w : Scanner = v in w.at) k.same in
     let told = subst (λ v. let w : Scanner = v in HasRightFlags (encoding_of w.encoding) (drop w.at held) line) k.same m.flags in
     let core = last-of old mid held line g n h (no-end g h k) (m.starts ∙ at) m.ends told in
     let same : new ≡ after_last mid held line = m.same ∙ ap (λ v. after_last v held line) k.same in
-    let P : Scanner → Type 0 = λ v. GivesLine old held true v in
+    let P : Scanner → Type 0 = λ v. GivesScannedLine old held true v in
     subst P (sym same) core
 
 -- ---- more bytes are asked for

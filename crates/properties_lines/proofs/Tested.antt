@@ -11,7 +11,7 @@ use Rattle.properties_format.specs.Encoding.{Encoding, InForce, windows_1252, ut
 use Rattle.properties_format.specs.Computed.Lines.{begins_with_lf}
 use Rattle.properties_format.proofs.Encodings.WellFormed.{well_formed-from_IsUtf8, IsUtf8-from_well_formed}
 use Rattle.properties_text.specs.Encoding.{encoding_of, IsLongestText}
-use Rattle.properties_lines.specs.Scanner.{is_decided, after_cr, bytes_of, scanner_state, front_of, feed_size, ending_bytes, EndsWhole, Fits, IsCutOff, GivesLine, AsksForMore, Scans}
+use Rattle.properties_lines.specs.Scanner.{is_decided, after_cr, raw_line_bytes, scanner_state, front_of, feed_size, ending_bytes_in, EndsWhole, Fits, IsCutOff, GivesScannedLine, AsksForMore, Scans}
 use Rattle.properties_lines.specs.LineSearch.{unit_size}
 use Rattle.properties_lines.specs.LineReader.{LineReading, HasRightLineFlags}
 use Rattle.properties_lines.specs.LogicalLine.{IsLineIn, TellsLine}
@@ -122,14 +122,14 @@ past-one held at w u within a = elim (cases_lt at w) [
 -- ---- the ending of a line
 
 -- An ending has a byte.
-some-bytes : (ending : Option text.LineEnding) → ending ≢ None → 0 < length (ending_bytes utf_8 ending)
+some-bytes : (ending : Option text.LineEnding) → ending ≢ None → 0 < length (ending_bytes_in utf_8 ending)
 some-bytes None h = absurd (h refl)
 some-bytes (Some text.lf) h = omega arith
 some-bytes (Some text.cr) h = omega arith
 some-bytes (Some text.crlf) h = omega arith
 
 -- Its bytes are ASCII.
-small-bytes : (ending : Option text.LineEnding) (k : ℕ) → get_or (ending_bytes utf_8 ending) k 0 < 128
+small-bytes : (ending : Option text.LineEnding) (k : ℕ) → get_or (ending_bytes_in utf_8 ending) k 0 < 128
 small-bytes None k = omega arith
 small-bytes (Some text.lf) zero = omega arith
 small-bytes (Some text.lf) (suc k) = omega arith
@@ -141,32 +141,32 @@ small-bytes (Some text.crlf) (suc (suc k)) = omega arith
 
 module _ (e : Encoding) (is : e ≡ utf_8) (held : List ℕ) (line : RawLine) (next : ℕ) (cut : IsCutOff e held line next) where
   -- The ending comes after the line.
-  after-line : drop line.end held ≡ ending_bytes utf_8 cut.ending ++ drop next held
+  after-line : drop line.end held ≡ ending_bytes_in utf_8 cut.ending ++ drop next held
   after-line =
       let place : line.start + (line.end - line.start) ≡ line.end = omega (arith, cut.ordered.0) in
-      let size : length (bytes_of held line) ≡ line.end - line.start = between-length line.start line.end held (omega (arith, cut.ordered.1, cut.ordered.2)) in
+      let size : length (raw_line_bytes held line) ≡ line.end - line.start = between-length line.start line.end held (omega (arith, cut.ordered.1, cut.ordered.2)) in
       ap (λ n. drop n held) (sym place)
       ∙ sym (drop-drop (line.end - line.start) line.start held)
       ∙ ap (drop (line.end - line.start)) cut.division
-      ∙ ap (λ n. drop n (bytes_of held line ++ (ending_bytes e cut.ending ++ drop next held))) (sym size)
-      ∙ drop-append_seam (bytes_of held line) (ending_bytes e cut.ending ++ drop next held)
-      ∙ ap (λ v. ending_bytes v cut.ending ++ drop next held) is
+      ∙ ap (λ n. drop n (raw_line_bytes held line ++ (ending_bytes_in e cut.ending ++ drop next held))) (sym size)
+      ∙ drop-append_seam (raw_line_bytes held line) (ending_bytes_in e cut.ending ++ drop next held)
+      ∙ ap (λ v. ending_bytes_in v cut.ending ++ drop next held) is
 
   -- How long it is.
-  ending-size : length (ending_bytes utf_8 cut.ending) ≡ next - line.end
+  ending-size : length (ending_bytes_in utf_8 cut.ending) ≡ next - line.end
   ending-size =
       let all = ap length after-line in
-      omega (arith, all, length-append (ending_bytes utf_8 cut.ending) (drop next held), length-drop line.end held, length-drop next held, cut.ordered.1, cut.ordered.2)
+      omega (arith, all, length-append (ending_bytes_in utf_8 cut.ending) (drop next held), length-drop line.end held, length-drop next held, cut.ordered.1, cut.ordered.2)
 
   -- Its bytes are ASCII.
   pub ascii-after : (k : ℕ) → line.end ≤ k → k < next → get_or held k 0 < 128
   ascii-after k l h =
       let place : line.end + (k - line.end) ≡ k = omega arith in
-      let at : get_or held k 0 ≡ get_or (ending_bytes utf_8 cut.ending) (k - line.end) 0 =
+      let at : get_or held k 0 ≡ get_or (ending_bytes_in utf_8 cut.ending) (k - line.end) 0 =
       ap (λ n. get_or held n 0) (sym place)
       ∙ sym (get_or-drop line.end held (k - line.end) 0)
       ∙ ap (λ v. get_or v (k - line.end) 0) after-line
-      ∙ get_or_append_left (ending_bytes utf_8 cut.ending) (drop next held) 0 (k - line.end) (omega (arith, ending-size)) in
+      ∙ get_or_append_left (ending_bytes_in utf_8 cut.ending) (drop next held) 0 (k - line.end) (omega (arith, ending-size)) in
       omega (arith, at, small-bytes cut.ending (k - line.end))
 
   -- An ending ends later than the line.
@@ -177,7 +177,7 @@ module _ (e : Encoding) (is : e ≡ utf_8) (held : List ℕ) (line : RawLine) (n
   pub no-ending : cut.ending ≡ None → line.end ≡ length held
   no-ending h =
       let rest : drop next held ≡ [] = subst (λ v. EndsWhole e v (drop next held)) h cut.whole in
-      let none : length (ending_bytes utf_8 cut.ending) ≡ 0 = ap (λ v. length (ending_bytes utf_8 v)) h in
+      let none : length (ending_bytes_in utf_8 cut.ending) ≡ 0 = ap (λ v. length (ending_bytes_in utf_8 v)) h in
       omega (arith, ending-size, none, ap length rest, length-drop next held, cut.ordered.1, cut.ordered.2)
 
 -- ---- where the next line begins
@@ -224,7 +224,7 @@ moved-text held at to w u l (inr more) = subst (λ n. IsUtf8 (between n w held))
 -- ---- a line was found
 
 -- What is known after a line was found.
-found-text : (old new : Scanner) (held : List ℕ) (ended : Bool) (w : ℕ) → Fits old held → IsTested old held w → GivesLine old held ended new
+found-text : (old new : Scanner) (held : List ℕ) (ended : Bool) (w : ℕ) → Fits old held → IsTested old held w → GivesScannedLine old held ended new
     → encoding_of new.encoding ≡ utf_8
     → KnowsText new held w
 found-text old new held ended w f t g is =
@@ -251,7 +251,7 @@ found-text old new held ended w f t g is =
     }
 
 -- The invariant after that.
-tested-line : (old new : Scanner) (held : List ℕ) (ended : Bool) (w : ℕ) → Fits old held → IsTested old held w → GivesLine old held ended new
+tested-line : (old new : Scanner) (held : List ℕ) (ended : Bool) (w : ℕ) → Fits old held → IsTested old held w → GivesScannedLine old held ended new
     → IsTested new held w
 tested-line old new held ended w f t g = record {
   within = t.within;
@@ -270,7 +270,7 @@ more-text : (s new : Scanner) (held : List ℕ) (w : ℕ) → KnowsText s held w
     → KnowsText new held w
 more-text s new held w t l m line done moved = record {
   ahead = moved-text held s.at new.at w t.ahead l moved;
-  line = subst (λ v. let x : RawLine = v in x.end ≤ w → IsUtf8 (bytes_of held x)) (sym line) t.line;
+  line = subst (λ v. let x : RawLine = v in x.end ≤ w → IsUtf8 (raw_line_bytes held x)) (sym line) t.line;
   around = elim t.around [
     | inl empty ↦ inl (subst (λ v. let x : RawLine = v in x.start ≡ x.end) (sym line) empty)
     | inr apart ↦ inr (further apart moved)
@@ -414,11 +414,11 @@ module _ (s : Scanner) (held : List ℕ) (w most n : ℕ) (t : IsTested s held w
   }
 
   -- A line within the front is well-formed.
-  pub reached : s.line.end ≤ (s.line.start + n) → IsUtf8 (bytes_of held s.line)
+  pub reached : s.line.end ≤ (s.line.start + n) → IsUtf8 (raw_line_bytes held s.line)
   reached = parts.line
 
   -- A line beyond it is not.
-  pub not-reached : (s.line.start + n) < s.line.end → IsUtf8 (bytes_of held s.line) → ⊥
+  pub not-reached : (s.line.start + n) < s.line.end → IsUtf8 (raw_line_bytes held s.line) → ⊥
   not-reached less u =
       let line : IsUtf8 (take (s.line.end - s.line.start) (between s.line.start most held)) =
       subst IsUtf8 (sym (between-take s.line.start s.line.end most held (omega arith) reaches)) u in
@@ -427,9 +427,9 @@ module _ (s : Scanner) (held : List ℕ) (w most n : ℕ) (t : IsTested s held w
 
   -- The test says whether the line is well-formed.
   pub tells-text : (b : Bool) → (b ≡ true → s.line.end ≤ s.line.start + n) → (b ≡ false → s.line.start + n < s.line.end)
-      → TellsLine utf_8 (bytes_of held s.line) b
-  tells-text true h k = well_formed-from_IsUtf8 (bytes_of held s.line) (reached (h refl))
-  tells-text false h k = λ w. not-reached (k refl) (IsUtf8-from_well_formed (bytes_of held s.line) w)
+      → TellsLine utf_8 (raw_line_bytes held s.line) b
+  tells-text true h k = well_formed-from_IsUtf8 (raw_line_bytes held s.line) (reached (h refl))
+  tells-text false h k = λ w. not-reached (k refl) (IsUtf8-from_well_formed (raw_line_bytes held s.line) w)
 
 -- ---- a line that needs no test
 
@@ -454,9 +454,9 @@ some-byte f flags e not = elim (cases_lt 0 (length f.line)) [
 -- A line within what was tested before.
 pub known-text : (s : Scanner) (held : List ℕ) (w : ℕ) (e : Encoding) (b : Bool) → IsTested s held w → is_decided s.front ≡ true
     → encoding_of s.encoding ≡ utf_8 → e ≡ utf_8 → s.line.end ≤ w
-    → (b ≡ false → w < s.line.end) → TellsLine e (bytes_of held s.line) b
+    → (b ≡ false → w < s.line.end) → TellsLine e (raw_line_bytes held s.line) b
 known-text s held w e true t d is same l h =
-    subst (λ v. IsLineIn v (bytes_of held s.line)) (sym same) (well_formed-from_IsUtf8 (bytes_of held s.line) ((t.text d is).line l))
+    subst (λ v. IsLineIn v (raw_line_bytes held s.line)) (sym same) (well_formed-from_IsUtf8 (raw_line_bytes held s.line) ((t.text d is).line l))
 known-text s held w e false t d is same l h = absurd (omega (arith, l, h refl))
 
 -- ---- the invariant of a reader

@@ -201,7 +201,7 @@ Advances reader old from (Some number) new to = JoinsBytes reader old from numbe
 
 -- The natural line that was found, with this number, is a logical line on its own or with the lines that were joined to
 -- it.
-pub record ReadsWhole {R : Type 0} (reader : Reader R) (old : LineReading) (from : R) (number : ℕ) (lines : LineReading) (line : LogicalLine) (has_backslash : Bool) (to : R) : Type 0 where
+pub record ReadsWholeLine {R : Type 0} (reader : Reader R) (old : LineReading) (from : R) (number : ℕ) (lines : LineReading) (line : LogicalLine) (has_backslash : Bool) (to : R) : Type 0 where
   pub number_is : number ≡ old.state.passed
   pub error : lines.error ≡ None
   pub well : IsWell line.encoding (bytes_with line lines.line)
@@ -218,5 +218,5 @@ pub record ReadsNone {R : Type 0} (reader : Reader R) (old : LineReading) (from 
   pub why : {S : ReaderState} {start : R} → FindsNext reader S start old.state.passed old from → JoinsError reader S start error lines.state to
 
 abbrev pub ReadsRest : {R : Type 0} → Reader R → LineReading → R → Option ℕ → LineReading → LogicalLine → Bool → R → Type 0
-ReadsRest reader old from (Some number) lines line has_backslash to = ReadsWhole reader old from number lines line has_backslash to
+ReadsRest reader old from (Some number) lines line has_backslash to = ReadsWholeLine reader old from number lines line has_backslash to
 ReadsRest reader old from None lines line has_backslash to = ReadsNone reader old from lines to

@@ -4,7 +4,7 @@ use Rattle.std.specs.declared.io.Error.{Error}
 use Rattle.counted_io.specs.Streams.{Reader, HasRead, HasFailed, has_ended}
 use Rattle.properties_format.specs.Lines as format
 use Rattle.properties_format.specs.Lines.{end, fault, more}
-use Rattle.properties_format.specs.Text.{characters}
+use Rattle.properties_format.specs.Text.{piece_characters}
 use Rattle.properties_format.specs.Computed.Encoding.{pieces_of}
 use Rattle.properties_format.specs.Items.{read_fault}
 use Rattle.properties_format.specs.ItemsToCome.{ReaderState}
@@ -92,7 +92,7 @@ pub data Passes (old : ReaderState) (bytes : List ℕ) (lines : List format.Line
 
 -- the line that was found, decoded, with this number
 abbrev pub found_line : ℕ → LineReading → format.Line
-found_line number lines = record { number = number; text = characters (pieces_of lines.state.encoding lines.line) }
+found_line number lines = record { number = number; text = piece_characters (pieces_of lines.state.encoding lines.line) }
 
 -- A line was found.
 pub record FindsNext {R : Type 0} (reader : Reader R) (old : ReaderState) (from : R) (number : ℕ) (new : LineReading) (to : R) : Type 0 where

@@ -18,18 +18,18 @@ abbrev pub is_natural : Place → Bool
 is_natural Natural = true
 is_natural place = false
 
-abbrev pub bytes_at : Place → (natural decoded joined : List ℕ) → List ℕ
-bytes_at Natural natural decoded joined = natural
-bytes_at Decoded natural decoded joined = decoded
-bytes_at Joined natural decoded joined = joined
+abbrev pub placed_bytes : Place → (natural decoded joined : List ℕ) → List ℕ
+placed_bytes Natural natural decoded joined = natural
+placed_bytes Decoded natural decoded joined = decoded
+placed_bytes Joined natural decoded joined = joined
 
 -- the bytes, given those of the natural line
 abbrev pub bytes_with : LogicalLine → List ℕ → List ℕ
-bytes_with line natural = bytes_at line.place natural line.decoded line.joined
+bytes_with line natural = placed_bytes line.place natural line.decoded line.joined
 
 -- What was decoded is in UTF-8.
-abbrev pub IsSound : LogicalLine → Type 0
-IsSound line = line.place ≡ Decoded → line.encoding ≡ Utf8
+abbrev pub IsSoundLogicalLine : LogicalLine → Type 0
+IsSoundLogicalLine line = line.place ≡ Decoded → line.encoding ≡ Utf8
 
 -- The second list begins with the first.
 pub record BeginsWith (bytes whole : List ℕ) : Type 0 where
@@ -81,7 +81,7 @@ abbrev pub IsNotContinued : List ℕ → Type 0
 IsNotContinued text = (is_comment_line text ≡ true) ⊎ (is_open text ≡ false)
 
 -- Natural lines in this encoding may be joined to the line.
-pub record IsUnfinished (e : Encoding) (line : LogicalLine) : Type 0 where
+pub record IsUnfinishedLine (e : Encoding) (line : LogicalLine) : Type 0 where
   pub place : line.place ≡ Joined
   pub encoding : line_of line.encoding ≡ output_encoding e
   pub well : IsWell line.encoding line.joined
@@ -94,17 +94,17 @@ unfinished_text line = text_in line.encoding line.joined
 pub record OpensJoin (e : Encoding) (text : List ℕ) (new : LogicalLine) : Type 0 where
   pub other : is_comment_line text ≡ false
   pub opens : is_open text ≡ true
-  pub unfinished : IsUnfinished e new
+  pub unfinished : IsUnfinishedLine e new
   pub closed : unfinished_text new ≡ without_open_backslash text
 
 -- The result says whether the line with these bytes is left open. If it isn't, its bytes have its text.
-abbrev pub Begins : {E : Type 0} → Encoding → List ℕ → Result Bool E → LogicalLine → Type 0
-Begins e bytes (Ok true) new = OpensJoin e (decoded_line e bytes) new
-Begins e bytes (Ok false) new = IsNotContinued (decoded_line e bytes) × HasText new bytes (decoded_line e bytes)
-Begins e bytes (Err error) new = Unit {0}
+abbrev pub BeginsLine : {E : Type 0} → Encoding → List ℕ → Result Bool E → LogicalLine → Type 0
+BeginsLine e bytes (Ok true) new = OpensJoin e (decoded_line e bytes) new
+BeginsLine e bytes (Ok false) new = IsNotContinued (decoded_line e bytes) × HasText new bytes (decoded_line e bytes)
+BeginsLine e bytes (Err error) new = Unit {0}
 
 -- The line with these bytes was joined to an unfinished line, and the result says whether it is open.
 abbrev pub AddsLine : {E : Type 0} → Encoding → List ℕ → LogicalLine → Result Bool E → LogicalLine → Type 0
 AddsLine e bytes old (Ok left_open) new = (left_open ≡ is_open (decoded_line e bytes))
-    × (unfinished_text new ≡ unfinished_text old ++ addition (decoded_line e bytes)) × IsUnfinished e new
+    × (unfinished_text new ≡ unfinished_text old ++ addition (decoded_line e bytes)) × IsUnfinishedLine e new
 AddsLine e bytes old (Err error) new = Unit {0}

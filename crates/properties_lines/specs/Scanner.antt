@@ -56,8 +56,8 @@ abbrev pub KeepsEncoding : ReaderState → ReaderState → Type 0
 KeepsEncoding old new = old.is_decided ≡ true → (new.is_decided ≡ true) × (new.encoding ≡ old.encoding)
 
 -- the bytes of a line
-abbrev pub bytes_of : List ℕ → RawLine → List ℕ
-bytes_of held line = take (line.end - line.start) (drop line.start held)
+abbrev pub raw_line_bytes : List ℕ → RawLine → List ℕ
+raw_line_bytes held line = take (line.end - line.start) (drop line.start held)
 
 -- The scanner may be called with these bytes: its place is among them, the searched bytes contain no line ending, and
 -- the line that was found last is within them. While something may come before the line, no byte is searched.
@@ -99,9 +99,9 @@ pub record HasRightFlags (e : Encoding) (bytes : List ℕ) (line : RawLine) : Ty
   pub backslash : line.has_backslash ≡ holds_backslash bytes
 
 -- the bytes of a line ending, if there is one
-abbrev pub ending_bytes : Encoding → Option text.LineEnding → List ℕ
-ending_bytes e None = []
-ending_bytes e (Some by) = line_ending_bytes e by
+abbrev pub ending_bytes_in : Encoding → Option text.LineEnding → List ℕ
+ending_bytes_in e None = []
+ending_bytes_in e (Some by) = line_ending_bytes e by
 
 -- when a line ending is complete, as far as the bytes after it show: no LF comes after a CR
 abbrev pub EndsWhole : Encoding → Option text.LineEnding → List ℕ → Type 0
@@ -115,30 +115,30 @@ EndsWhole e (Some text.cr) rest = begins_with_lf (units e rest) ≡ false
 pub record IsCutOff (e : Encoding) (held : List ℕ) (line : RawLine) (next : ℕ) : Type 0 where
   pub ending : Option text.LineEnding
   pub ordered : (line.start ≤ line.end) × (line.end ≤ next) × (next ≤ length held)
-  pub division : drop line.start held ≡ bytes_of held line ++ (ending_bytes e ending ++ drop next held)
-  pub aligned : ending ≡ None ⊎ IsAligned e (bytes_of held line)
-  pub none : HoldsNoLineEndingUnit e (bytes_of held line)
+  pub division : drop line.start held ≡ raw_line_bytes held line ++ (ending_bytes_in e ending ++ drop next held)
+  pub aligned : ending ≡ None ⊎ IsAligned e (raw_line_bytes held line)
+  pub none : HoldsNoLineEndingUnit e (raw_line_bytes held line)
   pub whole : EndsWhole e ending (drop next held)
 
 -- the line that a scanner found last, decoded, with its number
-abbrev pub line_of : List ℕ → Scanner → format.Line
-line_of held s = record { number = s.passed; text = decoded_line (encoding_of s.encoding) (bytes_of held s.line) }
+abbrev pub scanned_line : List ℕ → Scanner → format.Line
+scanned_line held s = record { number = s.passed; text = decoded_line (encoding_of s.encoding) (raw_line_bytes held s.line) }
 
 -- ---- the result of a call
 
 -- A line was found, and what comes from the place after it on follows.
-pub record GivesLine (old : Scanner) (held : List ℕ) (ended : Bool) (new : Scanner) : Type 0 where
+pub record GivesScannedLine (old : Scanner) (held : List ℕ) (ended : Bool) (new : Scanner) : Type 0 where
   pub live : old.is_done ≡ false
   pub number : new.passed ≡ old.passed + 1
   pub numbered : old.passed + 1 < 2 ^ 64
-  pub comes : Comes ended (scanner_state old held) (line_of held new ∷ []) (scanner_state new held)
+  pub comes : Comes ended (scanner_state old held) (scanned_line held new ∷ []) (scanner_state new held)
   pub cut : IsCutOff (encoding_of new.encoding) held new.line new.at
   pub front : front_of (scanner_state old held) ≡ record { encoding = encoding_of new.encoding; body = drop new.line.start held }
   pub short : new.front ≡ Feed → length (drop new.at held) < unit_size (encoding_of new.encoding)
   pub decided : is_decided new.front ≡ true
   pub going : (new.is_done ≡ false) × (cut.ending ≢ None) ⊎ (new.is_done ≡ true) × (cut.ending ≡ None) × (ended ≡ true)
   pub fits : Fits new held
-  pub flags : HasRightFlags (encoding_of new.encoding) (bytes_of held new.line) new.line
+  pub flags : HasRightFlags (encoding_of new.encoding) (raw_line_bytes held new.line) new.line
 
 -- No line ending is held, so no line comes until more bytes do. What comes with them stays the same. The scanner keeps
 -- its place, unless it skipped what comes before the line. All bytes that are held were searched, unless something may
@@ -159,7 +159,7 @@ pub record AsksForMore (old : Scanner) (held : List ℕ) (new : Scanner) : Type 
 
 -- The result of a call. More bytes are requested only if more may come.
 abbrev pub Scans : Scanner → List ℕ → Bool → Scan → Scanner → Type 0
-Scans old held ended Line new = GivesLine old held ended new
+Scans old held ended Line new = GivesScannedLine old held ended new
 Scans old held ended More new = (ended ≡ false) × AsksForMore old held new
 Scans old held ended End new = (old.is_done ≡ true) × (new ≡ old)
 Scans old held ended TooMany new = (old.is_done ≡ false) × (old.passed + 1 ≡ 2 ^ 64) × (new ≡ old)
@@ -202,8 +202,8 @@ pub record IsFresh (s : Scanner) : Type 0 where
   pub nothing : s.searched ≡ 0
 
 -- A line was taken up to its line ending.
-pub record TakesLine (old : Scanner) (held : List ℕ) (new : Scanner) : Type 0 where
-  pub comes : ReadsLines (scanner_state old held) [] (line_of held new ∷ []) (scanner_state new held)
+pub record ScansLine (old : Scanner) (held : List ℕ) (new : Scanner) : Type 0 where
+  pub comes : ReadsLines (scanner_state old held) [] (scanned_line held new ∷ []) (scanner_state new held)
   pub cut : IsCutOff (encoding_of old.encoding) held new.line new.at
   pub ended : cut.ending ≢ None
   pub starts : new.line.start ≡ old.at
@@ -211,7 +211,7 @@ pub record TakesLine (old : Scanner) (held : List ℕ) (new : Scanner) : Type 0 
   pub decided : is_decided new.front ≡ true
   pub short : new.front ≡ Feed → length (drop new.at held) < unit_size (encoding_of old.encoding)
   pub fits : Fits new held
-  pub flags : HasRightFlags (encoding_of old.encoding) (bytes_of held new.line) new.line
+  pub flags : HasRightFlags (encoding_of old.encoding) (raw_line_bytes held new.line) new.line
 
 -- No line ending is held, and all whole units were searched.
 pub record LacksEnd (old : Scanner) (held : List ℕ) (new : Scanner) : Type 0 where
@@ -219,7 +219,7 @@ pub record LacksEnd (old : Scanner) (held : List ℕ) (new : Scanner) : Type 0 w
   pub same : new ≡ record old { searched = whole_units (encoding_of old.encoding) (length (drop old.at held)) }
 
 abbrev pub Searches : Scanner → List ℕ → Bool → Scanner → Type 0
-Searches old held true new = TakesLine old held new
+Searches old held true new = ScansLine old held new
 Searches old held false new = LacksEnd old held new
 
 -- The last line was taken.

@@ -8,7 +8,7 @@ ghost use Rattle.properties_format.specs.ItemsToCome.{start};
 ghost use Rattle.properties_text.specs.Encoding.{encoding_of};
 ghost use Rattle.properties_text.specs.Escaping.{holds_backslash, IsWell};
 ghost use Rattle.properties_lines.specs.LineReader.{lines_left, HasRightLineFlags};
-ghost use Rattle.properties_lines.specs.LogicalLine.{BeginsWith, IsSound, IsUnfinished, unfinished_text};
+ghost use Rattle.properties_lines.specs.LogicalLine.{BeginsWith, IsSoundLogicalLine, IsUnfinishedLine, unfinished_text};
 ghost use Rattle.properties_lines.specs.LineJoiner.{LineJoining, Joins, Advances, JoinsOn, ReadsRest};
 ghost use Rattle.properties_lines.specs.declared.logical.Place.TheVariants.{Joined};
 
@@ -37,7 +37,7 @@ pub struct LineJoiner {
 impl Model for LineJoiner {
     ghost use Rattle.std.specs.Prelude.{◌&&◌};
     ghost use Rattle.properties_lines.specs.LineJoiner.{LineJoining};
-    ghost use Rattle.properties_lines.specs.LogicalLine.{bytes_with, is_natural, IsSound};
+    ghost use Rattle.properties_lines.specs.LogicalLine.{bytes_with, is_natural, IsSoundLogicalLine};
 
     ghost Value = { LineJoining };
 
@@ -49,7 +49,7 @@ impl Model for LineJoiner {
       error = s.lines.error;
     } };
 
-    ghost invariant = { λ s. IsSound s.line };
+    ghost invariant = { λ s. IsSoundLogicalLine s.line };
 }
 
 impl LineJoiner {
@@ -186,7 +186,7 @@ fn read_rest<R: CountedRead>(
     requires decided { lines.old.state.is_decided ≡ true }
     requires backslash { has_backslash.old ≡ false → holds_backslash lines.old.line ≡ false }
     requires error { lines.old.error ≡ None }
-    ensures sound { IsSound line.new }
+    ensures sound { IsSoundLogicalLine line.new }
     ensures reads { ReadsRest R.CountedRead lines.old reader.old result lines.new line.new has_backslash.new reader.new }
     ensures same_reader { IsSameReader R.CountedRead reader.old reader.new }
     ensures left { lines_left lines.new.state ≤ lines_left lines.old.state }
@@ -218,11 +218,11 @@ fn join_lines<R: CountedRead>(
 ) -> bool
     requires error { lines.old.error ≡ None }
     requires decided { lines.old.state.is_decided ≡ true }
-    requires unfinished { IsUnfinished lines.old.state.encoding line.old }
+    requires unfinished { IsUnfinishedLine lines.old.state.encoding line.old }
     ensures joins { JoinsOn R.CountedRead lines.old reader.old (unfinished_text line.old) result lines.new reader.new (unfinished_text line.new) }
     ensures place { result ≡ true → line.new.place ≡ Joined }
     ensures well { result ≡ true → IsWell line.new.encoding line.new.joined }
-    ensures sound { IsSound line.new }
+    ensures sound { IsSoundLogicalLine line.new }
     ensures same_reader { IsSameReader R.CountedRead reader.old reader.new }
     ensures left { lines_left lines.new.state ≤ lines_left lines.old.state }
 {

@@ -7,7 +7,7 @@ ghost use Rattle.properties_format.specs.Computed.Cut.{decoded_line};
 ghost use Rattle.properties_text.specs.Encoding.{encoding_of, line_of};
 ghost use Rattle.properties_text.specs.Escaping.{IsWell, text_in};
 ghost use Rattle.properties_text.specs.declared.encoding.line_encoding.LineEncoding.TheVariants.{Utf8};
-ghost use Rattle.properties_lines.specs.LogicalLine.{is_natural, bytes_at, bytes_with, BeginsWith, IsSound, IsTextOf, TellsLine, Begins, AddsLine, IsUnfinished};
+ghost use Rattle.properties_lines.specs.LogicalLine.{is_natural, placed_bytes, bytes_with, BeginsWith, IsSoundLogicalLine, IsTextOf, TellsLine, BeginsLine, AddsLine, IsUnfinishedLine};
 ghost use Rattle.properties_lines.specs.declared.logical.Place.TheVariants.{Natural, Decoded, Joined};
 
 use crate::continuation::{begin_bytes, join_bytes};
@@ -137,8 +137,8 @@ impl LogicalLine {
         bytes: &[u8],
     ) -> Result<bool, AllocError>
         requires { TellsLine (encoding_of encoding) bytes.now is_line }
-        ensures begins { Begins (encoding_of encoding) bytes.now result self.new }
-        ensures sound { IsSound self.new }
+        ensures begins { BeginsLine (encoding_of encoding) bytes.now result self.new }
+        ensures sound { IsSoundLogicalLine self.new }
     {
         self.borrow(encoding);
         if is_line {
@@ -166,9 +166,9 @@ impl LogicalLine {
         bytes: &[u8],
     ) -> Result<bool, AllocError>
         requires line { TellsLine (encoding_of encoding) bytes.now is_line }
-        requires unfinished { IsUnfinished (encoding_of encoding) self.old }
+        requires unfinished { IsUnfinishedLine (encoding_of encoding) self.old }
         ensures adds { AddsLine (encoding_of encoding) bytes.now self.old result self.new }
-        ensures sound { IsSound self.new }
+        ensures sound { IsSoundLogicalLine self.new }
     {
         if is_line {
             return join_bytes(&mut self.joined, bytes);
@@ -181,8 +181,8 @@ impl LogicalLine {
     #[inline(never)]
     pub fn make_text(&mut self, natural: &[u8]) -> Result<(), AllocError>
         requires well { IsWell self.old.encoding (bytes_with self.old natural.now) }
-        requires sound { IsSound self.old }
-        ensures sound { IsSound self.new }
+        requires sound { IsSoundLogicalLine self.old }
+        ensures sound { IsSoundLogicalLine self.new }
         ensures text { OnOk result (IsTextOf (text_in self.old.encoding (bytes_with self.old natural.now)) (bytes_with self.new natural.now)) }
     {
         if self.encoding == LineEncoding::Utf8 {
@@ -213,7 +213,7 @@ impl LogicalLine {
 // The bytes of a line that isn't decoded.
 fn undecoded<'a>(place: Place, natural: &'a [u8], joined: &'a LineBuffer) -> &'a [u8]
     requires { place ≢ Decoded }
-    ensures { (decoded : List ℕ) → result.now ≡ bytes_at place natural.now decoded joined.now }
+    ensures { (decoded : List ℕ) → result.now ≡ placed_bytes place natural.now decoded joined.now }
 {
     match place {
         Place::Joined => joined.as_slice(),

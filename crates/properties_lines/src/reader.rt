@@ -42,7 +42,7 @@ pub struct LineReader {
 
 impl Model for LineReader {
     ghost use Rattle.std.specs.Prelude.{◌≡◌, ◌≢◌, ◌-◌, true, None, length};
-    ghost use Rattle.properties_lines.specs.Scanner.{scanner_state, bytes_of, Fits};
+    ghost use Rattle.properties_lines.specs.Scanner.{scanner_state, raw_line_bytes, Fits};
     ghost use Rattle.properties_lines.specs.LineReader.{LineReading};
     ghost use Rattle.properties_lines.specs.Private.InputBuffer.{IsTested};
 
@@ -50,7 +50,7 @@ impl Model for LineReader {
 
     ghost view = { λ s. record {
       state = scanner_state s.scanner s.input.held;
-      line = bytes_of s.input.held s.scanner.line;
+      line = raw_line_bytes s.input.held s.scanner.line;
       is_ascii = s.scanner.line.is_ascii;
       has_backslash = s.scanner.line.has_backslash;
       waiting = length s.input.held - s.scanner.at;

@@ -10,7 +10,7 @@ ghost use Rattle.properties_format.specs.Computed.ItemsToCome.{after_decided};
 ghost use Rattle.properties_text.specs.Encoding.{encoding_of, FindsByteOrderMark};
 ghost use Rattle.properties_text.specs.Escaping.{holds_backslash};
 ghost use Rattle.properties_lines.specs.LineSearch.{unit_size, IsFirstLineEnding};
-ghost use Rattle.properties_lines.specs.Scanner.{Fits, Scans, SkipsFront, SkipsFeed, IsReady, IsFresh, IsBefore, FindsByte, Searches, TellsBackslash, TakesLine, TakesLast, scanner_state, is_undecided};
+ghost use Rattle.properties_lines.specs.Scanner.{Fits, Scans, SkipsFront, SkipsFeed, IsReady, IsFresh, IsBefore, FindsByte, Searches, TellsBackslash, ScansLine, TakesLast, scanner_state, is_undecided};
 ghost use Rattle.properties_lines.specs.declared.scanner.Front.TheVariants.{Mark, Nothing};
 
 use crate::search::{
@@ -392,7 +392,7 @@ impl Scanner {
         requires unit { unit ≡ unit_size (encoding_of self.old.encoding) }
         requires ascii { (is_ascii ≡ true) ↔ (unit ≡ 1) × IsAscii (take end.at (drop self.old.at held.now)) }
         requires backslash { has_backslash ≡ holds_backslash (take end.at (drop self.old.at held.now)) }
-        ensures { TakesLine self.old held.now self.new }
+        ensures { ScansLine self.old held.now self.new }
     {
         let place = self.at + end.at;
         self.take_line(place, place + unit, is_ascii, has_backslash);

@@ -9,7 +9,7 @@ use Rattle.std.proofs.lemmas.List.{append_cancel_left}
 use Rattle.std.proofs.lemmas.Slice.Eq.{bytes_eq-Decides}
 use Rattle.std.proofs.lemmas.List.Elements.{recursion_from_All}
 use Rattle.properties_format.specs.Text.{LineEnding, backslash, begins, is_blank, is_comment_sign, is_empty, is_line_ending, lf, line_ending_text, line_feed, scalar, space, without_leading_blanks}
-use Rattle.properties_format.specs.Encoding.{Encoding, InForce, Repertoire, begins_like_bom, byte_order_mark, in_force}
+use Rattle.properties_format.specs.Encoding.{Encoding, InForce, Repertoire, begins_like_bom, byte_order_mark, repertoire_in_force}
 use Rattle.properties_format.specs.Lines.{AreLines, Ended, HoldsNoLineEnding, end, is_comment_line, joined, put_together}
 use Rattle.properties_format.specs.Split.{AreBlanks, IsSplit, Logical}
 use Rattle.properties_format.specs.Escapes.{Meaning, breaks, means}
@@ -23,7 +23,7 @@ use Rattle.properties_format.specs.Valued.{ending_among, ending_in}
 use Rattle.properties_format.specs.Settings.{IsGoodPrefix}
 use Rattle.properties_format.specs.Writing.{HoldsNoBackslash}
 use Rattle.properties_format.specs.Computed.Body.{held_groups_of}
-use Rattle.properties_format.specs.Computed.Edited.{IsSound}
+use Rattle.properties_format.specs.Computed.Edited.{IsSoundOutcome}
 use Rattle.properties_format.specs.Computed.Cut.{decoded_line}
 use Rattle.properties_format.specs.Computed.Escapes.{meaning_of}
 use Rattle.properties_format.specs.Computed.Items.{comment_outcome, items_of, outcome_of, split_outcome}
@@ -61,7 +61,7 @@ use Rattle.properties_format.proofs.Valued.Revalued.{text-own}
 use Rattle.properties_renaming.specs.CommentLines.{AreCommentGroups, IsCommentGroup}
 use Rattle.properties_renaming.specs.Commenting.{HasNewLines, IsCommentSet, IsStyleFor, LineStyle, comment_line, ending_or, gap_before, texts_of}
 use Rattle.properties_renaming.specs.Commented.{AreOthers, IsRemovedWithComments, LeadTo}
-use Rattle.properties_renaming.specs.Laws.{AreOthersIn, AreSound, IsCommentChanged, RemovingWithTheCommentKeepsTheRest, RemovingWithTheCommentTakesTheValue, SettingAPlainCommentBreaksNothing, SettingTheCommentKeepsTheMap, SettingTheCommentKeepsTheRest}
+use Rattle.properties_renaming.specs.Laws.{AreOthersIn, HasSoundEntries, IsCommentChanged, RemovingWithTheCommentKeepsTheRest, RemovingWithTheCommentTakesTheValue, SettingAPlainCommentBreaksNothing, SettingTheCommentKeepsTheMap, SettingTheCommentKeepsTheRest}
 use Rattle.properties_renaming.proofs.CommentGroups.{lead-next, line-blank, line-pair}
 use Rattle.properties_renaming.proofs.KeyPlaces.{decoded-past}
 use Rattle.properties_renaming.proofs.RenamedKeys.{bytes-front}
@@ -335,7 +335,7 @@ module _ (r : Repertoire) (style : LineStyle) (by : LineEnding) (ok : is_editabl
       (ap (λ w. w ++ printed_characters r in_prefix x) (sym (blanks-printed r gap gap_blank)) ∙ sym (printed_characters-append r in_prefix gap x))
       ∙ sym (prefix-printed r style.indent style.sign (gap ++ x) look.indent look.is_sign)
       ∙ sym (append-nil (printed_characters r in_prefix prefix)) in
-      subst IsSound (sym (ap outcome_of text ∙ read.outcome)) tt
+      subst IsSoundOutcome (sym (ap outcome_of text ∙ read.outcome)) tt
 
   lines-sound : (xs : List (List ℕ)) (more : List (List HeldLine)) → AreScalarLines xs → AreCleanLines xs → are_sound more
       → are_sound (map (new_group r style by) xs ++ more)
@@ -437,7 +437,7 @@ commented r source key text result ok scalars h =
         → NoneHasKey key more
         → h.comment.before ++ (h.comment.run ++ h.comment.group ∷ more)
         ≡ held_groups_of (byte_order_mark r.encoding source).encoding (byte_order_mark r.encoding source).body
-        → (h.texts ≡ h.lines) × (result ≡ source) ⊎ (h.texts ≢ h.lines) × HasNewLines (in_force r source) source h.comment h.lines result
+        → (h.texts ≡ h.lines) × (result ≡ source) ⊎ (h.texts ≢ h.lines) × HasNewLines (repertoire_in_force r source) source h.comment h.lines result
         → AreCommented r.encoding source key text result
     by more turn later own (inl (same, is)) =
         let c = h.comment in record {
@@ -462,12 +462,12 @@ commented r source key text result ok scalars h =
         let lines = subst AreScalarLines (sym h.are_lines.texts_are)
         (scalar-lines h.are_lines.lines.ended h.are_lines.lines.last h.are_lines.are_lines.are_lines
         (subst (AllByRecursion scalar) h.are_lines.are_lines.text (recursion_from_All scalar text scalars))) in
-        let new = map (new_group (in_force r source) n.style s.0) h.lines in
+        let new = map (new_group (repertoire_in_force r source) n.style s.0) h.lines in
         let parts = turn-parts f.encoding (c.before ++ c.run) c.group more turn in
         let groups = c.before ++ (new ++ c.group ∷ more) in
         let body_turn : AreInTurn f.encoding groups =
         turn-join f.encoding c.before (new ++ c.group ∷ more) (ended-first f.encoding c.before c.run parts.0)
-        (turn-join f.encoding new (c.group ∷ more) (lines-ended (in_force r source) n.style s.0 ok s.1 h.lines lines) parts.1) in
+        (turn-join f.encoding new (c.group ∷ more) (lines-ended (repertoire_in_force r source) n.style s.0 ok s.1 h.lines lines) parts.1) in
         let whole : groups_bytes (c.before ++ (c.run ++ c.group ∷ more)) ≡ groups_bytes (c.before ++ (c.run ++ c.group ∷ c.after)) =
         ap groups_bytes own ∙ held-body f.encoding f.body (held_groups_of f.encoding f.body) ok (held_groups_of-meets f.encoding f.body)
         ∙ sym h.held.together ∙ ap groups_bytes c.division in
@@ -482,7 +482,7 @@ commented r source key text result ok scalars h =
         let bytes : groups_bytes groups ≡ n.body =
         groups_bytes-append c.before (new ++ c.group ∷ more)
         ∙ ap (λ w. groups_bytes c.before ++ w)
-        (groups_bytes-append new (c.group ∷ more) ∙ ap₂ (λ v w. v ++ w) (lines-whole (in_force r source) n.style s.0 ok s.1 h.lines) behind)
+        (groups_bytes-append new (c.group ∷ more) ∙ ap₂ (λ v w. v ++ w) (lines-whole (repertoire_in_force r source) n.style s.0 ok s.1 h.lines) behind)
         ∙ sym n.body_is in
         let guard = not (begins_like_bom source) && begins_like_bom n.body in
         let slots = guard-slots f.encoding guard n.body groups (record { turn = body_turn; bytes = bytes }) in
@@ -496,11 +496,11 @@ commented r source key text result ok scalars h =
           more = more;
           own = own;
           run_comments = c.are_comments;
-          new_comments = lines-comments (in_force r source) n.style s.0 ok s.1 h.lines lines;
+          new_comments = lines-comments (repertoire_in_force r source) n.style s.0 ok s.1 h.lines lines;
           has_key = c.has_key;
           no_later = later;
           clean = λ none sound.
-              lines-sound (in_force r source) n.style s.0 ok s.1 h.lines (c.group ∷ more) lines
+              lines-sound (repertoire_in_force r source) n.style s.0 ok s.1 h.lines (c.group ∷ more) lines
               (subst AreCleanLines (sym h.are_lines.texts_are)
               (clean-lines h.are_lines.lines.ended h.are_lines.lines.last (subst HoldsNoBackslash h.are_lines.are_lines.text none)))
               (sound-rest c.run (c.group ∷ more) sound);
@@ -521,27 +521,27 @@ comment-contents r source key text scalars result h before sound =
     let old_lines : logical_lines_of r.encoding source ≡ lines_of (k.before ++ (k.run ++ k.group ∷ k.more)) = ap lines_of (sym k.own) in (
       k.in_force,
       λ after items good.
-        let now = items_of-only r.encoding result end after items in
-        let new = source-sound r.encoding result (rw now at good) in
-        let run = comments-said k.run (k.group ∷ k.more) k.run_comments
-        (sound-rest k.before (k.run ++ k.group ∷ k.more) (subst (OfEach IsSoundLine) old_lines old.0)) in
-        let others = comments-said k.new (k.group ∷ k.more) k.new_comments
-        (sound-rest k.before (k.new ++ k.group ∷ k.more) (subst (OfEach IsSoundLine) k.lines new.0)) in
-        let tail = pair-said key k.has_key.0 k.group k.more k.has_key.1 in
-        record {
-          before = contents_in k.before;
-          old_texts = run.0;
-          new_texts = others.0;
-          value = k.has_key.0;
-          after = contents_in k.more;
-          was = ap contents was ∙ old.1 ∙ ap (contents_among true) old_lines
-              ∙ contents-join k.before (k.run ++ k.group ∷ k.more)
-              ∙ ap (λ w. contents_in k.before ++ w) (contents-join k.run (k.group ∷ k.more) ∙ ap₂ (λ v w. v ++ w) run.1 tail);
-          no_later = hold-none key (lines_of k.more) (none-lines key k.more k.no_later);
-          now = ap contents now ∙ new.1 ∙ ap (contents_among true) k.lines
-              ∙ contents-join k.before (k.new ++ k.group ∷ k.more)
-              ∙ ap (λ w. contents_in k.before ++ w) (contents-join k.new (k.group ∷ k.more) ∙ ap₂ (λ v w. v ++ w) others.1 tail);
-        },
+          let now = items_of-only r.encoding result end after items in
+          let new = source-sound r.encoding result (rw now at good) in
+          let run = comments-said k.run (k.group ∷ k.more) k.run_comments
+          (sound-rest k.before (k.run ++ k.group ∷ k.more) (subst (OfEach IsSoundLine) old_lines old.0)) in
+          let others = comments-said k.new (k.group ∷ k.more) k.new_comments
+          (sound-rest k.before (k.new ++ k.group ∷ k.more) (subst (OfEach IsSoundLine) k.lines new.0)) in
+          let tail = pair-said key k.has_key.0 k.group k.more k.has_key.1 in
+          record {
+            before = contents_in k.before;
+            old_texts = run.0;
+            new_texts = others.0;
+            value = k.has_key.0;
+            after = contents_in k.more;
+            was = ap contents was ∙ old.1 ∙ ap (contents_among true) old_lines
+                ∙ contents-join k.before (k.run ++ k.group ∷ k.more)
+                ∙ ap (λ w. contents_in k.before ++ w) (contents-join k.run (k.group ∷ k.more) ∙ ap₂ (λ v w. v ++ w) run.1 tail);
+            no_later = hold-none key (lines_of k.more) (none-lines key k.more k.no_later);
+            now = ap contents now ∙ new.1 ∙ ap (contents_among true) k.lines
+                ∙ contents-join k.before (k.new ++ k.group ∷ k.more)
+                ∙ ap (λ w. contents_in k.before ++ w) (contents-join k.new (k.group ∷ k.more) ∙ ap₂ (λ v w. v ++ w) others.1 tail);
+          },
     )
 
 -- If the text holds no backslash, none is.
@@ -607,8 +607,8 @@ group-kept e key g gs hs n k sound =
     let m = k s.1 in (
       sound-kept x (lines_of hs) s.0 m.0,
       subst (λ w. AreOthersIn key w (contents_in (g ∷ hs))) (sym (with-content x (lines_of gs)))
-      (subst (AreOthersIn key (content_before (outcome_of x) true (contents_in gs))) (sym (with-content x (lines_of hs)))
-      (left-kept key (outcome_of x) (contents_in gs) (contents_in hs) (λ value q. n (value, rw q at (outcome_of-meets x))) m.1)),
+          (subst (AreOthersIn key (content_before (outcome_of x) true (contents_in gs))) (sym (with-content x (lines_of hs)))
+          (left-kept key (outcome_of x) (contents_in gs) (contents_in hs) (λ value q. n (value, rw q at (outcome_of-meets x))) m.1)),
     )
 
 -- and another is left out.
@@ -710,11 +710,11 @@ removed-contents r source key result h before sound =
     let new = source-sound e result good in (
       ap (λ w. let f : InForce = w in f.encoding) force,
       λ after items.
-        let now = items_of-only e result end after items in (
-          subst AreItems (sym now) good,
-          subst (λ w. AreOthersIn key w (contents after)) (sym (ap contents was ∙ old.1 ∙ ap (contents_among true) own))
-          (subst (AreOthersIn key (contents_in all)) (sym (ap contents now ∙ new.1 ∙ ap (contents_among true) lines)) left.1),
-        ),
+          let now = items_of-only e result end after items in (
+            subst AreItems (sym now) good,
+            subst (λ w. AreOthersIn key w (contents after)) (sym (ap contents was ∙ old.1 ∙ ap (contents_among true) own))
+                (subst (AreOthersIn key (contents_in all)) (sym (ap contents now ∙ new.1 ∙ ap (contents_among true) lines)) left.1),
+          ),
     )
 
 -- The map is that of the source without the key.

@@ -13,11 +13,11 @@ use Rattle.properties_format.specs.Body.{HeldLine, HasKey, as_lines, group_bytes
 use Rattle.properties_format.specs.Edited.{bom_of, guarding_lf}
 use Rattle.properties_format.specs.Computed.Body.{held_groups_of}
 use Rattle.properties_format.proofs.Body.Groups.{groups_bytes-append, held_groups_of-only}
-use Rattle.properties_editing.specs.Views.{AreGiven, IsGroup, IsViewOf, OpenView, TakesNext, kind_of, line_of, past, with_bytes}
+use Rattle.properties_editing.specs.Views.{AreGiven, IsGroup, IsViewOf, OpenView, TakesNext, group_kind, viewed_line, past_group, with_bytes}
 use Rattle.properties_editing.specs.declared.group.ViewedGroup.{ViewedGroup}
 use Rattle.properties_renaming.specs.CommentLines.{AreCommentGroups, IsCommentGroup, is_comment, is_line_of_comment}
 use Rattle.properties_renaming.specs.Commented.{AreOthers, IsRemovedWithComments}
-use Rattle.properties_renaming.specs.Private.Commented.{AreLeft, GivesHeaded, TakesHeaded}
+use Rattle.properties_renaming.specs.Private.Commented.{AreOthersLeft, GivesHeaded, TakesHeaded}
 use Rattle.properties_renaming.specs.declared.comments.Headed.{Headed}
 use Rattle.properties_renaming.specs.Private.Copied.{IsNew, IsReplacedIn, copied_to}
 use Rattle.properties_renaming.specs.declared.copied.Copied.{Copied}
@@ -27,7 +27,7 @@ use Rattle.properties_renaming.proofs.RenamedKeys.{copied-more, mark-front}
 -- ---- what is told of a group
 
 -- What a line is says whether it is a comment line.
-kind-comment : (x : List ℕ) (what : Logical) → IsSplit x what → is_comment_line x ≡ is_comment (kind_of what)
+kind-comment : (x : List ℕ) (what : Logical) → IsSplit x what → is_comment_line x ≡ is_comment (group_kind what)
 kind-comment x blank s = line-blank x s
 kind-comment x (comment text) s = line-comment x text s
 kind-comment x (pair key value) s = line-pair x key value s
@@ -35,7 +35,7 @@ kind-comment x (pair key value) s = line-pair x key value s
 told : (v : OpenView) (group : ViewedGroup) → IsGroup v group
     → is_line_of_comment group ≡ (is_comment_line (joined (as_lines v.group)) && (length v.group == 1))
 told v group h =
-    ap₂ (λ c n. c && (n == 1)) (ap is_comment h.kind_is ∙ sym (kind-comment (line_of v) h.what h.is_split)) h.line_count
+    ap₂ (λ c n. c && (n == 1)) (ap is_comment h.kind_is ∙ sym (kind-comment (viewed_line v) h.what h.is_split)) h.line_count
 
 pub told-comment : (v : OpenView) (group : ViewedGroup) → IsGroup v group → is_line_of_comment group ≡ true → IsCommentGroup v.group
 told-comment v group h k = group-comment v.group (sym (told v group h) ∙ k)
@@ -44,7 +44,7 @@ pub told-other : (v : OpenView) (group : ViewedGroup) → IsGroup v group → is
 told-other v group h k = group-other v.group (sym (told v group h) ∙ k)
 
 -- The logical line of a comment line is one.
-pub told-line : (v : OpenView) (group : ViewedGroup) → IsGroup v group → is_line_of_comment group ≡ true → is_comment_line (line_of v) ≡ true
+pub told-line : (v : OpenView) (group : ViewedGroup) → IsGroup v group → is_line_of_comment group ≡ true → is_comment_line (viewed_line v) ≡ true
 told-line v group h k = let c = sym (told v group h) ∙ k in grind (arith)
 
 -- ---- the next group that isn't a comment line
@@ -54,8 +54,8 @@ pub record ArePassed (v now : OpenView) (above : Option ℕ) : Type 0 where
   pub run : List (List HeldLine)
   pub are_comments : AreCommentGroups run
   pub division : v.to_come ≡ run ++ now.to_come
-  pub place : (past now).start ≡ (past v).start + length (groups_bytes run)
-  pub start : (past v).start ≡ unwrap_or above (past now).start
+  pub place : (past_group now).start ≡ (past_group v).start + length (groups_bytes run)
+  pub start : (past_group v).start ≡ unwrap_or above (past_group now).start
   pub nearer : length now.to_come ≤ length v.to_come
 
 pub none-passed : (v : OpenView) → ArePassed v v None
@@ -65,11 +65,11 @@ pub none-passed-run : (v : OpenView) → (none-passed v).run ≡ []
 unfolding none-passed
 none-passed-run v = refl
 
-pub moved : {now next : OpenView} {group : ViewedGroup} → TakesNext now group next → next.start ≡ (past now).start
+pub moved : {now next : OpenView} {group : ViewedGroup} → TakesNext now group next → next.start ≡ (past_group now).start
 moved t = ap (λ w. let o : OpenView = w in o.start) t.moves
 
 module _ {v now next : OpenView} {above : Option ℕ} (group : ViewedGroup) (start : ℕ) where
-  same-start : ArePassed v now above → TakesNext now group next → start ≡ unwrap_or above group.start → start ≡ (past v).start
+  same-start : ArePassed v now above → TakesNext now group next → start ≡ unwrap_or above group.start → start ≡ (past_group v).start
   same-start h t is = is ∙ ap (unwrap_or above) (t.is_group.start ∙ moved t) ∙ sym h.start
 
   -- One more was passed,
@@ -137,12 +137,12 @@ headed-none old new (Some headed) h none = absurd (none headed refl)
 
 -- What was copied of the groups that a view gave so far: all but what is left out.
 pub record IsLeftTo (source key : List ℕ) (v now : OpenView) (c : Copied) : Type 0 where
-  pub rest : groups_bytes now.to_come ≡ drop (past now).start source
-  pub within : (past now).start ≤ length source
+  pub rest : groups_bytes now.to_come ≡ drop (past_group now).start source
+  pub within : (past_group now).start ≤ length source
   pub source_is : c.source.now ≡ source
-  pub done : c.done ≤ (past now).start
+  pub done : c.done ≤ (past_group now).start
   pub made : List ℕ
-  pub copied : copied_to c (past now).start ≡ take v.start source ++ made
+  pub copied : copied_to c (past_group now).start ≡ take v.start source ++ made
   pub others : (more : List ℕ) → AreOthers key now.to_come more → AreOthers key v.to_come (made ++ more)
 
 -- Nothing was copied yet.
@@ -150,7 +150,7 @@ pub none-left_out : {requested : Encoding} {source key : List ℕ} {v : OpenView
     → IsLeftTo source key v v c
 none-left_out {source = source} {v = v} {c = c} h k =
     let none : length (group_bytes v.group) ≡ 0 = ap (λ g. length (group_bytes g)) h.none_given in
-    let place : (past v).start ≡ v.start = omega arith in
+    let place : (past_group v).start ≡ v.start = omega arith in
     let within = h.within in
     let zero_off : v.start - 0 ≡ v.start = omega arith in
     record {
@@ -159,7 +159,7 @@ none-left_out {source = source} {v = v} {c = c} h k =
       source_is = k.source_is;
       done = let d = k.done in omega arith;
       made = [];
-      copied = ap₂ (λ b s. b ++ take ((past v).start - c.done) (drop c.done s)) k.nothing k.source_is
+      copied = ap₂ (λ b s. b ++ take ((past_group v).start - c.done) (drop c.done s)) k.nothing k.source_is
           ∙ ap₂ (λ n d. take (n - d) (drop d source)) place k.done
           ∙ ap (λ n. take n source) zero_off
           ∙ sym (append-nil (take v.start source));
@@ -187,11 +187,11 @@ run-in source start all rest end within size parts =
 
 module _ {source key : List ℕ} {v now next : OpenView} {c : Copied} (headed : Headed) where
   pub next-run : (h : IsLeftTo source key v now c) → (t : TakesHeaded now headed next)
-      → IsRun source (past now).start (groups_bytes t.run ++ group_bytes next.group) (groups_bytes next.to_come) (past next).start
+      → IsRun source (past_group now).start (groups_bytes t.run ++ group_bytes next.group) (groups_bytes next.to_come) (past_group next).start
   next-run h t =
       let sizes = length-append (groups_bytes t.run) (group_bytes next.group) in
       let at = t.group_start in
-      run-in source (past now).start (groups_bytes t.run ++ group_bytes next.group) (groups_bytes next.to_come) (past next).start h.within (omega arith)
+      run-in source (past_group now).start (groups_bytes t.run ++ group_bytes next.group) (groups_bytes next.to_come) (past_group next).start h.within (omega arith)
       (sym h.rest
       ∙ ap groups_bytes t.takes
       ∙ groups_bytes-append t.run (next.group ∷ next.to_come)
@@ -202,7 +202,7 @@ module _ {source key : List ℕ} {v now next : OpenView} {c : Copied} (headed : 
       → IsReplacedIn c headed.start headed.group.next [] c' → IsLeftTo source key v next c'
   left-out {c'} h t has r =
       let span = next-run h t in
-      let end = (past next).start in
+      let end = (past_group next).start in
       let done : c'.done ≡ end = r.done ∙ t.is_group.next in
       let none_off : end - end ≡ 0 = omega arith in
       record {
@@ -236,8 +236,8 @@ module _ {source key : List ℕ} {v now next : OpenView} {c : Copied} (headed : 
         done = omega arith;
         made = h.made ++ (run ++ g);
         copied = ap (copied_to c) (sym size)
-            ∙ copied-more c (past now).start (length (run ++ g)) h.done
-            ∙ ap₂ (λ a b. a ++ b) h.copied (ap (λ s. take (length (run ++ g)) (drop (past now).start s)) h.source_is ∙ span.bytes)
+            ∙ copied-more c (past_group now).start (length (run ++ g)) h.done
+            ∙ ap₂ (λ a b. a ++ b) h.copied (ap (λ s. take (length (run ++ g)) (drop (past_group now).start s)) h.source_is ∙ span.bytes)
             ∙ append_assoc (take v.start source) h.made (run ++ g);
         others = λ more k.
             subst (AreOthers key v.to_come)
@@ -249,14 +249,14 @@ module _ {source key : List ℕ} {v now next : OpenView} {c : Copied} (headed : 
 
 -- Comment lines alone are to come.
 pub left-all : {requested : Encoding} {source key : List ℕ} {v now : OpenView} {c : Copied} (bytes : List ℕ) → IsViewOf requested source v
-    → IsLeftTo source key v now c → AreCommentGroups now.to_come → bytes ≡ copied_to c (length c.source.now) → AreLeft requested source key bytes
+    → IsLeftTo source key v now c → AreCommentGroups now.to_come → bytes ≡ copied_to c (length c.source.now) → AreOthersLeft requested source key bytes
 left-all {requested} {source} {key} {v} {now} {c} bytes o h comments is =
     let last = groups_bytes now.to_come in
-    let counted : length last ≡ length (drop (past now).start source) = ap length h.rest in
-    let left = length-drop (past now).start source in
+    let counted : length last ≡ length (drop (past_group now).start source) = ap length h.rest in
+    let left = length-drop (past_group now).start source in
     let within = h.within in
-    let place : length c.source.now ≡ (past now).start + length last = ap length h.source_is ∙ omega arith in
-    let all : take (length last) (drop (past now).start source) ≡ last = ap (take (length last)) (sym h.rest ∙ sym (append-nil last)) ∙ take-append_seam last [] in
+    let place : length c.source.now ≡ (past_group now).start + length last = ap length h.source_is ∙ omega arith in
+    let all : take (length last) (drop (past_group now).start source) ≡ last = ap (take (length last)) (sym h.rest ∙ sym (append-nil last)) ∙ take-append_seam last [] in
     record {
       groups = v.to_come;
       held = subst (λ w. let f : InForce = w in AreGiven f.encoding f.body v.to_come) (sym o.in_force) o.given;
@@ -264,8 +264,8 @@ left-all {requested} {source} {key} {v} {now} {c} bytes o h comments is =
       others = h.others last (run-last key now.to_come comments);
       whole = is
           ∙ ap (copied_to c) place
-          ∙ copied-more c (past now).start (length last) h.done
-          ∙ ap₂ (λ a b. a ++ b) h.copied (ap (λ s. take (length last) (drop (past now).start s)) h.source_is ∙ all)
+          ∙ copied-more c (past_group now).start (length last) h.done
+          ∙ ap₂ (λ a b. a ++ b) h.copied (ap (λ s. take (length last) (drop (past_group now).start s)) h.source_is ∙ all)
           ∙ append_assoc (take v.start source) h.made last
           ∙ ap (λ w. w ++ (h.made ++ last)) (sym (mark-front o));
     }
@@ -289,7 +289,7 @@ guarded-whole source bytes body all whole is = elim (cases_Bool (begins_like_bom
       is ∙ ap (λ w. guarding_lf source w ++ w) (whole ∙ ap (λ w. w ++ body) none) ∙ sym (ap (λ w. w ++ (guarding_lf source body ++ body)) none)
 ]
 
-pub left-guarded : {e : Encoding} {source key : List ℕ} (others all : List ℕ) → AreLeft e source key others → all ≡ guarding_lf source others ++ others
+pub left-guarded : {e : Encoding} {source key : List ℕ} (others all : List ℕ) → AreOthersLeft e source key others → all ≡ guarding_lf source others ++ others
     → IsRemovedWithComments e source key all
 left-guarded {e} {source} {key} others all h is =
     record { groups = h.groups; held = h.held; rest = h.rest; others = h.others; whole = guarded-whole source others h.rest all h.whole is }

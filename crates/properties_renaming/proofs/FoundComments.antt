@@ -11,12 +11,12 @@ use Rattle.properties_format.specs.Edited.{bom_of, final_group, is_editable}
 use Rattle.properties_format.proofs.Body.Groups.{groups_bytes-append}
 use Rattle.properties_format.proofs.Edited.Steps.{final_group-push}
 use Rattle.properties_items.specs.Texts.{characters}
-use Rattle.properties_editing.specs.Views.{AreGiven, IsViewOf, OpenView, TakesNext, line_of, past}
+use Rattle.properties_editing.specs.Views.{AreGiven, IsViewOf, OpenView, TakesNext, viewed_line, past_group}
 use Rattle.properties_editing.specs.declared.group.ViewedGroup.{ViewedGroup}
 use Rattle.properties_renaming.specs.CommentLines.{AreCommentGroups, AreCommentTexts, IsCommentGroup, IsCommentLine, is_line_of_comment}
 use Rattle.properties_renaming.specs.Commenting.{HaveNoText}
 use Rattle.properties_renaming.specs.Private.Commented.{TakesHeaded}
-use Rattle.properties_renaming.specs.Private.Commenting.{GivesComment, HasFound, IsAt, IsModel, TakesComment, TellsFound, TellsModel, first_model, texts_in}
+use Rattle.properties_renaming.specs.Private.Commenting.{GivesComment, HasFound, IsGroupAt, IsModel, TakesComment, TellsFound, TellsModel, first_model, texts_in}
 use Rattle.properties_renaming.specs.declared.comments.Headed.{Headed}
 use Rattle.properties_renaming.specs.declared.commenting.Comment.{Comment}
 use Rattle.properties_renaming.proofs.CommentGroups.{comment-no_key}
@@ -50,7 +50,7 @@ model-later start gs g model h = record {
 
 -- It is the first that has a text, or none has one yet, or another is the first.
 model-more : (start : ℕ) (gs : List (List HeldLine)) (g : List HeldLine) (text : List ℕ) (model : Option ViewedGroup) (line : ViewedGroup) → TellsModel start gs model
-    → IsCommentLine (joined (as_lines g)) text → IsAt (start + length (groups_bytes gs)) g line → TellsModel start (gs ++ g ∷ []) (first_model model line text)
+    → IsCommentLine (joined (as_lines g)) text → IsGroupAt (start + length (groups_bytes gs)) g line → TellsModel start (gs ++ g ∷ []) (first_model model line text)
 model-more start gs g [] (Some model) line h is at = model-later start gs g model h
 model-more start gs g (c ∷ cs) (Some model) line h is at = model-later start gs g model h
 model-more start gs g [] None line h is at = no_text-more gs g h is
@@ -72,16 +72,16 @@ model-more start gs g (c ∷ cs) None line h is at = record {
 pub record AreGathered {Z : Type 0} (v now : OpenView) (above : Option ℕ) (texts : List (String Z)) (model : Option ViewedGroup) : Type 0 where
   pub passed : ArePassed v now above
   pub are_texts : AreCommentTexts passed.run (map characters texts)
-  pub tells_model : TellsModel (past v).start passed.run model
+  pub tells_model : TellsModel (past_group v).start passed.run model
 
 pub none-gathered : {Z : Type 0} (v : OpenView) (texts : List (String Z)) → texts ≡ [] → AreGathered v v None texts None
 none-gathered v texts none = record {
   passed = none-passed v;
   are_texts = subst (λ r. AreCommentTexts r (map characters texts)) (sym (none-passed-run v)) (ap (map characters) none);
-  tells_model = subst (λ r. TellsModel (past v).start r None) (sym (none-passed-run v)) tt;
+  tells_model = subst (λ r. TellsModel (past_group v).start r None) (sym (none-passed-run v)) tt;
 }
 
-at-group : {now next : OpenView} (group : ViewedGroup) → TakesNext now group next → IsAt (past now).start next.group group
+at-group : {now next : OpenView} (group : ViewedGroup) → TakesNext now group next → IsGroupAt (past_group now).start next.group group
 at-group {now} {next} group t =
     let start = moved t in
     let g = t.is_group in
@@ -93,7 +93,7 @@ at-group {now} {next} group t =
 
 module _ {Z : Type 0} {v now next : OpenView} {above : Option ℕ} (group : ViewedGroup) (start : ℕ) where
   pub one-gathered : {texts : List (String Z)} {model : Option ViewedGroup} (new : List (String Z)) (made : String Z) (text : List ℕ) → AreGathered v now above texts model
-      → TakesNext now group next → start ≡ unwrap_or above group.start → is_line_of_comment group ≡ true → IsCommentLine (line_of next) text
+      → TakesNext now group next → start ≡ unwrap_or above group.start → is_line_of_comment group ≡ true → IsCommentLine (viewed_line next) text
       → characters made ≡ text → new ≡ texts ++ made ∷ [] → AreGathered v next (Some start) new (first_model model group text)
   one-gathered {texts} {model} new made text h t is line says copied pushed =
       let p = h.passed in
@@ -105,9 +105,9 @@ module _ {Z : Type 0} {v now next : OpenView} {above : Option ℕ} (group : View
         passed = q;
         are_texts = subst (λ r. AreCommentTexts r (map characters new)) (sym run)
             (subst (AreCommentTexts (p.run ++ next.group ∷ [])) (sym all) (texts-more p.run next.group (map characters texts) text h.are_texts says));
-        tells_model = subst (λ r. TellsModel (past v).start r (first_model model group text)) (sym run)
-            (model-more (past v).start p.run next.group text model group h.tells_model says
-            (subst (λ n. IsAt n next.group group) p.place (at-group group t)));
+        tells_model = subst (λ r. TellsModel (past_group v).start r (first_model model group text)) (sym run)
+            (model-more (past_group v).start p.run next.group text model group h.tells_model says
+            (subst (λ n. IsGroupAt n next.group group) p.place (at-group group t)));
       }
 
 -- Another group comes after them.
@@ -118,9 +118,9 @@ comment-next {v} {now} {next} group comment h t is same other =
     let start = comment.headed.start in
     let k = headed-next group start h.passed t is other in
     let run : k.run ≡ h.passed.run = headed-next-run group start h.passed t is other in
-    let Such : Headed → Type 0 = λ headed. (f : TakesHeaded v headed next) × AreCommentTexts f.run (texts_in comment) × TellsModel (past v).start f.run comment.model in
+    let Such : Headed → Type 0 = λ headed. (f : TakesHeaded v headed next) × AreCommentTexts f.run (texts_in comment) × TellsModel (past_group v).start f.run comment.model in
     let made : Such (record { start = start; group = group }) =
-    (k, subst (λ r. AreCommentTexts r (texts_in comment)) (sym run) h.are_texts, subst (λ r. TellsModel (past v).start r comment.model) (sym run) h.tells_model) in
+    (k, subst (λ r. AreCommentTexts r (texts_in comment)) (sym run) h.are_texts, subst (λ r. TellsModel (past_group v).start r comment.model) (sym run) h.tells_model) in
     subst (λ g. Such (record { start = start; group = g })) (sym same) made
 
 -- ---- the last pair with the key
@@ -159,7 +159,7 @@ found-later key start gs hs (Some comment) h none = record {
 pub record HasFoundTo (key : List ℕ) (v now : OpenView) (found : Option Comment) : Type 0 where
   pub passed : List (List HeldLine)
   pub division : v.to_come ≡ passed ++ now.to_come
-  pub place : (past now).start ≡ v.start + length (groups_bytes passed)
+  pub place : (past_group now).start ≡ v.start + length (groups_bytes passed)
   pub last_other : ¬ (IsCommentGroup (final_group passed))
   pub tells : TellsFound passed key v.start found
 

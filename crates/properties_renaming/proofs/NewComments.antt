@@ -12,7 +12,7 @@ use Rattle.std.proofs.lemmas.List.{drop_more, length-drop, take-append-drop, tak
 use Rattle.std.proofs.lemmas.Slice.Eq.{bytes_eq-Decides}
 use Rattle.std.proofs.lemmas.Str.{IsUtf8-string_bytes}
 use Rattle.properties_format.specs.Text.{LineEnding, begins, carriage_return, cr, crlf, is_blank, is_comment_sign, is_empty, lf, line_ending_text, line_feed, space, without_leading_blanks}
-use Rattle.properties_format.specs.Encoding.{Encoding, Repertoire, byte_order_mark, in_encoding, in_force, output_encoding}
+use Rattle.properties_format.specs.Encoding.{Encoding, Repertoire, byte_order_mark, in_encoding, repertoire_in_force, output_encoding}
 use Rattle.properties_format.specs.Lines.{HoldsNoLineEnding, is_comment_line}
 use Rattle.properties_format.specs.Split.{AreBlanks}
 use Rattle.properties_format.specs.Body.{AreGroupsOf, HeldLine, ending_bytes, group_bytes, groups_bytes, held_in, last_ending}
@@ -41,7 +41,7 @@ use Rattle.properties_editing.proofs.PartsRead.{left-none}
 use Rattle.properties_renaming.specs.CommentLines.{AreCommentGroups, IsCommentGroup}
 use Rattle.properties_renaming.specs.Commenting.{HasNewLines, IsStyleAbove, IsStyleFor, IsStyleOfLine, LineStyle, comment_line, ending_or, gap_before}
 use Rattle.properties_renaming.specs.Private.CommentTexts.{first_blank, without_first_blank}
-use Rattle.properties_renaming.specs.Private.Commenting.{HasFound, HoldsGroup, HoldsLine, IsAt, IsLastEndingOf, IsModel, comment_in, line_bytes, line_feed_after, style_in}
+use Rattle.properties_renaming.specs.Private.Commenting.{HasFound, HoldsGroup, HoldsLine, IsGroupAt, IsLastEndingOf, IsModel, comment_in, comment_line_bytes, line_feed_after, style_in}
 use Rattle.properties_renaming.specs.Private.Copied.{IsNew, IsReplacedIn, copied_to}
 use Rattle.properties_renaming.specs.Private.Renaming.{PrintsKeys}
 use Rattle.properties_renaming.specs.declared.commenting.Comment.{Comment}
@@ -330,7 +330,7 @@ sum-of a b = ap length (groups_bytes-append a b) ∙ length-append (groups_bytes
 
 module _ {e : Encoding} {source key : List ℕ} {comment : Comment} where
   at-place : (h : HasFound e source key (Some comment)) (before : List (List HeldLine)) (g : List HeldLine) (after : List (List HeldLine)) (group : ViewedGroup)
-      → h.groups ≡ before ++ g ∷ after → IsAt (length (bom_of source) + length (groups_bytes before)) g group → HoldsGroup source g group
+      → h.groups ≡ before ++ g ∷ after → IsGroupAt (length (bom_of source) + length (groups_bytes before)) g group → HoldsGroup source g group
   at-place h before g after group division at = record {
     front = bom_of source ++ groups_bytes before;
     rest = groups_bytes after;
@@ -338,7 +338,7 @@ module _ {e : Encoding} {source key : List ℕ} {comment : Comment} where
         ∙ ap (λ w. bom_of source ++ groups_bytes w) division
         ∙ ap (λ w. bom_of source ++ w) (groups_bytes-append before (g ∷ after))
         ∙ sym (append_assoc (bom_of source) (groups_bytes before) (groups_bytes (g ∷ after)));
-    at = subst (λ n. IsAt n g group) (sym (length-append (bom_of source) (groups_bytes before))) at;
+    at = subst (λ n. IsGroupAt n g group) (sym (length-append (bom_of source) (groups_bytes before))) at;
   }
 
   pub pair-held : (h : HasFound e source key (Some comment)) → HoldsGroup source h.found_is.group comment.headed.group
@@ -348,7 +348,7 @@ module _ {e : Encoding} {source key : List ℕ} {comment : Comment} where
       let sum = sum-of f.before f.run in
       let place : comment.headed.start + length (groups_bytes f.run) ≡ length (bom_of source) + length (groups_bytes (f.before ++ f.run)) = omega arith in
       at-place h (f.before ++ f.run) f.group f.after comment.headed.group (f.division ∙ sym (append_assoc f.before f.run (f.group ∷ f.after)))
-      (subst (λ n. IsAt n f.group comment.headed.group) place f.at)
+      (subst (λ n. IsGroupAt n f.group comment.headed.group) place f.at)
 
   pub model-held : (h : HasFound e source key (Some comment)) (model : ViewedGroup) (m : IsModel comment.headed.start h.found_is.run model) → HoldsLine source m.line model
   model-held h model m =
@@ -367,7 +367,7 @@ module _ {e : Encoding} {source key : List ℕ} {comment : Comment} where
       let (ending, lines, fit) = turn-at force.encoding (f.before ++ m.before) m.line among.0
       (rw among.1 at (in-turn force.encoding force.body h.held.all h.editable h.held.division)) in
       let group : IsCommentGroup m.line = comment-among m.before m.line m.after (rw m.division at f.are_comments) in (
-        at-place h (f.before ++ m.before) m.line after model division (subst (λ n. IsAt n m.line model) place m.at),
+        at-place h (f.before ++ m.before) m.line after model division (subst (λ n. IsGroupAt n m.line model) place m.at),
         by force.encoding ending m.line h.editable lines group,
       )
     where
@@ -403,7 +403,7 @@ module _ {e : Encoding} {source key : List ℕ} {comment : Comment} where
 -- ---- new lines
 
 pub lines-printed : (t : Repertoire) (r : code.Repertoire) (style : Style) (lines : List (List ℕ)) → PrintsKeys t r
-    → flat_map (line_bytes r style) lines ≡ flat_map (comment_line t (style_in style)) lines
+    → flat_map (comment_line_bytes r style) lines ≡ flat_map (comment_line t (style_in style)) lines
 lines-printed t r style [] h = refl
 lines-printed t r style (x ∷ lines) h =
     ap₂ (λ a b. a ++ b)
@@ -411,7 +411,7 @@ lines-printed t r style (x ∷ lines) h =
 
 -- in the encoding in force
 pub prints-in_force : (r : Repertoire) (rep : code.Repertoire) (source : List ℕ) (f : Encoding) → f ≡ (byte_order_mark r.encoding source).encoding
-    → is_editable (byte_order_mark r.encoding source).encoding ≡ true → PrintsKeys (in_encoding r (output_encoding f)) rep → PrintsKeys (in_force r source) rep
+    → is_editable (byte_order_mark r.encoding source).encoding ≡ true → PrintsKeys (in_encoding r (output_encoding f)) rep → PrintsKeys (repertoire_in_force r source) rep
 prints-in_force r rep source f is ok h =
     subst (λ x. PrintsKeys (in_encoding r x) rep) (ap output_encoding is ∙ editable-own (byte_order_mark r.encoding source).encoding ok) h
 

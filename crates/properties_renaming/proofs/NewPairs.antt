@@ -8,10 +8,10 @@ use Rattle.std.proofs.lemmas.List.{append_cancel_left}
 use Rattle.properties_format.specs.Text.{LineEnding, backslash, cr, begins, is_blank, is_comment_sign, is_empty, scalar, without_leading_blanks}
 use Rattle.properties_format.specs.Encoding.{Encoding, Repertoire, begins_like_bom}
 use Rattle.properties_format.specs.Lines.{AreOpen, EndsClosed, HoldsNoLineEnding, IsWhole, is_comment_line, is_open, joined, without_open_backslash}
-use Rattle.properties_format.specs.Split.{AreBlanks, AreUnits, IsKey, IsPair, KeyUnit, Logical, escaped, last, plain, units_before}
+use Rattle.properties_format.specs.Split.{AreBlanks, AreKeyUnits, IsKey, IsPair, KeyUnit, Logical, escaped, last, plain, key_units_before}
 use Rattle.properties_format.specs.Escapes.{Means, Spelling, spelling_character, spellings_before}
 use Rattle.properties_format.specs.Edited.{is_editable}
-use Rattle.properties_format.specs.Valued.{HasPair}
+use Rattle.properties_format.specs.Valued.{HoldsPair}
 use Rattle.properties_format.specs.Body.{HasKey, HeldLine, as_lines, ending_bytes, group_bytes}
 use Rattle.properties_format.specs.Printing.{encoded_text, in_key_or_value, is_bom_like, printed_characters, printed_key, unicode_escape, unit_escape, with_first_escaped}
 use Rattle.properties_format.specs.Computed.Cut.{decoded_line}
@@ -89,13 +89,13 @@ unmarked-front (h ∷ a) b n = n
 
 -- ---- a key isn't left open
 
-units-closed : (us : List KeyUnit) (rest : List ℕ) → AreUnits us rest → rest ≢ [] → is_open (units_before us []) ≡ false
+units-closed : (us : List KeyUnit) (rest : List ℕ) → AreKeyUnits us rest → rest ≢ [] → is_open (key_units_before us []) ≡ false
 units-closed [] rest h n = refl
-units-closed (plain c ∷ us) rest h n = is_open-after [] c (units_before us []) h.0.0 ∙ units-closed us rest h.1 n
+units-closed (plain c ∷ us) rest h n = is_open-after [] c (key_units_before us []) h.0.0 ∙ units-closed us rest h.1 n
 units-closed (escaped c ∷ us) rest h n =
     let two : is_open (backslash ∷ c ∷ []) ≡ false = grind (arith, eqb-true, is_open-other (backslash ∷ []) c) in
-    open-closed (backslash ∷ c ∷ []) (units_before us []) two ∙ units-closed us rest h.1 n
-units-closed (last ∷ us) rest h n = absurd (n (none-right (units_before us []) rest (sym (units_before-append us rest) ∙ h.0)))
+    open-closed (backslash ∷ c ∷ []) (key_units_before us []) two ∙ units-closed us rest h.1 n
+units-closed (last ∷ us) rest h n = absurd (n (none-right (key_units_before us []) rest (sym (units_before-append us rest) ∙ h.0)))
 
 key-closed : (key v : List ℕ) → IsKey key v → is_open (key ++ v) ≡ false → is_open key ≡ false
 key-closed key [] k c = ap is_open (sym (append-nil key)) ∙ c
@@ -407,7 +407,7 @@ line-mark e [] x tail tail_text ok h m d k = of k
 
 -- A pair with the old key is now one with the new key and its value, and any other group is as it was.
 abbrev pub IsNamed : List ℕ → List ℕ → List HeldLine → List HeldLine → Type 0
-IsNamed old new g h = ((value : List ℕ) × HasPair old value g × HasPair new value h) ⊎ ¬ (HasKey old g) × (h ≡ g)
+IsNamed old new g h = ((value : List ℕ) × HoldsPair old value g × HoldsPair new value h) ⊎ ¬ (HasKey old g) × (h ≡ g)
 
 -- The new bytes of a group are such a group. It is whole or ends open as the old one did, and doesn't begin like a byte
 -- order mark at the front of a body if the old one didn't.
@@ -421,7 +421,7 @@ pub record IsNewGroup (e : Encoding) (o : Option LineEnding) (first : Bool) (old
   pub no_mark : first ≡ true → begins_like_bom (group_bytes g) ≡ false → begins_like_bom bytes ≡ false
 
 module _ (r : Repertoire) (o : Option LineEnding) (first : Bool) (i : HeldLine) (is : List HeldLine) (old : List ℕ) (c : ℕ) (cs value bytes : List ℕ)
-    (ok : is_editable r.encoding ≡ true) (scalars : All scalar (c ∷ cs)) (a : AreLinesBy r.encoding o (i ∷ is)) (m : HasPair old value (i ∷ is))
+    (ok : is_editable r.encoding ≡ true) (scalars : All scalar (c ∷ cs)) (a : AreLinesBy r.encoding o (i ∷ is)) (m : HoldsPair old value (i ∷ is))
     (k : IsRekeyed r first (i ∷ is) (c ∷ cs) bytes) where
   abbrev e : Encoding
   e = r.encoding
@@ -523,7 +523,7 @@ module _ (r : Repertoire) (o : Option LineEnding) (first : Bool) (i : HeldLine) 
         added true = refl
         added false = without_leading_blanks-only b.indent text b.indent_blank begin-full.no_blank
 
-    new-pair : HasPair (c ∷ cs) value new_group
+    new-pair : HoldsPair (c ∷ cs) value new_group
     new-pair = record {
       raw_key = text;
       raw_value = k.value;

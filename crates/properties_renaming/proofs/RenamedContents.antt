@@ -6,7 +6,7 @@ use Rattle.std.specs.Prelude.{Result, Ok, Err, bytes_eq, if◌then◌else◌}
 use Rattle.std.proofs.lemmas.Bool.{cases_Bool}
 use Rattle.std.proofs.lemmas.Slice.Eq.{bytes_eq-Decides}
 use Rattle.properties_format.specs.Text.{is_empty, scalar, LineEnding}
-use Rattle.properties_format.specs.Encoding.{Encoding, InForce, Repertoire, begins_like_bom, byte_order_mark, in_force}
+use Rattle.properties_format.specs.Encoding.{Encoding, InForce, Repertoire, begins_like_bom, byte_order_mark, repertoire_in_force}
 use Rattle.properties_format.specs.Lines.{end, joined}
 use Rattle.properties_format.specs.Items.{AreItems, Content, Entry, Outcome, comment, given, pair}
 use Rattle.properties_format.specs.Changed.{HoldNoPair, NoneIsPair, contents, line_before}
@@ -31,7 +31,7 @@ use Rattle.properties_renaming.specs.declared.renaming.RenameError.TheVariants.{
 use Rattle.properties_renaming.proofs.RenamedKeys.{edited-editable}
 use Rattle.properties_editing.specs.Editing.{asked_for}
 use Rattle.properties_editing.specs.declared.source.SourceOptions.{SourceOptions}
-use Rattle.properties_renaming.specs.Laws.{AreSound, IsName, IsRefused, RenamingAgainIsRefused, RenamingBackGivesTheContents, RenamingChangesTheKey, RenamingMovesTheValue, renamed, renamed_map}
+use Rattle.properties_renaming.specs.Laws.{HasSoundEntries, IsName, IsRenameRefused, RenamingAgainIsRefused, RenamingBackGivesTheContents, RenamingChangesTheKey, RenamingMovesTheValue, renamed, renamed_map}
 use Rattle.properties_format.proofs.Edited.Made.{has_key-false}
 use Rattle.properties_format.proofs.Encodings.PieceEnds.{no-front}
 use Rattle.properties_format.proofs.InTurn.Lines.{AreLinesBy, bytes-of, bytes-unended}
@@ -174,7 +174,7 @@ renamed-groups r source old (c ∷ cs) result ok (some, s) h =
     let f = byte_order_mark r.encoding source in
     let all = h.held.all in
     let turn = in-turn f.encoding f.body all ok h.held.division in
-    let n = new-groups (in_force r source) old c cs ok s true all h.body turn
+    let n = new-groups (repertoire_in_force r source) old c cs ok s true all h.body turn
     (subst (λ gs. AreRekeyedIn gs) h.held.are h.renamed) in
     let bytes : groups_bytes all ≡ f.body = held-body f.encoding f.body all ok h.held.division in
     record {
@@ -190,7 +190,7 @@ renamed-groups r source old (c ∷ cs) result ok (some, s) h =
     }
   where
     AreRekeyedIn : List (List HeldLine) → Type 0
-    AreRekeyedIn gs = AreRekeyed (in_force r source) old (c ∷ cs) true gs h.body
+    AreRekeyedIn gs = AreRekeyed (repertoire_in_force r source) old (c ∷ cs) true gs h.body
 
 -- The lines of a source, and of the result.
 module _ (r : Repertoire) (source old new result : List ℕ) (ok : is_editable (byte_order_mark r.encoding source).encoding ≡ true)
@@ -304,7 +304,7 @@ none-given key (g ∷ []) n = grind (arith)
 none-given key (g ∷ h ∷ gs) n = (n.0, none-given key (h ∷ gs) n.1)
 
 -- No content of the source has the new key.
-new-free : (r : Repertoire) (source old new result : List ℕ) → IsRenamed r source old new result → (before : List Entry) → AreSound r source before
+new-free : (r : Repertoire) (source old new result : List ℕ) → IsRenamed r source old new result → (before : List Entry) → HasSoundEntries r source before
     → HoldNoPair new (contents before)
 new-free r source old new result h before sound =
     let e = r.encoding in
@@ -381,7 +381,7 @@ renaming-again options source old new name apart bytes ((same, edits), inl (othe
         renamed-none (asked_for options) source old new bytes.items
         (edited-editable (asked_for options) source same options.comments edits) name apart h
 
-    of : (again : Result (Vec ℕ) RenameError) → RenamesKey options bytes.items old new again → IsRefused again
+    of : (again : Result (Vec ℕ) RenameError) → RenamesKey options bytes.items old new again → IsRenameRefused again
     of (Ok more) (editable, inl (other, m, alike)) = m.is_there (none m.groups m.held)
     of (Ok more) (editable, inr (equal, kept)) = apart equal
     of (Err NoKey) k = tt

@@ -11,7 +11,7 @@ use Rattle.std.proofs.lemmas.List.{drop-drop, length-drop, take-append-drop}
 use Rattle.std.proofs.lemmas.Str.{chars-nil}
 use Rattle.std.proofs.lemmas.Slice.Eq.{bytes_eq-Decides}
 use Rattle.properties_format.specs.Text.{equals_sign, is_blanks, is_empty}
-use Rattle.properties_format.specs.Encoding.{Characters, Encoding, InForce, Repertoire, ascii_in, byte_order_mark, in_encoding, in_force, latin_1_in, output_encoding, utf_8}
+use Rattle.properties_format.specs.Encoding.{Characters, Encoding, InForce, Repertoire, ascii_in, byte_order_mark, in_encoding, repertoire_in_force, latin_1_in, output_encoding, utf_8}
 use Rattle.properties_format.specs.Split.{Logical, blank, comment, pair, IsSplit}
 use Rattle.properties_format.specs.Printing.{encoded_text, in_prefix, printed_characters, printed_key}
 use Rattle.properties_format.specs.Lines.{joined}
@@ -44,7 +44,7 @@ use Rattle.properties_editing.specs.Private.Sources.{PrintsIn}
 use Rattle.properties_editing.specs.Editing.{MakesEditsFor}
 use Rattle.properties_editing.specs.declared.source.Comments.{Comments}
 use Rattle.properties_editing.specs.declared.source.Comments.TheVariants.{PassedOver, Read}
-use Rattle.properties_editing.specs.Views.{GivesNext, AreGiven, AreOfPair, IsViewOf, ArePlaces, OpenView, TakesNext, line_of, past, size_before, with_bytes}
+use Rattle.properties_editing.specs.Views.{GivesNext, AreGiven, AreOfPair, IsViewOf, ArePlaces, OpenView, TakesNext, viewed_line, past_group, size_before, with_bytes}
 use Rattle.properties_editing.specs.declared.group.PartPlaces.{PartPlaces}
 use Rattle.properties_editing.specs.declared.group.ViewedGroup.{ViewedGroup}
 use Rattle.properties_renaming.specs.Renaming.{AreAlike, ArePrinted, AreRekeyed, IsRekeyed, IsRenamed, Replaced, with_new, with_old, key_text}
@@ -88,10 +88,10 @@ has-pair key g h = let k = (has_key-true key g h).1 in (k.raw_key, k.raw_value, 
 same-split : (x : List ℕ) (p q : Logical) → IsSplit x p → IsSplit x q → p ≡ q
 same-split x p q h k = split_of-only x p h ∙ sym (split_of-only x q k)
 
-pub pair-places : (v : OpenView) (places : PartPlaces) → ArePlaces v places → IsAnyPair (line_of v)
+pub pair-places : (v : OpenView) (places : PartPlaces) → ArePlaces v places → IsAnyPair (viewed_line v)
     → (key : List ℕ) × (value : List ℕ) × AreOfPair v key value places
-pair-places v places (blank, d) (k, w, p) = let same = same-split (line_of v) blank (pair k w) d.0 p in absurd (cc)
-pair-places v places (comment text, d) (k, w, p) = let same = same-split (line_of v) (comment text) (pair k w) d.is_comment p in absurd (cc)
+pair-places v places (blank, d) (k, w, p) = let same = same-split (viewed_line v) blank (pair k w) d.0 p in absurd (cc)
+pair-places v places (comment text, d) (k, w, p) = let same = same-split (viewed_line v) (comment text) (pair k w) d.is_comment p in absurd (cc)
 pair-places v places (pair key value, d) p = (key, value, d)
 
 -- ---- copies of the source
@@ -125,7 +125,7 @@ pub rekeyed-in : (characters : Characters) (v : OpenView) (old new : Copied) (ke
     IsSlice v old.source.now → old.done ≤ v.start → (at : AreOfPair v name value places)
     → IsPlaced v.encoding v.group at.is_pair.indent name n (size_before at.key_end.0)
     → first ≡ (key.first && (v.start + n == v.start))
-    → text ≡ encoded_text t.encoding (key_text t first (between_in (line_of v)) (chars key.text.now))
+    → text ≡ encoded_text t.encoding (key_text t first (between_in (viewed_line v)) (chars key.text.now))
     → IsReplacedIn old (v.start + n) (later (v.start + n) places.key_end) text new → IsRekeyedIn t v old key new)
 rekeyed-in characters v old new key places name value text n first slice done at k is_first printed replaced =
     let t : Repertoire = record { encoding = v.encoding; characters = characters } in
@@ -151,7 +151,7 @@ rekeyed-in characters v old new key places name value text n first slice done at
     printed
     ∙ ap₂ (λ f b. encoded_text t.encoding (key_text t f b (chars key.text.now)))
     (is_first ∙ ap (λ b. key.first && b) (ap (λ w. v.start + w == v.start) k.start ∙ front-empty v.start k.front))
-    (between_in-pair (line_of v) name value at.is_pair) in
+    (between_in-pair (viewed_line v) name value at.is_pair) in
     let bytes : copied_to new (v.start + length gb) ≡ (copied_to old (v.start + n) ++ text) ++ k.back =
     ap₂ (λ d r. new.bytes.items ++ take (v.start + length gb - d) (drop d r)) (replaced.done ∙ end) replaced.source_is
     ∙ ap₂ (λ a b. a ++ b) replaced.bytes_are back in
@@ -227,14 +227,14 @@ pub record IsUpTo (characters : Characters) (source old new : List ℕ) (v now :
     (first : Bool) : Type 0 where
   pub passed : List (List HeldLine)
   pub division : v.to_come ≡ passed ++ now.to_come
-  pub rest : groups_bytes now.to_come ≡ drop (past now).start source
-  pub within : (past now).start ≤ length source
-  pub number : (past now).passed ≡ length (held_in passed)
+  pub rest : groups_bytes now.to_come ≡ drop (past_group now).start source
+  pub within : (past_group now).start ≤ length source
+  pub number : (past_group now).passed ≡ length (held_in passed)
   pub encoding : now.encoding ≡ v.encoding
   pub source_is : c.source.now ≡ source
-  pub done : c.done ≤ (past now).start
+  pub done : c.done ≤ (past_group now).start
   pub made : List ℕ
-  pub copied : copied_to c (past now).start ≡ take v.start source ++ made
+  pub copied : copied_to c (past_group now).start ≡ take v.start source ++ made
   pub rekeyed : (more : List ℕ)
       → AreRekeyed (record { encoding = v.encoding; characters = characters }) old new first now.to_come more
       → AreRekeyed (record { encoding = v.encoding; characters = characters }) old new true v.to_come (made ++ more)
@@ -287,7 +287,7 @@ module _ {characters : Characters} {source old new : List ℕ} {v : OpenView} wh
 
   pub next-slice : {now next : OpenView} {c : Copied} {is_there first : Bool} {taken : Option ℕ}
       → IsUpTo characters source old new v now c is_there taken first → (group : List HeldLine)
-      → now.to_come ≡ next.group ∷ next.to_come → next.start ≡ (past now).start → IsSlice next c.source.now
+      → now.to_come ≡ next.group ∷ next.to_come → next.start ≡ (past_group now).start → IsSlice next c.source.now
   next-slice {now} {next} {c} h group takes start =
       let gb = group_bytes next.group in
       let s = c.source.now in
@@ -314,8 +314,8 @@ module _ {characters : Characters} {source old new : List ℕ} {v : OpenView} wh
       → IsUpTo characters source old new v next c' is_there' taken' false
   next-up {now} {next} {c} {c'} {first = first} group made h t same done copied step there taken =
       let gb = group_bytes next.group in
-      let start : next.start ≡ (past now).start = ap (λ w. let o : OpenView = w in o.start) t.moves in
-      let passed : next.passed ≡ (past now).passed = ap (λ w. let o : OpenView = w in o.passed) t.moves in
+      let start : next.start ≡ (past_group now).start = ap (λ w. let o : OpenView = w in o.start) t.moves in
+      let passed : next.passed ≡ (past_group now).passed = ap (λ w. let o : OpenView = w in o.passed) t.moves in
       let encoding : next.encoding ≡ v.encoding = ap (λ w. let o : OpenView = w in o.encoding) t.moves ∙ h.encoding in
       let slice = next-slice {next = next} h next.group t.takes start in
       let all : length c.source.now ≡ length source = ap length h.source_is in
@@ -350,7 +350,7 @@ module _ {characters : Characters} {source old new : List ℕ} {v : OpenView} wh
       → IsUpTo characters source old new v v c false None true
   none-yet {c = c} h k =
       let none : length (group_bytes v.group) ≡ 0 = ap (λ g. length (group_bytes g)) h.none_given in
-      let place : (past v).start ≡ v.start = omega arith in
+      let place : (past_group v).start ≡ v.start = omega arith in
       let none_given : length v.group ≡ 0 = ap length h.none_given in
       let none_passed = h.none_passed in
       let within = h.within in
@@ -365,7 +365,7 @@ module _ {characters : Characters} {source old new : List ℕ} {v : OpenView} wh
         source_is = k.source_is;
         done = let d = k.done in omega arith;
         made = [];
-        copied = ap₂ (λ b s. b ++ take ((past v).start - c.done) (drop c.done s)) k.nothing k.source_is
+        copied = ap₂ (λ b s. b ++ take ((past_group v).start - c.done) (drop c.done s)) k.nothing k.source_is
             ∙ ap₂ (λ n d. take (n - d) (drop d source)) place k.done
             ∙ ap (λ n. take n source) zero_off
             ∙ sym (append-nil (take v.start source));
@@ -391,13 +391,13 @@ pub all-up : {r : Repertoire} {source old new : List ℕ} {v now : OpenView} {c 
     → bytes.items ≡ copied_to c (length c.source.now)
     → AreRenamed r source old new (record { bytes = bytes; is_there = is_there; taken = taken })
 all-up {r} {source} {old} {new} {v} {now} {c} {is_there} {first} {taken} bytes o h none is =
-    let left : drop (past now).start source ≡ [] = sym h.rest ∙ ap groups_bytes none in
-    let sizes : length source - (past now).start ≡ 0 = sym (length-drop (past now).start source) ∙ ap length left in
+    let left : drop (past_group now).start source ≡ [] = sym h.rest ∙ ap groups_bytes none in
+    let sizes : length source - (past_group now).start ≡ 0 = sym (length-drop (past_group now).start source) ∙ ap length left in
     let within = h.within in
-    let place : length c.source.now ≡ (past now).start = ap length h.source_is ∙ omega arith in
+    let place : length c.source.now ≡ (past_group now).start = ap length h.source_is ∙ omega arith in
     let all : h.passed ≡ v.to_come = sym (append-nil h.passed) ∙ ap (λ w. h.passed ++ w) (sym none) ∙ sym h.division in
     let t : Repertoire = record { encoding = v.encoding; characters = r.characters } in
-    let e : in_force r source ≡ t = ap (λ w. let f : InForce = w in in_encoding r f.encoding) o.in_force in
+    let e : repertoire_in_force r source ≡ t = ap (λ w. let f : InForce = w in in_encoding r f.encoding) o.in_force in
     record {
       groups = v.to_come;
       held = subst (λ w. let f : InForce = w in AreGiven f.encoding f.body v.to_come) (sym o.in_force) o.given;
@@ -601,9 +601,9 @@ renamed-alike r old key first (g ∷ gs) bytes (made, more, inl has, is, rest) =
           ∙ ap (λ w. k.front ++ w) (append_assoc text k.back more ∙ ap (λ w. text ++ w) behind.new_is);
     }
 
-pub source-alike : (r : Repertoire) (source old new result : List ℕ) → IsRenamed r source old new result → AreAlike (in_force r source) new source result
+pub source-alike : (r : Repertoire) (source old new result : List ℕ) → IsRenamed r source old new result → AreAlike (repertoire_in_force r source) new source result
 source-alike r source old new result h =
-    let body = renamed-alike (in_force r source) old new true h.groups h.body h.renamed in
+    let body = renamed-alike (repertoire_in_force r source) old new true h.groups h.body h.renamed in
     let alike = alike-behind (bom_of source) body in
-    subst (λ w. AreAlike (in_force r source) new w result) (ap (λ w. bom_of source ++ w) h.held.together ∙ sym (source-whole r.encoding source))
-    (subst (AreAlike (in_force r source) new (bom_of source ++ groups_bytes h.groups)) (sym h.whole) alike)
+    subst (λ w. AreAlike (repertoire_in_force r source) new w result) (ap (λ w. bom_of source ++ w) h.held.together ∙ sym (source-whole r.encoding source))
+    (subst (AreAlike (repertoire_in_force r source) new (bom_of source ++ groups_bytes h.groups)) (sym h.whole) alike)

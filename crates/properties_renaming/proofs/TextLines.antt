@@ -11,7 +11,7 @@ use Rattle.properties_format.specs.Computed.Lines.{lines_of, rest_of_end}
 use Rattle.properties_format.proofs.ItemsToCome.Lines.{lines_of-ended}
 use Rattle.properties_format.proofs.Lines.Meets.{lines_of-meets}
 use Rattle.properties_format.proofs.Lines.Only.{lines_of-plain}
-use Rattle.properties_renaming.specs.Commenting.{AreLinesOf, texts_of}
+use Rattle.properties_renaming.specs.Commenting.{AreCommentLines, texts_of}
 use Rattle.properties_items.specs.Texts.{characters}
 use Rattle.properties_renaming.specs.Private.Commenting.{texts_with}
 
@@ -64,7 +64,7 @@ lines-end ended last after_cr plain =
     ∙ ap (λ l. ended ++ texts_of l.ended l.last) (lines_of-plain last plain)
 
 -- The lines of a whole text.
-pub text-lines : (text : List ℕ) (texts : List (List ℕ)) → texts_with [] [] false text ≡ texts → AreLinesOf text texts
+pub text-lines : (text : List ℕ) (texts : List (List ℕ)) → texts_with [] [] false text ≡ texts → AreCommentLines text texts
 text-lines text texts h = record { lines = lines_of text; are_lines = lines_of-meets text; texts_are = sym h }
 
 -- ---- lines that are printed

@@ -4,7 +4,7 @@ use Rattle.std.specs.Prelude.{◌≡◌, ◌≢◌, ◌⊎◌, ◌&&◌, ℕ, fa
 use Rattle.std.specs.Global.{Vec}
 use Rattle.std.specs.Option.{option_map, unwrap_or}
 use Rattle.properties_format.specs.Text.{begins, is_blank, is_comment_sign, is_empty, line_ending_text, number_sign, space}
-use Rattle.properties_format.specs.Encoding.{Repertoire, in_force}
+use Rattle.properties_format.specs.Encoding.{Repertoire, repertoire_in_force}
 use Rattle.properties_format.specs.Lines.{Ended, IsLines, Lines, joined}
 use Rattle.properties_format.specs.Split.{AreBlanks}
 use Rattle.properties_format.specs.Printing.{in_prefix, encoded_text, printed_characters}
@@ -28,7 +28,7 @@ texts_of [] last = if is_empty last then [] else last ∷ []
 texts_of (l ∷ ls) last = l.text ∷ texts_of ls last
 
 -- These are the lines of a text. A last one without characters doesn't count.
-pub record AreLinesOf (text : List ℕ) (texts : List (List ℕ)) : Type 0 where
+pub record AreCommentLines (text : List ℕ) (texts : List (List ℕ)) : Type 0 where
   pub lines : Lines
   pub are_lines : IsLines text lines
   pub texts_are : texts ≡ texts_of lines.ended lines.last
@@ -120,8 +120,8 @@ pub record IsCommentSet (r : Repertoire) (source key text result : List ℕ) : T
   pub texts : List (List ℕ)
   pub are_texts : AreCommentTexts comment.run texts
   pub lines : List (List ℕ)
-  pub are_lines : AreLinesOf text lines
-  pub set : (texts ≡ lines) × (result ≡ source) ⊎ (texts ≢ lines) × HasNewLines (in_force r source) source comment lines result
+  pub are_lines : AreCommentLines text lines
+  pub set : (texts ≡ lines) × (result ≡ source) ⊎ (texts ≢ lines) × HasNewLines (repertoire_in_force r source) source comment lines result
 
 -- The source with the comment of a key set; or no pair has the key; or an edit would be refused with this error, or
 -- memory ran out.

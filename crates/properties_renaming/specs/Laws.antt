@@ -29,7 +29,7 @@ renamed old new (comment text) = comment text
 renamed old new (pair key value) = if bytes_eq key old then pair new value else pair key value
 
 -- The source can be edited, and these are its entries, of which none is malformed.
-pub record AreSound (r : Repertoire) (source : List ℕ) (entries : List Entry) : Type 0 where
+pub record HasSoundEntries (r : Repertoire) (source : List ℕ) (entries : List Entry) : Type 0 where
   pub editable : is_editable (byte_order_mark r.encoding source).encoding ≡ true
   pub items : IsItems r.encoding source end entries
   pub sound : AreItems entries
@@ -38,7 +38,7 @@ pub record AreSound (r : Repertoire) (source : List ℕ) (entries : List Entry) 
 -- pair that had the old one: comments, and pairs with their values, in order.
 abbrev pub RenamingChangesTheKey : Repertoire → List ℕ → List ℕ → List ℕ → Type 0
 RenamingChangesTheKey r source old new =
-    IsName new → (result : List ℕ) → IsRenamed r source old new result → (before : List Entry) → AreSound r source before
+    IsName new → (result : List ℕ) → IsRenamed r source old new result → (before : List Entry) → HasSoundEntries r source before
     → ((byte_order_mark r.encoding result).encoding ≡ (byte_order_mark r.encoding source).encoding)
     × ((after : List Entry) → IsItems r.encoding result end after → AreItems after × (contents after ≡ map (renamed old new) (contents before)))
 
@@ -50,27 +50,27 @@ renamed_map old new value_at key = if bytes_eq key new then value_at old else (i
 abbrev pub RenamingMovesTheValue : Repertoire → List ℕ → List ℕ → List ℕ → Type 0
 RenamingMovesTheValue r source old new =
     IsName new → old ≢ new → (result : List ℕ) → IsRenamed r source old new result
-    → (before after : List Entry) → AreSound r source before → IsItems r.encoding result end after
+    → (before after : List Entry) → HasSoundEntries r source before → IsItems r.encoding result end after
     → (value_at : List ℕ → Option (List ℕ)) → IsMap before value_at → IsMap after (renamed_map old new value_at)
 
 -- A key that is renamed there and back: the contents are those of the source.
 abbrev pub RenamingBackGivesTheContents : Repertoire → List ℕ → List ℕ → List ℕ → Type 0
 RenamingBackGivesTheContents r source old new =
     IsName old → IsName new → (next result : List ℕ) → IsRenamed r source old new next → IsRenamed r next new old result
-    → (before after : List Entry) → AreSound r source before → IsItems r.encoding result end after → contents after ≡ contents before
+    → (before after : List Entry) → HasSoundEntries r source before → IsItems r.encoding result end after → contents after ≡ contents before
 
 -- Nothing is renamed: no pair has the key, or the source has an error.
-abbrev pub IsRefused : Result (Vec ℕ) RenameError → Type 0
-IsRefused (Ok bytes) = ⊥
-IsRefused (Err NoKey) = Unit {0}
-IsRefused (Err (KeyTaken number)) = ⊥
-IsRefused (Err (Source error)) = Unit {0}
+abbrev pub IsRenameRefused : Result (Vec ℕ) RenameError → Type 0
+IsRenameRefused (Ok bytes) = ⊥
+IsRenameRefused (Err NoKey) = Unit {0}
+IsRenameRefused (Err (KeyTaken number)) = ⊥
+IsRenameRefused (Err (Source error)) = Unit {0}
 
 -- A key that is renamed a second time in the same way isn't there.
 abbrev pub RenamingAgainIsRefused : SourceOptions → List ℕ → List ℕ → List ℕ → Type 0
 RenamingAgainIsRefused options source old new =
     IsName new → old ≢ new → (bytes : Vec ℕ) → RenamesKey options source old new (Ok bytes)
-    → (again : Result (Vec ℕ) RenameError) → RenamesKey options bytes.items old new again → IsRefused again
+    → (again : Result (Vec ℕ) RenameError) → RenamesKey options bytes.items old new again → IsRenameRefused again
 
 -- ---- the comment of a key
 
@@ -89,7 +89,7 @@ pub record IsCommentChanged (key : List ℕ) (old new : List Content) : Type 0 w
 -- the comments above the pair are those of the source, in order.
 abbrev pub SettingTheCommentKeepsTheRest : Repertoire → List ℕ → List ℕ → List ℕ → Type 0
 SettingTheCommentKeepsTheRest r source key text =
-    All scalar text → (result : List ℕ) → IsCommentSet r source key text result → (before : List Entry) → AreSound r source before
+    All scalar text → (result : List ℕ) → IsCommentSet r source key text result → (before : List Entry) → HasSoundEntries r source before
     → ((byte_order_mark r.encoding result).encoding ≡ (byte_order_mark r.encoding source).encoding)
     × ((after : List Entry) → IsItems r.encoding result end after → AreItems after → IsCommentChanged key (contents before) (contents after))
 
@@ -97,13 +97,13 @@ SettingTheCommentKeepsTheRest r source key text =
 abbrev pub SettingAPlainCommentBreaksNothing : Repertoire → List ℕ → List ℕ → List ℕ → Type 0
 SettingAPlainCommentBreaksNothing r source key text =
     All scalar text → HoldsNoBackslash text → (result : List ℕ) → IsCommentSet r source key text result
-    → (before after : List Entry) → AreSound r source before → IsItems r.encoding result end after → AreItems after
+    → (before after : List Entry) → HasSoundEntries r source before → IsItems r.encoding result end after → AreItems after
 
 -- Every key keeps its value.
 abbrev pub SettingTheCommentKeepsTheMap : Repertoire → List ℕ → List ℕ → List ℕ → Type 0
 SettingTheCommentKeepsTheMap r source key text =
     All scalar text → (result : List ℕ) → IsCommentSet r source key text result
-    → (before after : List Entry) → AreSound r source before → IsItems r.encoding result end after → AreItems after
+    → (before after : List Entry) → HasSoundEntries r source before → IsItems r.encoding result end after → AreItems after
     → (value_at : List ℕ → Option (List ℕ)) → IsMap before value_at → IsMap after value_at
 
 -- Each pair with the key is left out, and comments may be; all other contents are unchanged.
@@ -118,7 +118,7 @@ AreOthersIn key (pair name value ∷ cs) others =
 -- those of the source, in order.
 abbrev pub RemovingWithTheCommentKeepsTheRest : Repertoire → List ℕ → List ℕ → Type 0
 RemovingWithTheCommentKeepsTheRest r source key =
-    (result : List ℕ) → IsRemovedWithComments r.encoding source key result → (before : List Entry) → AreSound r source before
+    (result : List ℕ) → IsRemovedWithComments r.encoding source key result → (before : List Entry) → HasSoundEntries r source before
     → ((byte_order_mark r.encoding result).encoding ≡ (byte_order_mark r.encoding source).encoding)
     × ((after : List Entry) → IsItems r.encoding result end after → AreItems after × AreOthersIn key (contents before) (contents after))
 
@@ -126,5 +126,5 @@ RemovingWithTheCommentKeepsTheRest r source key =
 abbrev pub RemovingWithTheCommentTakesTheValue : Repertoire → List ℕ → List ℕ → Type 0
 RemovingWithTheCommentTakesTheValue r source key =
     (result : List ℕ) → IsRemovedWithComments r.encoding source key result
-    → (before after : List Entry) → AreSound r source before → IsItems r.encoding result end after
+    → (before after : List Entry) → HasSoundEntries r source before → IsItems r.encoding result end after
     → (value_at : List ℕ → Option (List ℕ)) → IsMap before value_at → IsMap after (map_edited (remove key) value_at)

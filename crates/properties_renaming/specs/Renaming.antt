@@ -3,7 +3,7 @@
 use Rattle.std.specs.Prelude.{◌≡◌, ◌≢◌, ◌⊎◌, ℕ, ◌+◌, ◌&&◌, Bool, true, false, if◌then◌else◌, List, [], ◌∷◌, ◌++◌, length, Result, Ok, Err}
 use Rattle.std.specs.Global.{Vec}
 use Rattle.properties_format.specs.Text.{backslash, equals_sign, begins, is_blank, is_blanks, is_empty}
-use Rattle.properties_format.specs.Encoding.{Encoding, Repertoire, byte_order_mark, in_force}
+use Rattle.properties_format.specs.Encoding.{Encoding, Repertoire, byte_order_mark, repertoire_in_force}
 use Rattle.properties_format.specs.Lines.{joined}
 use Rattle.properties_format.specs.Split.{AreBlanks, IsPair}
 use Rattle.properties_format.specs.Printing.{printed_key, encoded_text}
@@ -90,7 +90,7 @@ pub record IsRenamed (r : Repertoire) (source old new result : List ℕ) : Type 
   pub is_there : ¬ (NoneHasKey old groups)
   pub is_free : NoneHasKey new groups
   pub body : List ℕ
-  pub renamed : AreRekeyed (in_force r source) old new true groups body
+  pub renamed : AreRekeyed (repertoire_in_force r source) old new true groups body
   pub whole : result ≡ bom_of source ++ body
 
 -- A key that is to have the name that it has changes nothing, if a pair has it.
@@ -158,7 +158,7 @@ IsEditable options source = (bytes : Vec ℕ) × EditsWith options source [] (Ok
 abbrev pub RenamesKey : SourceOptions → List ℕ → List ℕ → List ℕ → Result (Vec ℕ) RenameError → Type 0
 RenamesKey options source old new (Ok bytes) =
     IsEditable options source
-    × ((old ≢ new) × IsRenamed (asked_for options) source old new bytes.items × AreAlike (in_force (asked_for options) source) new source bytes.items
+    × ((old ≢ new) × IsRenamed (asked_for options) source old new bytes.items × AreAlike (repertoire_in_force (asked_for options) source) new source bytes.items
     ⊎ (old ≡ new) × IsKept (asked_for options).encoding source old bytes.items)
 RenamesKey options source old new (Err NoKey) = IsEditable options source × LacksKey (asked_for options).encoding source old
 RenamesKey options source old new (Err (KeyTaken number)) =

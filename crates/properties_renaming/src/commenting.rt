@@ -9,9 +9,9 @@ ghost use Rattle.properties_items.specs.Texts.{characters};
 ghost use Rattle.properties_text.specs.Encoding.{encoding_of};
 ghost use Rattle.properties_text.specs.Printing.{AppendsOnOk};
 ghost use Rattle.properties_editing.specs.Editing.{asked_for};
-ghost use Rattle.properties_renaming.specs.Commenting.{AreLinesOf, IsStyleAbove, IsStyleOfLine, SetsComment, ending_or, gap_before};
+ghost use Rattle.properties_renaming.specs.Commenting.{AreCommentLines, IsStyleAbove, IsStyleOfLine, SetsComment, ending_or, gap_before};
 ghost use Rattle.properties_renaming.specs.Private.CommentTexts.{first_blank};
-ghost use Rattle.properties_renaming.specs.Private.Commenting.{FindsComment, GivesComment, HoldsGroup, HoldsLine, IsFound, IsFoundSome, IsFoundStyle, IsLastEndingOf, MakesComment, PutsLines, ReadsCharacter, first_model, line_bytes, line_feed_after, style_in};
+ghost use Rattle.properties_renaming.specs.Private.Commenting.{FindsComment, GivesComment, HoldsGroup, HoldsLine, IsFoundComment, IsFoundSome, IsFoundStyle, IsLastEndingOf, MakesComment, PutsLines, ReadsCharacter, first_model, comment_line_bytes, line_feed_after, style_in};
 
 use crate::comment_lines::{comment_text, is_comment_line};
 use crate::comments::{Headed, guarded, has_key};
@@ -161,7 +161,7 @@ fn with_lines(
     comment: &Comment,
     lines: &[String],
 ) -> Result<Vec<u8>, AllocError>
-    requires { IsFound (encoding_of options.encoding) source.now comment.now }
+    requires { IsFoundComment (encoding_of options.encoding) source.now comment.now }
     ensures { IfOk result (λ bytes. PutsLines (asked_for options) source.now comment.now (map characters lines.now) bytes.items) }
 {
     let (encoding, start) = encoding_in_force(source, options.encoding);
@@ -295,7 +295,7 @@ fn print_lines(
     style: Style<'_>,
     lines: &[String],
 ) -> Result<(), AllocError>
-    ensures { AppendsOnOk line.old (flat_map (line_bytes repertoire style.entry) (map characters lines.now)) result line.new }
+    ensures { AppendsOnOk line.old (flat_map (comment_line_bytes repertoire style.entry) (map characters lines.now)) result line.new }
 {
     for text in lines {
         print_line(line, repertoire, style, text)?;
@@ -310,7 +310,7 @@ fn print_line(
     style: Style<'_>,
     text: &str,
 ) -> Result<(), AllocError>
-    ensures { AppendsOnOk line.old (line_bytes repertoire style.entry (chars text.now)) result line.new }
+    ensures { AppendsOnOk line.old (comment_line_bytes repertoire style.entry (chars text.now)) result line.new }
 {
     line.extend(style.indent)?;
     line.extend(&[style.sign])?;
@@ -337,7 +337,7 @@ fn gap_before<'a>(blank: &'a [u8], text: &str) -> &'a [u8]
 
 // Returns the lines of a text. The last one counts only if it isn't empty.
 fn lines_of(alloc: Global, text: &str) -> Result<Vec<String>, AllocError>
-    ensures { IfOk result (λ lines. AreLinesOf (chars text.now) (map characters lines.items)) }
+    ensures { IfOk result (λ lines. AreCommentLines (chars text.now) (map characters lines.items)) }
 {
     let mut lines = TextLines {
         ended: Vec::new(alloc),

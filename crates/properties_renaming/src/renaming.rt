@@ -8,7 +8,7 @@ ghost use Rattle.properties_format.specs.Computed.Items.{outcome_of};
 ghost use Rattle.properties_format.specs.Text.{is_line_ending};
 ghost use Rattle.properties_text.specs.Encoding.{encoding_of};
 ghost use Rattle.properties_editing.specs.Editing.{asked_for};
-ghost use Rattle.properties_editing.specs.Views.{IsGroup, line_of};
+ghost use Rattle.properties_editing.specs.Views.{IsGroup, viewed_line};
 ghost use Rattle.properties_renaming.specs.Renaming.{RenamesKey};
 ghost use Rattle.properties_renaming.specs.Private.Renaming.{AppendsKey, IsAmong, IsAnyPair, IsSlice, Names, PrintsKeys, RekeysIn, RenamesGroups, TellsSign, is_join, later, past_joins};
 
@@ -214,7 +214,7 @@ fn put_key(
 ) -> Result<(), AllocError>
     requires group { IsGroup view.now group }
     requires among { IsAmong view.now.encoding view.now.group }
-    requires pair { IsAnyPair (line_of view.now) }
+    requires pair { IsAnyPair (viewed_line view.now) }
     requires slice { IsSlice view.now copied.old.source.now }
     requires done { copied.old.done ≤ group.start }
     ensures { OnOk result (RekeysIn view.now copied.old key.entry copied.new) }

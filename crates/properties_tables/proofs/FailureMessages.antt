@@ -4,7 +4,7 @@ use Rattle.std.specs.Prelude.{Option, Some, None, codes}
 use Rattle.std.specs.Fmt.{decimal}
 use Rattle.properties_format.specs.Text.{line_feed}
 use Rattle.properties_tables.specs.Messages.{escaped, printed_line}
-use Rattle.properties_tables.specs.Failures.{number_of, place_of, message, IsReasonOf, IsMessageLine}
+use Rattle.properties_tables.specs.Failures.{failure_line, failure_place, message, IsReasonOf, IsMessageLine}
 use Rattle.properties_tables.specs.declared.error.Failure.{Failure}
 
 -- a line without a number, as it is printed
@@ -12,22 +12,22 @@ pub plain_line : (place reason line : List ℕ) → line ≡ codes "propedit: " 
     → line ≡ printed_line (message place None reason)
 plain_line place reason line is = is ∙ simp append_assoc refl
 
-module _ (name : List ℕ) (failure : Failure) {place : List ℕ} (reason line : List ℕ) (is_place : place ≡ place_of name failure)
+module _ (name : List ℕ) (failure : Failure) {place : List ℕ} (reason line : List ℕ) (is_place : place ≡ failure_place name failure)
     (is_reason : IsReasonOf failure reason) where
-  message-line : (number : Option ℕ) → number ≡ number_of failure → line ≡ printed_line (message place number reason) → IsMessageLine name failure line
+  message-line : (number : Option ℕ) → number ≡ failure_line failure → line ≡ printed_line (message place number reason) → IsMessageLine name failure line
   message-line number is_number is = (
-    message (place_of name failure) (number_of failure) reason,
+    message (failure_place name failure) (failure_line failure) reason,
     record { reason = reason; is_reason = is_reason; is = refl },
-    is ∙ ap (λ p. printed_line (message p number reason)) is_place ∙ ap (λ n. printed_line (message (place_of name failure) n reason)) is_number,
+    is ∙ ap (λ p. printed_line (message p number reason)) is_place ∙ ap (λ n. printed_line (message (failure_place name failure) n reason)) is_number,
   )
 
   -- a line with a number, as it is printed
-  pub numbered-line : (number : ℕ) → Some number ≡ number_of failure
+  pub numbered-line : (number : ℕ) → Some number ≡ failure_line failure
       → line ≡ codes "propedit: " ++ (escaped place ++ (codes ":" ++ (decimal number ++ (codes ": " ++ (reason ++ (line_feed ∷ []))))))
       → IsMessageLine name failure line
   numbered-line number is_number is = message-line (Some number) is_number (is ∙ simp append_assoc refl)
 
   -- and without one
-  pub unnumbered-line : None ≡ number_of failure → line ≡ codes "propedit: " ++ (escaped place ++ (codes ": " ++ (reason ++ (line_feed ∷ []))))
+  pub unnumbered-line : None ≡ failure_line failure → line ≡ codes "propedit: " ++ (escaped place ++ (codes ": " ++ (reason ++ (line_feed ∷ []))))
       → IsMessageLine name failure line
   unnumbered-line is_number is = message-line None is_number (plain_line place reason line is)

@@ -24,14 +24,14 @@ use Rattle.properties_format.proofs.Encodings.WellFormed.{IsUtf8-from_well_forme
 use Rattle.properties_text.specs.Encoding.{IsLongestText, encoding_of}
 use Rattle.properties_text.specs.declared.encoding.Encoding as code
 use Rattle.properties_text.specs.declared.encoding.Encoding.TheVariants.{WINDOWS_1252, UTF_8, UTF_16LE, UTF_16BE}
-use Rattle.properties_lines.specs.Private.HeldLines.{lines_left}
-use Rattle.properties_lines.specs.Scanner.{scanner_state, is_decided, after_cr, bytes_of, Fits, GivesLine}
+use Rattle.properties_lines.specs.Private.HeldLines.{held_lines_left}
+use Rattle.properties_lines.specs.Scanner.{scanner_state, is_decided, after_cr, raw_line_bytes, Fits, GivesScannedLine}
 use Rattle.properties_lines.specs.declared.scanner.Front.TheVariants.{Mark, Feed}
 use Rattle.properties_lines.specs.declared.scanner.RawLine.{RawLine}
 use Rattle.properties_lines.specs.declared.scanner.Scanner.{Scanner}
 use Rattle.properties_lines.proofs.HeldLines.{body-next, body-after, body-lines_left}
-use Rattle.properties_tables.specs.Lines.{holds_byte, holds_zero, is_sought, starts_with_bom, AreFlawed, AreFlawedIn, HasFlaw, HasFlawed, IsFirstFlawed, IsFirstUtf8, IsWellFormedIn, LacksFlaw, LooksUtf8}
-use Rattle.properties_tables.specs.Private.Flawed.{are_paired, is_ascii, is_flawed, is_well_formed, unit_in, numbers_from, numbers_left, FindsNext, HasFlawedIn, HasLinesOf, IsFound, IsScanning}
+use Rattle.properties_tables.specs.Lines.{holds_byte, holds_zero, is_sought, starts_with_bom, AreFlawed, AreFlawedIn, HasLineFlaw, HasFlawed, IsFirstFlawed, IsFirstUtf8, IsWellFormedIn, LacksFlaw, LooksUtf8}
+use Rattle.properties_tables.specs.Private.Flawed.{are_paired, is_ascii, is_flawed, is_well_formed, unit_at, numbers_from, numbers_left, FindsFlawedLine, HasFlawedIn, HasLinesOf, IsFoundLine, IsScanning}
 use Rattle.properties_tables.specs.declared.ill_formed.Flaw.{Flaw}
 use Rattle.properties_tables.specs.declared.ill_formed.Flaw.TheVariants.{IllFormed, Zero, NonAscii, Byte, MarkInside}
 use Rattle.properties_tables.proofs.NonAscii.{tells-ascii, told-nothing}
@@ -57,7 +57,7 @@ not-well utf_16le d k w = let t = well_formed-paired low_first d w.0 w.1 in cc
 not-well utf_16be d k w = let t = well_formed-paired high_first d w.0 w.1 in cc
 
 -- The test tells that they have the flaw,
-has-flaw : (flaw : Flaw) (e : Encoding) (d : List ℕ) → is_flawed flaw e d ≡ true → HasFlaw flaw e d
+has-flaw : (flaw : Flaw) (e : Encoding) (d : List ℕ) → is_flawed flaw e d ≡ true → HasLineFlaw flaw e d
 has-flaw IllFormed e d k = elim (cases_Bool (is_well_formed e d)) [ inl t ↦ absurd (cc) | inr t ↦ not-well e d t ]
 has-flaw Zero e d k = k
 has-flaw (Byte byte) e d k = k
@@ -82,7 +82,7 @@ lacks-flaw NonAscii e d k = elim (cases_Bool (is_well_formed e d)) [
   | inr t ↦ inl (not-well e d t)
 ]
 
-not-both : (flaw : Flaw) (e : Encoding) (d : List ℕ) → LacksFlaw flaw e d → HasFlaw flaw e d → ⊥
+not-both : (flaw : Flaw) (e : Encoding) (d : List ℕ) → LacksFlaw flaw e d → HasLineFlaw flaw e d → ⊥
 not-both IllFormed e d x y = y x
 not-both Zero e d x y = absurd (cc)
 not-both (Byte byte) e d x y = absurd (cc)
@@ -366,29 +366,29 @@ scanning-start flaw body s f lines same fits at stands =
     (scans body s f same fits at stands, rw (passed, going, at, same) (lines _ (has-flawed flaw (encoding_of f) body)))
 
 -- the scan goes on after it
-pub found-scanning : (body : List ℕ) (s new : Scanner) → IsScanning body s → GivesLine s body true new → IsScanning body new
+pub found-scanning : (body : List ℕ) (s new : Scanner) → IsScanning body s → GivesScannedLine s body true new → IsScanning body new
 found-scanning body s new h g = record {
   in_body = body-after s new body g;
   few = omega (arith, h.few, g.number, ap length (body-lines_left s new body h.in_body g));
 }
 
 -- the numbers to come, by the line that came
-pub found-numbers : (flaw : Flaw) (body : List ℕ) (s new : Scanner) (has_flaw : Bool) → IsScanning body s → GivesLine s body true new
-    → is_flawed flaw (encoding_of new.encoding) (bytes_of body new.line) ≡ has_flaw
+pub found-numbers : (flaw : Flaw) (body : List ℕ) (s new : Scanner) (has_flaw : Bool) → IsScanning body s → GivesScannedLine s body true new
+    → is_flawed flaw (encoding_of new.encoding) (raw_line_bytes body new.line) ≡ has_flaw
     → numbers_left flaw body s ≡ (if has_flaw then new.passed ∷ numbers_left flaw body new else numbers_left flaw body new)
 found-numbers flaw body s new has_flaw h g k =
     let e = encoding_of new.encoding in
     let number : s.passed + 1 ≡ new.passed = sym g.number in
     ap (numbers_from flaw (encoding_of s.encoding) s.passed) (body-lines_left s new body h.in_body g)
-    ∙ ap (λ f. if is_flawed flaw f (bytes_of body new.line) then (s.passed + 1) ∷ numbers_from flaw f (s.passed + 1) (lines_left body new)
-    else numbers_from flaw f (s.passed + 1) (lines_left body new)) (sym (body-next s new body h.in_body g).0)
-    ∙ ap (λ n. if is_flawed flaw e (bytes_of body new.line) then n ∷ numbers_from flaw e n (lines_left body new)
-    else numbers_from flaw e n (lines_left body new)) number
+    ∙ ap (λ f. if is_flawed flaw f (raw_line_bytes body new.line) then (s.passed + 1) ∷ numbers_from flaw f (s.passed + 1) (held_lines_left body new)
+    else numbers_from flaw f (s.passed + 1) (held_lines_left body new)) (sym (body-next s new body h.in_body g).0)
+    ∙ ap (λ n. if is_flawed flaw e (raw_line_bytes body new.line) then n ∷ numbers_from flaw e n (held_lines_left body new)
+    else numbers_from flaw e n (held_lines_left body new)) number
     ∙ ap (λ v. if v then new.passed ∷ numbers_left flaw body new else numbers_left flaw body new) k
 
 -- The first number to come is that of the source.
 pub found-first : {e : Encoding} {source : List ℕ} (flaw : Flaw) (body : List ℕ) (s new : Scanner) (answer : Option ℕ)
-    → HasFlawed flaw e source (numbers_left flaw body s) → FindsNext flaw body s answer new → IsFirstFlawed flaw e source answer
+    → HasFlawed flaw e source (numbers_left flaw body s) → FindsFlawedLine flaw body s answer new → IsFirstFlawed flaw e source answer
 found-first {e} {source} flaw body s new None all none = (subst (HasFlawed flaw e source) none all).are
 found-first {e} {source} flaw body s new (Some number) all next =
     (numbers_left flaw body new, (subst (HasFlawed flaw e source) next.1 all).are)
@@ -396,12 +396,12 @@ found-first {e} {source} flaw body s new (Some number) all next =
 -- ---- a line
 
 -- ASCII is UTF-8
-pub flags-ascii : {body : List ℕ} (line : RawLine) → IsFound utf_8 body line → line.is_ascii ≡ true → is_utf8 (bytes_of body line) ≡ true
-flags-ascii {body} line h k = is_utf8-from_IsUtf8 (bytes_of body line) (IsUtf8-from_ascii (bytes_of body line) (h.flags.ascii.0 k).1)
+pub flags-ascii : {body : List ℕ} (line : RawLine) → IsFoundLine utf_8 body line → line.is_ascii ≡ true → is_utf8 (raw_line_bytes body line) ≡ true
+flags-ascii {body} line h k = is_utf8-from_IsUtf8 (raw_line_bytes body line) (IsUtf8-from_ascii (raw_line_bytes body line) (h.flags.ascii.0 k).1)
 
 -- what is neither windows-1252 nor UTF-8 is UTF-16
 pub utf_16-paired : (f : code.Encoding) (bytes : List ℕ) → f ≢ WINDOWS_1252 → f ≢ UTF_8
-    → are_paired (unit_in (encoding_of f)) false bytes ≡ is_well_formed (encoding_of f) bytes
+    → are_paired (unit_at (encoding_of f)) false bytes ≡ is_well_formed (encoding_of f) bytes
 utf_16-paired WINDOWS_1252 bytes h k = absurd (h refl)
 utf_16-paired UTF_8 bytes h k = absurd (k refl)
 utf_16-paired UTF_16LE bytes h k = refl

@@ -19,8 +19,8 @@ use Rattle.properties_format.proofs.Changed.Maps.{other-test, same-test}
 use Rattle.java_properties.specs.Findings.{KeyPlace}
 use Rattle.java_properties.specs.Private.LineByLine.{number_at}
 use Rattle.properties_items.specs.declared.findings.MalformedEscape.{MalformedEscape}
-use Rattle.properties_tables.specs.Private.Fold.{found_escape, found_pair, pairs_among, Takes, TakesSound}
-use Rattle.properties_tables.specs.Private.Table.{bytes_at, hash_from, in_slot, no_row, place_in, place_keys, places_of, row_bytes, slot_for, FindsKey, HoldPlaces, HoldsText, IsFound, IsKeyTable, KeptRow, PutsKey, ReadsKeys, SlotHas, TookKeys}
+use Rattle.properties_tables.specs.Private.Fold.{found_escape, found_pair, found_pairs, Takes, TakesSound}
+use Rattle.properties_tables.specs.Private.Table.{bytes_at, hash_from, in_slot, no_row, key_place_in, place_keys, table_places, row_bytes, slot_for, FindsKey, HoldPlaces, HoldsText, IsFound, IsKeyTable, KeptRow, PutsKey, ReadsKeys, SlotHas, TookKeys}
 use Rattle.properties_tables.specs.declared.key_table.KeyRow.{KeyRow}
 use Rattle.properties_tables.specs.declared.key_table.KeyTable.{KeyTable}
 use Rattle.properties_tables.proofs.SourceFindings.{pairs-append}
@@ -47,21 +47,21 @@ pub some-row : (held : ℕ) → (held ≡ 0 → ⊥) → held ≡ (held - 1) + 1
 some-row held some = omega (arith, some)
 
 module _ (s : KeyTable) where
-  pub length-places : length (places_of s) ≡ length s.keys.rows.items
-  length-places = length-map s.keys.rows.items (place_in s.keys.text.items)
+  pub length-places : length (table_places s) ≡ length s.keys.rows.items
+  length-places = length-map s.keys.rows.items (key_place_in s.keys.text.items)
 
-  pub length-keys : length (place_keys (places_of s)) ≡ length s.keys.rows.items
-  length-keys = length-map (places_of s) (λ (p : KeyPlace). p.key) ∙ length-places
+  pub length-keys : length (place_keys (table_places s)) ≡ length s.keys.rows.items
+  length-keys = length-map (table_places s) (λ (p : KeyPlace). p.key) ∙ length-places
 
   -- the place of a row
   pub place-at : (n : ℕ) (d : KeyPlace) → n < length s.keys.rows.items
-      → get_or (places_of s) n d ≡ place_in s.keys.text.items (get_or s.keys.rows.items n no_row)
-  place-at n d l = get_or-map (place_in s.keys.text.items) s.keys.rows.items n no_row d l
+      → get_or (table_places s) n d ≡ key_place_in s.keys.text.items (get_or s.keys.rows.items n no_row)
+  place-at n d l = get_or-map (key_place_in s.keys.text.items) s.keys.rows.items n no_row d l
 
-  pub key-at : (n : ℕ) (d : List ℕ) → n < length s.keys.rows.items → get_or (place_keys (places_of s)) n d ≡ chars (row_bytes s n)
+  pub key-at : (n : ℕ) (d : List ℕ) → n < length s.keys.rows.items → get_or (place_keys (table_places s)) n d ≡ chars (row_bytes s n)
   key-at n d l =
-      get_or-map (λ (p : KeyPlace). p.key) (places_of s) n (place_in s.keys.text.items no_row) d (subst (λ v. n < v) (sym length-places) l)
-      ∙ ap (λ (p : KeyPlace). p.key) (place-at n (place_in s.keys.text.items no_row) l)
+      get_or-map (λ (p : KeyPlace). p.key) (table_places s) n (key_place_in s.keys.text.items no_row) d (subst (λ v. n < v) (sym length-places) l)
+      ∙ ap (λ (p : KeyPlace). p.key) (place-at n (key_place_in s.keys.text.items no_row) l)
 
   -- What is at the slot of a key is what its slot has.
   pub slot-is : (bytes : List ℕ) (slot held : ℕ) → slot ≡ slot_for (length s.slots.items) bytes → slot < length s.slots.items
@@ -74,11 +74,11 @@ module _ (s : KeyTable) where
 
   module _ (n : ℕ) (text bytes : List ℕ) (below : n < length s.keys.rows.items) where
     -- the key of a row is this text, and is the key that is sought
-    pub key-same : ((d : KeyPlace) → chars text ≡ (get_or (places_of s) n d).key) → bytes_eq text bytes ≡ true → chars (row_bytes s n) ≡ chars bytes
+    pub key-same : ((d : KeyPlace) → chars text ≡ (get_or (table_places s) n d).key) → bytes_eq text bytes ≡ true → chars (row_bytes s n) ≡ chars bytes
     key-same at same = sym (at none ∙ ap (λ (p : KeyPlace). p.key) (place-at n none below)) ∙ ap chars ((bytes_eq-Decides text bytes).0 same)
 
     -- or isn't
-    pub key-differs : IsUtf8 text → IsUtf8 bytes → ((d : KeyPlace) → chars text ≡ (get_or (places_of s) n d).key) → bytes_eq text bytes ≡ false
+    pub key-differs : IsUtf8 text → IsUtf8 bytes → ((d : KeyPlace) → chars text ≡ (get_or (table_places s) n d).key) → bytes_eq text bytes ≡ false
         → chars (row_bytes s n) ≡ chars bytes → ⊥
     key-differs is too at differs same =
         let e = same-text text bytes is too (at none ∙ ap (λ (p : KeyPlace). p.key) (place-at n none below) ∙ same) in
@@ -97,27 +97,27 @@ module _ (s : KeyTable) (table : IsKeyTable s) (bytes : List ℕ) (is : IsUtf8 b
       (is, table.slots (slot_for (length s.slots.items) bytes) (held - 1) is)
 
   -- No row has the key.
-  lacks : ((n : ℕ) → n < length s.keys.rows.items → row_bytes s n ≡ bytes → ⊥) → HasNot (chars bytes) (place_keys (places_of s))
-  lacks never = has_not (chars bytes) (place_keys (places_of s)) (λ h.
-      let c = contains (chars bytes) (place_keys (places_of s)) h in
+  lacks : ((n : ℕ) → n < length s.keys.rows.items → row_bytes s n ≡ bytes → ⊥) → HasNot (chars bytes) (place_keys (table_places s))
+  lacks never = has_not (chars bytes) (place_keys (table_places s)) (λ h.
+      let c = contains (chars bytes) (place_keys (table_places s)) h in
       let below : c.0 < length s.keys.rows.items = subst (λ v. c.0 < v) (length-keys s) c.1 in
       let same : chars (row_bytes s c.0) ≡ chars bytes = sym (key-at s c.0 (chars bytes) below) ∙ c.2 in
       never c.0 below (same-text (row_bytes s c.0) bytes (table.texts c.0 no_row below).is is same))
 
   -- Nothing is in its slot.
-  pub finds-empty : in_slot s bytes ≡ 0 → FindsKey (chars bytes) (place_keys (places_of s)) None
+  pub finds-empty : in_slot s bytes ≡ 0 → FindsKey (chars bytes) (place_keys (table_places s)) None
   finds-empty none = lacks (λ n l same.
       let f = table.every n l in
       let k = sym none ∙ ap (in_slot s) (sym same) ∙ f.1 in
       absurd (omega arith))
 
   -- It is the key of a row.
-  pub at-row : (n : ℕ) → n < length s.keys.rows.items → chars (row_bytes s n) ≡ chars bytes → FindsKey (chars bytes) (place_keys (places_of s)) (Some n)
+  pub at-row : (n : ℕ) → n < length s.keys.rows.items → chars (row_bytes s n) ≡ chars bytes → FindsKey (chars bytes) (place_keys (table_places s)) (Some n)
   at-row n l same = (subst (λ v. n < v) (sym (length-keys s)) l, λ d. key-at s n d l ∙ same)
 
   -- Another is in its slot, and it is among the others, or nowhere.
   pub finds-other : (m : ℕ) (o : Option ℕ) → in_slot s bytes ≡ m + 1 → (chars (row_bytes s m) ≡ chars bytes → ⊥) → number_at s.others.entries (chars bytes) ≡ o
-      → FindsKey (chars bytes) (place_keys (places_of s)) o
+      → FindsKey (chars bytes) (place_keys (table_places s)) o
   finds-other m (Some n) some differs there = let k = table.among (chars bytes) n there in at-row n k.0 k.1
   finds-other m None some differs there = lacks (λ n l same.
       let f = table.every n l in
@@ -216,7 +216,7 @@ keeps bytes row s t table (held, slot, kept) =
 
 -- ---- a row more
 
-module _ (s t : KeyTable) (table : IsKeyTable s) (bytes : List ℕ) (new : HasNot (chars bytes) (place_keys (places_of s))) (r : KeyRow)
+module _ (s t : KeyTable) (table : IsKeyTable s) (bytes : List ℕ) (new : HasNot (chars bytes) (place_keys (table_places s))) (r : KeyRow)
     (text : t.keys.text.items ≡ s.keys.text.items ++ bytes) (rows : t.keys.rows.items ≡ s.keys.rows.items ++ r ∷ [])
     (holds : HoldsText t.keys.text.items r.place)
     (at : bytes_at t.keys.text.items r.place ≡ bytes) where
@@ -236,12 +236,12 @@ module _ (s t : KeyTable) (table : IsKeyTable s) (bytes : List ℕ) (new : HasNo
   size = ap length rows ∙ length-append s.keys.rows.items (r ∷ [])
 
   -- its place
-  pub places-more : places_of t ≡ places_of s ++ record { number = r.first_line; key = chars bytes } ∷ []
+  pub places-more : table_places t ≡ table_places s ++ record { number = r.first_line; key = chars bytes } ∷ []
   places-more =
-      ap (map (place_in t.keys.text.items)) rows ∙ map-append (place_in t.keys.text.items) s.keys.rows.items (r ∷ [])
-      ∙ ap (λ v. v ++ place_in t.keys.text.items r ∷ []) (map-same (place_in t.keys.text.items) (place_in s.keys.text.items)
+      ap (map (key_place_in t.keys.text.items)) rows ∙ map-append (key_place_in t.keys.text.items) s.keys.rows.items (r ∷ [])
+      ∙ ap (λ v. v ++ key_place_in t.keys.text.items r ∷ []) (map-same (key_place_in t.keys.text.items) (key_place_in s.keys.text.items)
       (λ (q : KeyRow). HoldsText s.keys.text.items q.place) s.keys.rows.items table.texts (λ q h. ap (λ v. place v q) (ap (λ v. bytes_at v q.place) text ∙ kept-at s.keys.text.items bytes q.place h)))
-      ∙ ap (λ v. places_of s ++ place v r ∷ []) at
+      ∙ ap (λ v. table_places s ++ place v r ∷ []) at
     where
       place : List ℕ → KeyRow → KeyPlace
       place v q = record { number = q.first_line; key = chars v }
@@ -279,33 +279,33 @@ module _ (s t : KeyTable) (table : IsKeyTable s) (bytes : List ℕ) (new : HasNo
         k.slots_kept (row_bytes s n) f.0 f.1,
         elim f.2 [
           | inl e ↦ inl e
-          | inr m ↦ inr (k.others_kept (chars (row_bytes s n)) n (λ e. no-both (chars bytes) (place_keys (places_of s)) new (
+          | inr m ↦ inr (k.others_kept (chars (row_bytes s n)) n (λ e. no-both (chars bytes) (place_keys (table_places s)) new (
               let here = subst (λ v. n < v) (sym (length-keys s)) below in
-              contained (chars bytes) (place_keys (places_of s)) (n, here, key-at s n (chars bytes) below ∙ sym e))) m)
+              contained (chars bytes) (place_keys (table_places s)) (n, here, key-at s n (chars bytes) below ∙ sym e))) m)
         ],
       )
 
 -- ---- what is taken
 
-pub took-none : (s : KeyTable) → IsKeyTable s → places_of s ≡ [] → TookKeys s [] s
+pub took-none : (s : KeyTable) → IsKeyTable s → table_places s ≡ [] → TookKeys s [] s
 took-none s table empty = record { table = table; hold = rw empty places-none }
 
 -- a pair
-pub took-pair : (old new : KeyTable) (number : ℕ) (key value : List ℕ) (row : ℕ) → PutsKey number key (places_of old) row (places_of new) → IsKeyTable new
+pub took-pair : (old new : KeyTable) (number : ℕ) (key value : List ℕ) (row : ℕ) → PutsKey number key (table_places old) row (table_places new) → IsKeyTable new
     → Takes TookKeys old (found_pair number key value) new
 took-pair old new number key value row puts table = λ first findings took. record {
   table = table;
-  hold = subst (λ v. HoldPlaces v (places_of new)) (sym (pairs-append findings (found_pair number key value ∷ [])))
-      (places-put (pairs_among findings) number key value (places_of old) (places_of new) row took.hold puts);
+  hold = subst (λ v. HoldPlaces v (table_places new)) (sym (pairs-append findings (found_pair number key value ∷ [])))
+      (places-put (found_pairs findings) number key value (table_places old) (table_places new) row took.hold puts);
 }
 
 -- a malformed escape
 pub took-escape : (s : KeyTable) (escape : MalformedEscape) → Takes TookKeys s (found_escape escape) s
 took-escape s escape = λ first findings took. record {
   table = took.table;
-  hold = subst (λ v. HoldPlaces v (places_of s)) (sym (pairs-append findings (found_escape escape ∷ []) ∙ append-nil (pairs_among findings))) took.hold;
+  hold = subst (λ v. HoldPlaces v (table_places s)) (sym (pairs-append findings (found_escape escape ∷ []) ∙ append-nil (found_pairs findings))) took.hold;
 }
 
 -- the keys of a source
 pub reads-keys : (e : Encoding) (source : List ℕ) (first t : KeyTable) → TakesSound TookKeys first e source (Ok t) → ReadsKeys e source (Ok t.keys)
-reads-keys e source first t (sound, (findings, are, took)) = (sound, took.table.texts, places-read e source findings are (places_of t) took.hold)
+reads-keys e source first t (sound, (findings, are, took)) = (sound, took.table.texts, places-read e source findings are (table_places t) took.hold)

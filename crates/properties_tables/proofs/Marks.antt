@@ -16,7 +16,7 @@ use Rattle.properties_text.specs.declared.encoding.Encoding.TheVariants.{WINDOWS
 use Rattle.std.specs.Prelude.{◌&&◌, nat_eq, Bool, Some, None}
 use Rattle.memchr.specs.Find.{IsFirstByte, is_byte}
 use Rattle.properties_tables.specs.Lines.{holds_mark, holds_mark_in, starts_with_bom}
-use Rattle.properties_tables.specs.Private.Flawed.{holds_mark_unit, numbers_from, unit_in, HasFlawedIn}
+use Rattle.properties_tables.specs.Private.Flawed.{holds_mark_unit, numbers_from, unit_at, HasFlawedIn}
 use Rattle.properties_tables.specs.declared.ill_formed.Flaw.TheVariants.{MarkInside}
 use Rattle.properties_tables.proofs.FlawedLines.{has-flawed}
 
@@ -102,7 +102,7 @@ marks-two unit (a ∷ []) = refl
 marks-two unit (a ∷ b ∷ bytes) = ap (λ v. unit a b == 0xfeff || v) (marks-two unit bytes)
 
 pub utf_16-marks : (f : code.Encoding) (bytes : List ℕ) → f ≢ WINDOWS_1252 → f ≢ UTF_8
-    → holds_mark_unit (unit_in (encoding_of f)) bytes ≡ holds_mark_in (encoding_of f) bytes
+    → holds_mark_unit (unit_at (encoding_of f)) bytes ≡ holds_mark_in (encoding_of f) bytes
 utf_16-marks WINDOWS_1252 bytes h k = absurd (h refl)
 utf_16-marks UTF_8 bytes h k = absurd (k refl)
 utf_16-marks UTF_16LE bytes h k = marks-two low_first bytes

@@ -4,7 +4,7 @@ use Rattle.std.specs.Prelude.{not, nat_lt, nat_le}
 use Rattle.std.specs.Str.{IsAscii}
 use Rattle.std.proofs.lemmas.List.{take_all}
 use Rattle.std.proofs.lemmas.Bool.{cases_Bool, and_parts, or_from, or_parts}
-use Rattle.properties_format.specs.Text.{Piece, characters}
+use Rattle.properties_format.specs.Text.{Piece, piece_characters}
 use Rattle.properties_format.specs.Encoding.{Encoding, windows_1252, utf_8, utf_16le, utf_16be, ascii_bytes, IsPieces}
 use Rattle.properties_format.specs.Utf16.{low_first, high_first}
 use Rattle.properties_format.specs.Computed.Cut.{decoded_line}
@@ -15,10 +15,10 @@ use Rattle.properties_text.specs.Encoding.{encoding_of}
 use Rattle.properties_text.specs.declared.encoding.Encoding as code
 use Rattle.properties_text.specs.declared.encoding.Encoding.TheVariants.{WINDOWS_1252, UTF_8, UTF_16LE, UTF_16BE}
 use Rattle.properties_lines.specs.LineSearch.{unit_size}
-use Rattle.properties_lines.specs.Scanner.{bytes_of}
+use Rattle.properties_lines.specs.Scanner.{raw_line_bytes}
 use Rattle.properties_lines.specs.declared.scanner.RawLine.{RawLine}
 use Rattle.properties_tables.specs.Lines.{holds_non_ascii}
-use Rattle.properties_tables.specs.Private.Flawed.{are_ascii, is_ascii, unit_in, IsFound}
+use Rattle.properties_tables.specs.Private.Flawed.{are_ascii, is_ascii, unit_at, IsFoundLine}
 
 -- an ASCII character isn't another one
 within : (c : ℕ) → c < 0x80 → nat_le 0x80 c ≡ false
@@ -42,10 +42,10 @@ told-nothing utf_16le = refl
 told-nothing utf_16be = refl
 
 -- Where all characters are ASCII, the bytes tell it;
-pieces-told : (e : Encoding) (d : List ℕ) (ps : List Piece) → IsPieces e d ps → holds_non_ascii (characters ps) ≡ false → is_ascii e d ≡ true
+pieces-told : (e : Encoding) (d : List ℕ) (ps : List Piece) → IsPieces e d ps → holds_non_ascii (piece_characters ps) ≡ false → is_ascii e d ≡ true
 pieces-told e d [] h none = rw h (told-nothing e)
 pieces-told e d (p ∷ ps) (rest, is, one, others) none =
-    let parts = or_parts (nat_le 0x80 p.character) (holds_non_ascii (characters ps)) none in
+    let parts = or_parts (nat_le 0x80 p.character) (holds_non_ascii (piece_characters ps)) none in
     let ascii : p.character < 0x80 = grind (arith, parts.0) in
     let bytes = piece-ascii e p rest one ascii in
     rw (is, bytes) (told-past e p.character rest ascii ∙ pieces-told e rest ps others parts.1)
@@ -95,24 +95,24 @@ all-within [] h i = omega arith
 all-within (b ∷ bs) h zero = let parts = or_parts (nat_le 0x80 b) (holds_non_ascii bs) h in grind (arith, parts.0)
 all-within (b ∷ bs) h (suc n) = all-within bs (or_parts (nat_le 0x80 b) (holds_non_ascii bs) h).1 n
 
-flag-tells : {e : Encoding} {body : List ℕ} (line : RawLine) → IsFound e body line → unit_size e ≡ 1
-    → line.is_ascii ≡ not (holds_non_ascii (bytes_of body line))
+flag-tells : {e : Encoding} {body : List ℕ} (line : RawLine) → IsFoundLine e body line → unit_size e ≡ 1
+    → line.is_ascii ≡ not (holds_non_ascii (raw_line_bytes body line))
 flag-tells {e} {body} line h single = elim (cases_Bool line.is_ascii) [
-  | inl k ↦ k ∙ sym (ap not (none-beyond (bytes_of body line) (h.flags.ascii.0 k).1))
-  | inr k ↦ elim (cases_Bool (holds_non_ascii (bytes_of body line))) [
+  | inl k ↦ k ∙ sym (ap not (none-beyond (raw_line_bytes body line) (h.flags.ascii.0 k).1))
+  | inr k ↦ elim (cases_Bool (holds_non_ascii (raw_line_bytes body line))) [
     | inl t ↦ k ∙ sym (ap not t)
-    | inr t ↦ absurd (let flag = h.flags.ascii.1 (single, all-within (bytes_of body line) t) in cc)
+    | inr t ↦ absurd (let flag = h.flags.ascii.1 (single, all-within (raw_line_bytes body line) t) in cc)
   ]
 ]
 
-pub one-byte-told : (f : code.Encoding) {body : List ℕ} (line : RawLine) → IsFound (encoding_of f) body line → (f ≡ WINDOWS_1252) ⊎ (f ≡ UTF_8)
-    → line.is_ascii ≡ is_ascii (encoding_of f) (bytes_of body line)
+pub one-byte-told : (f : code.Encoding) {body : List ℕ} (line : RawLine) → IsFoundLine (encoding_of f) body line → (f ≡ WINDOWS_1252) ⊎ (f ≡ UTF_8)
+    → line.is_ascii ≡ is_ascii (encoding_of f) (raw_line_bytes body line)
 one-byte-told f line h (inl is) = rw is (flag-tells {e = windows_1252} line (rw is at h) refl)
 one-byte-told f line h (inr is) = rw is (flag-tells {e = utf_8} line (rw is at h) refl)
 
 -- what is neither windows-1252 nor UTF-8 is UTF-16
 pub utf_16-told : (f : code.Encoding) (bytes : List ℕ) → f ≢ WINDOWS_1252 → f ≢ UTF_8
-    → are_ascii (unit_in (encoding_of f)) bytes ≡ is_ascii (encoding_of f) bytes
+    → are_ascii (unit_at (encoding_of f)) bytes ≡ is_ascii (encoding_of f) bytes
 utf_16-told WINDOWS_1252 bytes h k = absurd (h refl)
 utf_16-told UTF_8 bytes h k = absurd (k refl)
 utf_16-told UTF_16LE bytes h k = refl

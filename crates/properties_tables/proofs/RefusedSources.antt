@@ -12,7 +12,7 @@ use Rattle.java_properties.specs.Findings.{escape_record, escape_records, HasMal
 use Rattle.properties_items.specs.declared.findings.MalformedEscape.{MalformedEscape}
 use Rattle.properties_tables.specs.Private.Fold.{escapes_among, found_escape, found_pair, AreFindings, Finding}
 use Rattle.properties_tables.specs.Private.Sought.{or_else}
-use Rattle.properties_tables.specs.Sources.{first_in_pair, HasSoundBytes, IsFirstMalformed, IsSound}
+use Rattle.properties_tables.specs.Sources.{first_in_pair, HasSoundBytes, IsFirstMalformedEscape, IsSound}
 use Rattle.properties_tables.proofs.SourceFindings.{escapes-append, escapes-groups, findings-groups}
 
 -- what is said of the first escape of a pair
@@ -59,7 +59,7 @@ first-append (x ∷ xs) ys = elim (cases_Bool x.in_comment) [ inl c ↦ rw c (fi
 -- The bytes are sound, and this is the first escape of a pair among those that are malformed.
 pub first-among : {e : Encoding} {source : List ℕ} {escapes : List format.MalformedEscape} (escape : MalformedEscape) → HasSoundBytes e source
     → AreMalformedEscapes e source escapes
-    → Some escape ≡ first_in_pair (escape_records escapes) → IsFirstMalformed e source escape
+    → Some escape ≡ first_in_pair (escape_records escapes) → IsFirstMalformedEscape e source escape
 first-among {escapes = escapes} escape bytes are is =
     let k = one-first escapes escape is in
     record {
@@ -75,7 +75,7 @@ first-among {escapes = escapes} escape bytes are is =
 
 pub first-malformed : {e : Encoding} {source : List ℕ} {found : List MalformedEscape} (escape : MalformedEscape) → HasSoundBytes e source
     → HasMalformed e source found
-    → Some escape ≡ first_in_pair found → IsFirstMalformed e source escape
+    → Some escape ≡ first_in_pair found → IsFirstMalformedEscape e source escape
 first-malformed escape bytes h is = first-among escape bytes h.are (is ∙ ap first_in_pair h.is)
 
 -- The bytes are sound, and no escape of a pair is malformed.
@@ -107,7 +107,7 @@ module _ (e : Encoding) (source : List ℕ) (findings : List Finding) (are : Are
 
   -- or this is the first
   pub one-found : (escape : MalformedEscape) → HasSoundBytes e source → Some escape ≡ first_in_pair (escapes_among findings)
-      → IsFirstMalformed e source escape
+      → IsFirstMalformedEscape e source escape
   one-found escape bytes some =
       let g = findings-groups e source findings are in
       first-among escape bytes (found-in_groups _ g.1) (some ∙ ap first_in_pair (ap escapes_among g.2 ∙ escapes-groups g.0))

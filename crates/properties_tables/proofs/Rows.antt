@@ -15,7 +15,7 @@ use Rattle.properties_format.proofs.Edits.PairValues.{pairs_in}
 use Rattle.properties_format.proofs.Found.{found-in_groups}
 use Rattle.properties_format.proofs.Keys.{contained, pair_key, pair_keys, are-keys}
 use Rattle.java_properties.specs.Findings.{KeyPlace}
-use Rattle.properties_tables.specs.Private.Fold.{pairs_among, AreFindings, Finding}
+use Rattle.properties_tables.specs.Private.Fold.{found_pairs, AreFindings, Finding}
 use Rattle.properties_tables.specs.Private.Table.{place_keys, FindsKey, HasPlaces, HoldPlaces, HoldRows, PutsKey, PutsRow}
 use Rattle.properties_tables.specs.Table.{row_keys, AreRows, HasRows, IsFirstLine, IsLastPair, IsRow, Row}
 use Rattle.properties_tables.proofs.SourceFindings.{findings-groups, pairs-groups}
@@ -188,20 +188,20 @@ pub rows-none : HoldRows [] []
 rows-none = record { first = none-first; each = λ k d l. absurd (omega arith) }
 
 module _ (e : Encoding) (source : List ℕ) (findings : List Finding) (are : AreFindings e source findings) where
-  pairs-found : (entries : List Entry) × ArePairs e source entries × (pairs_among findings ≡ entries)
+  pairs-found : (entries : List Entry) × ArePairs e source entries × (found_pairs findings ≡ entries)
   pairs-found =
       let g = findings-groups e source findings are in
-      (pairs_in g.0, found-in_groups _ g.1, ap pairs_among g.2 ∙ pairs-groups g.0)
+      (pairs_in g.0, found-in_groups _ g.1, ap found_pairs g.2 ∙ pairs-groups g.0)
 
   -- The keys are those of the source,
-  pub places-read : (places : List KeyPlace) → HoldPlaces (pairs_among findings) places → HasPlaces e source places
+  pub places-read : (places : List KeyPlace) → HoldPlaces (found_pairs findings) places → HasPlaces e source places
   places-read places h =
       let p = pairs-found in
       let k : HoldPlaces p.0 places = subst (λ v. HoldPlaces v places) p.2 h in
       record { pairs = p.0; are = p.1; keys = are-keys p.0 (pair_keys p.0) (place_keys places) refl k.first; each = k.each }
 
   -- and so are the rows.
-  pub rows-read : (rows : List Row) → HoldRows (pairs_among findings) rows → HasRows e source rows
+  pub rows-read : (rows : List Row) → HoldRows (found_pairs findings) rows → HasRows e source rows
   rows-read rows h =
       let p = pairs-found in
       let k : HoldRows p.0 rows = subst (λ v. HoldRows v rows) p.2 h in

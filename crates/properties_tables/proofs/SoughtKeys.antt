@@ -25,7 +25,7 @@ use Rattle.properties_items.proofs.TextMaps.Values.{at_chars}
 use Rattle.properties_items.specs.declared.findings.MalformedEscape.{MalformedEscape}
 use Rattle.properties_editing.proofs.PartLists.{none-changed}
 use Rattle.properties_tables.specs.Private.Sought.{or_else, found_value, held_value, is_marked, mark_for, IsSeeking, Seeks, SeeksMore, TookSought}
-use Rattle.properties_tables.specs.Private.Fold.{found_escape, found_pair, pairs_among, AreFindings, Finding, Takes}
+use Rattle.properties_tables.specs.Private.Fold.{found_escape, found_pair, found_pairs, AreFindings, Finding, Takes}
 use Rattle.properties_tables.specs.Values.{HaveValues}
 use Rattle.properties_tables.specs.Sources.{first_in_pair}
 use Rattle.properties_tables.specs.declared.values.Sought.{Sought}
@@ -160,7 +160,7 @@ module _ (old new : Sought) (number : ℕ) (key value : List ℕ) (seeking : IsS
       marked = λ k v held. let w = before k v (sym (put k) ∙ held) in rw marks (seeking.marked k w.0 w.1);
     };
     values = λ k.
-        let entries = pairs_among findings in
+        let entries = found_pairs findings in
         let more = ap (λ v. value_in v k) (pairs-append findings (found_pair number key value ∷ [])) ∙ value-more entries number key value k in
         put k ∙ step k (held_value first k) (value_in entries k) (took.values k)
         ∙ sym (ap (λ v. option_map (λ none. v) (held_value first k)) more);
@@ -213,7 +213,7 @@ took-escape old new escape values marks now_first = λ first findings took. reco
     some = rw marks took.seeking.some;
     marked = λ key value held. rw marks (took.seeking.marked key value (rw values at held));
   };
-  values = λ key. rw (values, pairs-append findings (found_escape escape ∷ []) ∙ append-nil (pairs_among findings)) (took.values key);
+  values = λ key. rw (values, pairs-append findings (found_escape escape ∷ []) ∙ append-nil (found_pairs findings)) (took.values key);
 }
 
 -- ---- a source
@@ -223,10 +223,10 @@ module _ (e : Encoding) (source : List ℕ) (findings : List Finding) (are : Are
   pub in-comments : EscapesAre e source AreInComments
   in-comments = none-found e source findings are (sym none ∙ took.malformed)
 
-  pairs-are : ArePairs e source (pairs_among findings)
+  pairs-are : ArePairs e source (found_pairs findings)
   pairs-are =
       let g = findings-groups e source findings are in
-      subst (ArePairs e source) (sym (ap pairs_among g.2 ∙ pairs-groups g.0)) (found-in_groups _ g.1)
+      subst (ArePairs e source) (sym (ap found_pairs g.2 ∙ pairs-groups g.0)) (found-in_groups _ g.1)
 
   -- The keys that were sought have their values.
   pub have-found : (keys : List (List ℕ)) → ((key : List ℕ) → Has key keys → held_value first key ≡ Some None)
@@ -235,9 +235,9 @@ module _ (e : Encoding) (source : List ℕ) (findings : List Finding) (are : Are
   have-found (key ∷ keys) each = (
     record {
       in_comments = in-comments;
-      pairs = pairs_among findings;
+      pairs = found_pairs findings;
       are = pairs-are;
-      is = rw (took.values key, each key (inl refl)) (value_in-meets (pairs_among findings) key);
+      is = rw (took.values key, each key (inl refl)) (value_in-meets (found_pairs findings) key);
     },
     have-found keys (λ k m. each k (inr m)),
   )

@@ -17,7 +17,7 @@ use Rattle.properties_items.specs.Errors.{malformed_kind}
 use Rattle.properties_items.specs.declared.findings.MalformedEscape.{MalformedEscape}
 use Rattle.java_properties.specs.Findings.{escape_records, keys_from, KeyPlace}
 use Rattle.java_properties.proofs.KeyLines.{keys_in}
-use Rattle.properties_tables.specs.Private.Fold.{before_some, escapes_among, findings_from, found_escape, found_pair, keys_among, outcome_finding, pairs_among, AreFindings, Finding}
+use Rattle.properties_tables.specs.Private.Fold.{before_some, escapes_among, findings_from, found_escape, found_pair, keys_among, outcome_finding, found_pairs, AreFindings, Finding}
 use Rattle.properties_tables.proofs.FindingFolds.{findings_in}
 
 abbrev place : ℕ → List ℕ → KeyPlace
@@ -33,7 +33,7 @@ pub findings-groups : (e : Encoding) (source : List ℕ) (findings : List Findin
 findings-groups e source findings h = (groups_in e source end, groups_in-meets e source end, found-only findings_from e source end findings h)
 
 module _ (number : ℕ) (x : List ℕ) (fs : List Finding) where
-  pairs-step : (o : Outcome) (xs : List Entry) → pairs_among fs ≡ xs → pairs_among (before_some (outcome_finding number x o) fs) ≡ pair_from number o xs
+  pairs-step : (o : Outcome) (xs : List Entry) → found_pairs fs ≡ xs → found_pairs (before_some (outcome_finding number x o) fs) ≡ pair_from number o xs
   pairs-step ignored xs h = h
   pairs-step (given (comment text)) xs h = h
   pairs-step (given (pair key value)) xs h = ap (λ v. item number (pair key value) ∷ v) h
@@ -52,7 +52,7 @@ module _ (number : ℕ) (x : List ℕ) (fs : List Finding) where
   escapes-step (given (pair key value)) xs h = h
   escapes-step (broken kind) xs h = ap (λ v. malformed number x kind ∷ v) h
 
-pub pairs-groups : (gs : List (List Line)) → pairs_among (findings_in gs) ≡ pairs_in gs
+pub pairs-groups : (gs : List (List Line)) → found_pairs (findings_in gs) ≡ pairs_in gs
 pairs-groups [] = refl
 pairs-groups (g ∷ gs) = pairs-step (first_number g) (joined g) (findings_in gs) (outcome_of (joined g)) (pairs_in gs) (pairs-groups gs)
 
@@ -66,7 +66,7 @@ escapes-groups (g ∷ gs) = escapes-step (first_number g) (joined g) (findings_i
 
 -- ---- What is among more findings comes last.
 
-pub pairs-append : (fs gs : List Finding) → pairs_among (fs ++ gs) ≡ pairs_among fs ++ pairs_among gs
+pub pairs-append : (fs gs : List Finding) → found_pairs (fs ++ gs) ≡ found_pairs fs ++ found_pairs gs
 pairs-append [] gs = refl
 pairs-append (found_pair number key value ∷ fs) gs = ap (λ v. item number (pair key value) ∷ v) (pairs-append fs gs)
 pairs-append (found_escape escape ∷ fs) gs = pairs-append fs gs

@@ -10,8 +10,8 @@ use Rattle.std.proofs.lemmas.Slice.Zip.{get_or-zip, length-zip}
 use Rattle.properties_format.specs.Encoding.{Encoding}
 use Rattle.java_properties.specs.Findings.{KeyPlace}
 use Rattle.properties_items.specs.declared.findings.MalformedEscape.{MalformedEscape}
-use Rattle.properties_tables.specs.Private.Fold.{found_escape, found_pair, pairs_among, Takes, TakesSound}
-use Rattle.properties_tables.specs.Private.Table.{bytes_at, place_keys, places_of, row_in, rows_of, FindsKey, HoldRows, HoldsText, IsKeyTable, IsTable, PutsKey, PutsRow, ReadsTable, TookRows}
+use Rattle.properties_tables.specs.Private.Fold.{found_escape, found_pair, found_pairs, Takes, TakesSound}
+use Rattle.properties_tables.specs.Private.Table.{bytes_at, place_keys, table_places, row_in, rows_of, FindsKey, HoldRows, HoldsText, IsKeyTable, IsTable, PutsKey, PutsRow, ReadsTable, TookRows}
 use Rattle.properties_tables.specs.Table.{row_keys, Row}
 use Rattle.properties_tables.specs.declared.error.Failure.{Failure}
 use Rattle.properties_tables.specs.declared.table.LastPair.{LastPair}
@@ -60,39 +60,39 @@ pub no_last : LastPair
 no_last = record { value = record { start = 0; length = 0 }; line = 0 }
 
 module _ (t : Table) (table : IsTable t) where
-  lasts-places : length t.lasts.items ≡ length (places_of t.keys)
+  lasts-places : length t.lasts.items ≡ length (table_places t.keys)
   lasts-places = table.lasts ∙ sym (length-places t.keys)
 
   pub length-rows : length (rows_of t) ≡ length t.lasts.items
   length-rows =
-      let m = length-map (zip (places_of t.keys) t.lasts.items) (row_in t.values.items) in
-      let z = length-zip (places_of t.keys) t.lasts.items in
+      let m = length-map (zip (table_places t.keys) t.lasts.items) (row_in t.values.items) in
+      let z = length-zip (table_places t.keys) t.lasts.items in
       let l = lasts-places in
       omega arith
 
-  pub keys-rows : row_keys (rows_of t) ≡ place_keys (places_of t.keys)
-  keys-rows = keys-zip t.values.items (places_of t.keys) t.lasts.items lasts-places
+  pub keys-rows : row_keys (rows_of t) ≡ place_keys (table_places t.keys)
+  keys-rows = keys-zip t.values.items (table_places t.keys) t.lasts.items lasts-places
 
   pub row-at : (n : ℕ) (d : Row) (l : LastPair) → n < length (rows_of t)
-      → get_or (rows_of t) n d ≡ row_in t.values.items (get_or (places_of t.keys) n none, get_or t.lasts.items n l)
+      → get_or (rows_of t) n d ≡ row_in t.values.items (get_or (table_places t.keys) n none, get_or t.lasts.items n l)
   row-at n d l below =
       let r = length-rows in
       let p = lasts-places in
-      let z = length-zip (places_of t.keys) t.lasts.items in
-      get_or-map (row_in t.values.items) (zip (places_of t.keys) t.lasts.items) n (none, l) d (omega arith)
-      ∙ ap (row_in t.values.items) (get_or-zip (places_of t.keys) t.lasts.items n (none, l) (omega arith) (omega arith))
+      let z = length-zip (table_places t.keys) t.lasts.items in
+      get_or-map (row_in t.values.items) (zip (table_places t.keys) t.lasts.items) n (none, l) d (omega arith)
+      ∙ ap (row_in t.values.items) (get_or-zip (table_places t.keys) t.lasts.items n (none, l) (omega arith) (omega arith))
 
   -- The lines of the last pairs fit.
   pub lines-fit : All (λ r. r.last < 2 ^ 64) (rows_of t)
   lines-fit = λ i d l. rw (row-at i d no_last l) (table.lines i no_last (let r = length-rows in omega arith))
 
-  pub below-places : (n : ℕ) → n < length (rows_of t) → n < length (places_of t.keys)
+  pub below-places : (n : ℕ) → n < length (rows_of t) → n < length (table_places t.keys)
   below-places n l = let r = length-rows in let p = lasts-places in omega arith
 
 -- ---- a pair more
 
 module _ (old new : Table) (table : IsTable old) (number : ℕ) (key bytes : List ℕ) (row : ℕ) (last : LastPair)
-    (puts : PutsKey number key (places_of old.keys) row (places_of new.keys)) (keys : IsKeyTable new.keys)
+    (puts : PutsKey number key (table_places old.keys) row (table_places new.keys)) (keys : IsKeyTable new.keys)
     (values : new.values.items ≡ old.values.items ++ bytes) (holds : HoldsText new.values.items last.value)
     (at : bytes_at new.values.items last.value ≡ bytes) (line : last.line ≡ number) (fits : number < 2 ^ 64) where
   small : last.line < 2 ^ 64
@@ -103,9 +103,9 @@ module _ (old new : Table) (table : IsTable old) (number : ℕ) (key bytes : Lis
       (holds-kept old.values.items bytes (get_or old.lasts.items k d).value (table.texts k d l))
 
   -- The rows of the keys and last pairs that stay are the same.
-  same-rows : map (row_in new.values.items) (zip (places_of old.keys) old.lasts.items) ≡ rows_of old
-  same-rows = ap (λ v. map (row_in v) (zip (places_of old.keys) old.lasts.items)) values
-      ∙ rows-grown old.values.items bytes (places_of old.keys) old.lasts.items table.texts
+  same-rows : map (row_in new.values.items) (zip (table_places old.keys) old.lasts.items) ≡ rows_of old
+  same-rows = ap (λ v. map (row_in v) (zip (table_places old.keys) old.lasts.items)) values
+      ∙ rows-grown old.values.items bytes (table_places old.keys) old.lasts.items table.texts
 
   row-is : (k : KeyPlace) → k.key ≡ key → row_in new.values.items (k, last) ≡ record { key = key; first = k.number; last = number; value = chars bytes }
   row-is k is =
@@ -115,7 +115,7 @@ module _ (old new : Table) (table : IsTable old) (number : ℕ) (key bytes : Lis
       the : List ℕ → ℕ → List ℕ → Row
       the name n v = record { key = name; first = k.number; last = n; value = chars v }
 
-  places-same : FindsKey key (place_keys (places_of old.keys)) (Some row) × (places_of new.keys ≡ places_of old.keys)
+  places-same : FindsKey key (place_keys (table_places old.keys)) (Some row) × (table_places new.keys ≡ table_places old.keys)
       → length new.keys.keys.rows.items ≡ length old.keys.keys.rows.items
   places-same h = sym (length-places new.keys) ∙ ap length h.1 ∙ length-places old.keys
 
@@ -128,12 +128,12 @@ module _ (old new : Table) (table : IsTable old) (number : ℕ) (key bytes : Lis
         subst (λ v. FindsKey key v (Some row)) (sym (keys-rows old table)) h.0,
         λ d.
             ap (λ v. map (row_in new.values.items) (zip v new.lasts.items)) h.1
-            ∙ ap (λ v. map (row_in new.values.items) (zip (places_of old.keys) v)) lasts
-            ∙ ap (map (row_in new.values.items)) (zip-set (places_of old.keys) old.lasts.items row last none within)
-            ∙ map-set (row_in new.values.items) (zip (places_of old.keys) old.lasts.items) row (get_or (places_of old.keys) row none, last)
+            ∙ ap (λ v. map (row_in new.values.items) (zip (table_places old.keys) v)) lasts
+            ∙ ap (map (row_in new.values.items)) (zip-set (table_places old.keys) old.lasts.items row last none within)
+            ∙ map-set (row_in new.values.items) (zip (table_places old.keys) old.lasts.items) row (get_or (table_places old.keys) row none, last)
             ∙ ap₂ (λ rows r. set rows row r) same-rows (
-            row-is (get_or (places_of old.keys) row none)
-            (sym (get_or-map (λ (p : KeyPlace). p.key) (places_of old.keys) row none key within) ∙ h.0.1 key)
+            row-is (get_or (table_places old.keys) row none)
+            (sym (get_or-map (λ (p : KeyPlace). p.key) (table_places old.keys) row none key within) ∙ h.0.1 key)
             ∙ ap (λ n. record { key = key; first = n; last = number; value = chars bytes })
             (sym (ap (λ (r : Row). r.first) (row-at old table row d no_last (let r = length-rows old table in omega arith))))),
       ),
@@ -149,7 +149,7 @@ module _ (old new : Table) (table : IsTable old) (number : ℕ) (key bytes : Lis
     | inr (absent, is, more) ↦ absurd (let p = length-places old.keys in let l = table.lasts in omega arith)
   ]
     where
-      within : row < length (places_of old.keys)
+      within : row < length (table_places old.keys)
       within = let p = length-places old.keys in let l = table.lasts in omega arith
 
   -- or gets one.
@@ -162,16 +162,16 @@ module _ (old new : Table) (table : IsTable old) (number : ℕ) (key bytes : Lis
         subst (λ v. FindsKey key v None) (sym (keys-rows old table)) absent,
         (let p = length-places old.keys in let r = length-rows old table in let l = table.lasts in omega arith),
         ap (λ v. map (row_in new.values.items) (zip v new.lasts.items)) more
-            ∙ ap (λ v. map (row_in new.values.items) (zip (places_of old.keys ++ record { number = number; key = key } ∷ []) v)) lasts
+            ∙ ap (λ v. map (row_in new.values.items) (zip (table_places old.keys ++ record { number = number; key = key } ∷ []) v)) lasts
             ∙ ap (map (row_in new.values.items))
-            (zip-more (places_of old.keys) old.lasts.items (record { number = number; key = key }) last (lasts-places old table))
-            ∙ map-append (row_in new.values.items) (zip (places_of old.keys) old.lasts.items) ((record { number = number; key = key }, last) ∷ [])
+            (zip-more (table_places old.keys) old.lasts.items (record { number = number; key = key }) last (lasts-places old table))
+            ∙ map-append (row_in new.values.items) (zip (table_places old.keys) old.lasts.items) ((record { number = number; key = key }, last) ∷ [])
             ∙ ap₂ (λ rows r. rows ++ r ∷ []) same-rows (row-is (record { number = number; key = key }) refl),
       ),
       record {
         keys = keys;
         lasts = (
-            let n = sym (length-places new.keys) ∙ ap length more ∙ length-append (places_of old.keys) (record { number = number; key = key } ∷ []) in
+            let n = sym (length-places new.keys) ∙ ap length more ∙ length-append (table_places old.keys) (record { number = number; key = key } ∷ []) in
             let m = ap length lasts ∙ length-append old.lasts.items (last ∷ []) in
             let p = lasts-places old table in
             omega arith);
@@ -196,14 +196,14 @@ pub took-pair : (old new : Table) (number : ℕ) (key value : List ℕ) (row : �
 took-pair old new number key value row puts table = λ first findings took. record {
   table = table;
   hold = subst (λ v. HoldRows v (rows_of new)) (sym (pairs-append findings (found_pair number key value ∷ [])))
-      (rows-put (pairs_among findings) number key value (rows_of old) (rows_of new) row took.hold puts);
+      (rows-put (found_pairs findings) number key value (rows_of old) (rows_of new) row took.hold puts);
 }
 
 -- a malformed escape
 pub took-escape : (t : Table) (escape : MalformedEscape) → Takes TookRows t (found_escape escape) t
 took-escape t escape = λ first findings took. record {
   table = took.table;
-  hold = subst (λ v. HoldRows v (rows_of t)) (sym (pairs-append findings (found_escape escape ∷ []) ∙ append-nil (pairs_among findings))) took.hold;
+  hold = subst (λ v. HoldRows v (rows_of t)) (sym (pairs-append findings (found_escape escape ∷ []) ∙ append-nil (found_pairs findings))) took.hold;
 }
 
 -- the rows of a source

@@ -24,7 +24,7 @@ abbrev pub memory_words : List ℕ
 memory_words = codes "propedit: Out of memory."
 
 -- memory ran out
-pub record LacksMemory (failure : Failure) : Type 0 where
+pub record IsMemoryFailure (failure : Failure) : Type 0 where
   pub error : PropertiesError
   pub is : failure ≡ Input error
   pub memory : IsBareError kind.Memory error
@@ -32,7 +32,7 @@ pub record LacksMemory (failure : Failure) : Type 0 where
 -- A file can't be opened or read for this reason: memory ran out, or the system says why.
 abbrev pub IsIoFailure : Error → Failure → Type 0
 IsIoFailure source failure =
-    ((error_kind source ≡ OutOfMemory) × LacksMemory failure)
+    ((error_kind source ≡ OutOfMemory) × IsMemoryFailure failure)
     ⊎ ((error_kind source ≢ OutOfMemory) × ((error : PropertiesError) × (failure ≡ Input error) × IsStreamError None source error))
 
 -- ---- its status
@@ -118,25 +118,25 @@ IsReasonOf (Output error) words = IsInputReason error words
 -- ---- its place
 
 -- the number of its line, where it is of one
-abbrev pub number_of : Failure → Option ℕ
-number_of (HoldsZero number) = Some number
-number_of (NotUtf8 number) = Some number
-number_of (NotUtf8ByMark number) = Some number
-number_of (NotUtf16 number) = Some number
-number_of (Malformed escape) = Some escape.line_number
-number_of (Absent key) = None
-number_of (KeyTaken number key) = Some number
-number_of (Texts flaw) = None
-number_of (Input error) = message_line error
-number_of (Output error) = message_line error
+abbrev pub failure_line : Failure → Option ℕ
+failure_line (HoldsZero number) = Some number
+failure_line (NotUtf8 number) = Some number
+failure_line (NotUtf8ByMark number) = Some number
+failure_line (NotUtf16 number) = Some number
+failure_line (Malformed escape) = Some escape.line_number
+failure_line (Absent key) = None
+failure_line (KeyTaken number key) = Some number
+failure_line (Texts flaw) = None
+failure_line (Input error) = message_line error
+failure_line (Output error) = message_line error
 
 abbrev pub standard_output : List ℕ
 standard_output = codes "standard output"
 
 -- what it is a failure of: the source of this name, or the output
-abbrev pub place_of : List ℕ → Failure → List ℕ
-place_of name (Output error) = standard_output
-place_of name other = name
+abbrev pub failure_place : List ℕ → Failure → List ℕ
+failure_place name (Output error) = standard_output
+failure_place name other = name
 
 -- ---- what is printed
 
@@ -153,7 +153,7 @@ message place number reason = codes "propedit: " ++ (numbered_place place number
 pub record IsMessage (name : List ℕ) (failure : Failure) (text : List ℕ) : Type 0 where
   pub reason : List ℕ
   pub is_reason : IsReasonOf failure reason
-  pub is : text ≡ message (place_of name failure) (number_of failure) reason
+  pub is : text ≡ message (failure_place name failure) (failure_line failure) reason
 
 -- the line of such a text
 abbrev pub IsMessageLine : List ℕ → Failure → List ℕ → Type 0

@@ -74,12 +74,12 @@ abbrev pub TellsNonAscii : Encoding → List ℕ → Bool → Type 0
 TellsNonAscii e bytes has = (text : List ℕ) × IsDecodedLine e bytes text × (holds_non_ascii text ≡ has)
 
 -- The bytes have this flaw in this encoding. Those that are ill-formed don't count as non-ASCII.
-abbrev pub HasFlaw : Flaw → Encoding → List ℕ → Type 0
-HasFlaw IllFormed e bytes = ¬ IsWellFormedIn e bytes
-HasFlaw Zero e bytes = holds_zero bytes ≡ true
-HasFlaw (Byte byte) e bytes = holds_byte byte bytes ≡ true
-HasFlaw MarkInside e bytes = holds_mark_in e bytes ≡ true
-HasFlaw NonAscii e bytes = IsWellFormedIn e bytes × TellsNonAscii e bytes true
+abbrev pub HasLineFlaw : Flaw → Encoding → List ℕ → Type 0
+HasLineFlaw IllFormed e bytes = ¬ IsWellFormedIn e bytes
+HasLineFlaw Zero e bytes = holds_zero bytes ≡ true
+HasLineFlaw (Byte byte) e bytes = holds_byte byte bytes ≡ true
+HasLineFlaw MarkInside e bytes = holds_mark_in e bytes ≡ true
+HasLineFlaw NonAscii e bytes = IsWellFormedIn e bytes × TellsNonAscii e bytes true
 
 -- The bytes don't have it.
 abbrev pub LacksFlaw : Flaw → Encoding → List ℕ → Type 0
@@ -96,7 +96,7 @@ abbrev pub AreFlawed : Flaw → Encoding → List Line → List ℕ → Type 0
 AreFlawed flaw e [] numbers = numbers ≡ []
 AreFlawed flaw e (l ∷ ls) numbers =
     (LacksFlaw flaw e l.text × AreFlawed flaw e ls numbers)
-    ⊎ (HasFlaw flaw e l.text × ((rest : List ℕ) × (numbers ≡ l.number ∷ rest) × AreFlawed flaw e ls rest))
+    ⊎ (HasLineFlaw flaw e l.text × ((rest : List ℕ) × (numbers ≡ l.number ∷ rest) × AreFlawed flaw e ls rest))
 
 -- The bytes of a body are divided into natural lines before they are decoded, and these are the numbers of the lines with
 -- this flaw.

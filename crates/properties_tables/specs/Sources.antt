@@ -55,7 +55,7 @@ pub record IsSound (e : Encoding) (source : List ℕ) : Type 0 where
   pub in_comments : EscapesAre e source AreInComments
 
 -- This is the first malformed escape of a pair, and the bytes are sound.
-pub record IsFirstMalformed (e : Encoding) (source : List ℕ) (found : MalformedEscape) : Type 0 where
+pub record IsFirstMalformedEscape (e : Encoding) (source : List ℕ) (found : MalformedEscape) : Type 0 where
   pub bytes : HasSoundBytes e source
   pub before : List format.MalformedEscape
   pub escape : format.MalformedEscape
@@ -68,7 +68,7 @@ pub record IsFirstMalformed (e : Encoding) (source : List ℕ) (found : Malforme
 -- Why a source is refused, or not even looked through: its bytes; where these are sound, the first malformed escape of a
 -- pair; or memory ran out.
 abbrev pub IsUnsound : Encoding → List ℕ → Failure → Type 0
-IsUnsound e source (Malformed escape) = IsFirstMalformed e source escape
+IsUnsound e source (Malformed escape) = IsFirstMalformedEscape e source escape
 IsUnsound e source (Input error) = IsBareError kind.Memory error
 IsUnsound e source other = HasUnsoundBytes e source other
 

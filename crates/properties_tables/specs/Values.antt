@@ -4,11 +4,11 @@ use Rattle.properties_format.specs.Edits.{HasPairValue, AreInComments, EscapesAr
 use Rattle.properties_format.specs.Encoding.{Encoding}
 use Rattle.std.specs.Global.{Vec}
 use Rattle.properties_items.specs.declared.findings.MalformedEscape.{MalformedEscape}
-use Rattle.properties_tables.specs.Sources.{HasSoundBytes, IsFirstMalformed}
+use Rattle.properties_tables.specs.Sources.{HasSoundBytes, IsFirstMalformedEscape}
 use Rattle.std.specs.Option.{option_map}
 use Rattle.std.specs.declared.string.String.{String}
 use Rattle.java_properties.specs.Maps.{characters}
-use Rattle.properties_tables.specs.Failures.{LacksMemory}
+use Rattle.properties_tables.specs.Failures.{IsMemoryFailure}
 use Rattle.properties_tables.specs.declared.error.Failure.{Failure}
 use Rattle.properties_tables.specs.declared.error.Failure.TheVariants.{Malformed}
 
@@ -24,10 +24,10 @@ value_texts values = map (option_map characters) values
 -- The failure says that this escape is malformed, the first one of a pair.
 pub record SaysMalformed (e : Encoding) (source : List ℕ) (failure : Failure) : Type 0 where
   pub escape : MalformedEscape
-  pub first : HasSoundBytes e source → IsFirstMalformed e source escape
+  pub first : HasSoundBytes e source → IsFirstMalformedEscape e source escape
   pub is : failure ≡ Malformed escape
 
 -- What looking keys up returns. A source is refused for a malformed escape of a pair; otherwise memory ran out.
 abbrev pub FindsValues : {Y Z : Type 0} → Encoding → List ℕ → List (String Y) → Result (Vec (Option (String Z))) Failure → Type 0
 FindsValues e source keys (Ok found) = EscapesAre e source AreInComments × HaveValues e source (map characters keys) (value_texts found.items)
-FindsValues e source keys (Err failure) = SaysMalformed e source failure ⊎ LacksMemory failure
+FindsValues e source keys (Err failure) = SaysMalformed e source failure ⊎ IsMemoryFailure failure

@@ -3,7 +3,7 @@
 ghost use Rattle.std.specs.Prelude.{◌≡◌, IfOk, string_bytes};
 ghost use Rattle.counted_io.specs.Streams.{IsSameSink};
 ghost use Rattle.java_properties.specs.DisplayTexts.{description};
-ghost use Rattle.properties_tables.specs.Failures.{absent_words, failure_status, flaw_words, is_broken, is_closed_pipe, number_of, place_of, taken_words, IsInputReason, IsIoFailure, IsMessageLine, IsReasonOf, LacksMemory, PrintsFailure};
+ghost use Rattle.properties_tables.specs.Failures.{absent_words, failure_status, flaw_words, is_broken, is_closed_pipe, failure_line, failure_place, taken_words, IsInputReason, IsIoFailure, IsMessageLine, IsReasonOf, IsMemoryFailure, PrintsFailure};
 
 use crate::messages::{Escaped, print_line};
 use counted_io::CountedWrite;
@@ -110,7 +110,7 @@ impl From<io::Error> for Failure {
 }
 
 impl From<AllocError> for Failure {
-    ghost from_gives = { λ _ failure. LacksMemory failure };
+    ghost from_gives = { λ _ failure. IsMemoryFailure failure };
 
     fn from(error: AllocError) -> Failure {
         Failure::Input(PropertiesError::from(error))
@@ -120,7 +120,7 @@ impl From<AllocError> for Failure {
 impl Failure {
     // Returns what a message names: the source of this name, or standard output.
     fn place<'a>(&self, name: &'a str) -> &'a str
-        ensures { result.now ≡ place_of name.now self.now }
+        ensures { result.now ≡ failure_place name.now self.now }
     {
         match self {
             Failure::Output(_) => STANDARD_OUTPUT,
@@ -130,7 +130,7 @@ impl Failure {
 
     // Returns the number of its line, if it has one.
     fn line_number(&self) -> Option<usize>
-        ensures { result ≡ number_of self.now }
+        ensures { result ≡ failure_line self.now }
     {
         match self {
             Failure::HoldsZero(number)

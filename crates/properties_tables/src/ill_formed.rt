@@ -3,10 +3,10 @@
 ghost use Rattle.std.specs.Prelude.{◌≡◌, false};
 ghost use Rattle.properties_format.specs.Utf16.{is_high, is_low};
 ghost use Rattle.properties_text.specs.Encoding.{encoding_of};
-ghost use Rattle.properties_lines.specs.Scanner.{bytes_of};
+ghost use Rattle.properties_lines.specs.Scanner.{raw_line_bytes};
 ghost use Rattle.properties_tables.specs.Lines as spec;
 ghost use Rattle.properties_tables.specs.Lines.{FindsFlawed, IsFirstFlawed, IsFirstUtf8, starts_with_bom};
-ghost use Rattle.properties_tables.specs.Private.Flawed.{are_ascii, are_paired, holds_mark_unit, is_ascii, is_flawed, is_well_formed, unit_in, FindsNext, HasLinesOf, IsFound, IsScanning};
+ghost use Rattle.properties_tables.specs.Private.Flawed.{are_ascii, are_paired, holds_mark_unit, is_ascii, is_flawed, is_well_formed, unit_at, FindsFlawedLine, HasLinesOf, IsFoundLine, IsScanning};
 ghost use Rattle.properties_tables.specs.declared.ill_formed.Flaw.TheVariants.{Byte, IllFormed, MarkInside, NonAscii, Zero};
 
 use java_properties::{Encoding, PropertiesError};
@@ -173,7 +173,7 @@ fn whole_body(source: &[u8], encoding: Encoding) -> (Encoding, &[u8])
 // Returns the number of the next line with this flaw, if there is one.
 fn next_flawed(scanner: &mut Scanner, body: &[u8], flaw: Flaw) -> Option<usize>
     requires { IsScanning body.now scanner.old }
-    ensures { FindsNext flaw body.now scanner.old result scanner.new }
+    ensures { FindsFlawedLine flaw body.now scanner.old result scanner.new }
 {
     loop {
         match scanner.next(body, true) {
@@ -191,8 +191,8 @@ fn next_flawed(scanner: &mut Scanner, body: &[u8], flaw: Flaw) -> Option<usize>
 }
 
 fn has_flaw(encoding: Encoding, body: &[u8], line: &RawLine, flaw: Flaw) -> bool
-    requires { IsFound (encoding_of encoding) body.now line.now }
-    ensures { result ≡ is_flawed flaw (encoding_of encoding) (bytes_of body.now line.now) }
+    requires { IsFoundLine (encoding_of encoding) body.now line.now }
+    ensures { result ≡ is_flawed flaw (encoding_of encoding) (raw_line_bytes body.now line.now) }
 {
     match flaw {
         Flaw::IllFormed => !is_well_formed(encoding, body, line),
@@ -207,8 +207,8 @@ fn has_flaw(encoding: Encoding, body: &[u8], line: &RawLine, flaw: Flaw) -> bool
 
 #[tactic(auto, using(crate::proofs::FlawedLines::flawed))]
 fn is_well_formed(encoding: Encoding, body: &[u8], line: &RawLine) -> bool
-    requires { IsFound (encoding_of encoding) body.now line.now }
-    ensures { result ≡ is_well_formed (encoding_of encoding) (bytes_of body.now line.now) }
+    requires { IsFoundLine (encoding_of encoding) body.now line.now }
+    ensures { result ≡ is_well_formed (encoding_of encoding) (raw_line_bytes body.now line.now) }
 {
     let bytes = &body[line.start..line.end];
     match encoding {
@@ -220,8 +220,8 @@ fn is_well_formed(encoding: Encoding, body: &[u8], line: &RawLine) -> bool
 
 // Returns whether a line has ASCII characters alone.
 fn is_ascii(encoding: Encoding, body: &[u8], line: &RawLine) -> bool
-    requires { IsFound (encoding_of encoding) body.now line.now }
-    ensures { result ≡ is_ascii (encoding_of encoding) (bytes_of body.now line.now) }
+    requires { IsFoundLine (encoding_of encoding) body.now line.now }
+    ensures { result ≡ is_ascii (encoding_of encoding) (raw_line_bytes body.now line.now) }
 {
     match encoding {
         Encoding::WINDOWS_1252 | Encoding::UTF_8 => line.is_ascii,
@@ -256,7 +256,7 @@ fn holds_mark_in(encoding: Encoding, bytes: &[u8]) -> bool
 
 // Returns whether one of the units is U+FEFF.
 fn holds_mark_unit(encoding: Encoding, bytes: &[u8]) -> bool
-    ensures { result ≡ holds_mark_unit (unit_in (encoding_of encoding)) bytes.now }
+    ensures { result ≡ holds_mark_unit (unit_at (encoding_of encoding)) bytes.now }
 {
     let mut rest = bytes;
     while let [first, second, others @ ..] = rest {
@@ -285,7 +285,7 @@ fn holds_mark(bytes: &[u8]) -> bool
 
 // Returns whether each surrogate is one of a pair, and no byte is left over.
 fn is_utf_16(encoding: Encoding, bytes: &[u8]) -> bool
-    ensures { result ≡ are_paired (unit_in (encoding_of encoding)) false bytes.now }
+    ensures { result ≡ are_paired (unit_at (encoding_of encoding)) false bytes.now }
 {
     let mut rest = bytes;
     let mut after_high = false;
@@ -302,7 +302,7 @@ fn is_utf_16(encoding: Encoding, bytes: &[u8]) -> bool
 
 // Returns whether each unit is an ASCII character, and no byte is left over.
 fn is_ascii_in_utf_16(encoding: Encoding, bytes: &[u8]) -> bool
-    ensures { result ≡ are_ascii (unit_in (encoding_of encoding)) bytes.now }
+    ensures { result ≡ are_ascii (unit_at (encoding_of encoding)) bytes.now }
 {
     let mut rest = bytes;
     while let [first, second, others @ ..] = rest {
@@ -316,7 +316,7 @@ fn is_ascii_in_utf_16(encoding: Encoding, bytes: &[u8]) -> bool
 
 // Returns the unit that two bytes make.
 fn unit(encoding: Encoding, first: u8, second: u8) -> u16
-    ensures { result ≡ unit_in (encoding_of encoding) first second }
+    ensures { result ≡ unit_at (encoding_of encoding) first second }
 {
     let (low, high) = match encoding {
         Encoding::UTF_16BE => (second, first),

@@ -6,7 +6,7 @@ ghost use Rattle.std.specs.Str.{chars};
 ghost use Rattle.std.specs.String.{string_cmp};
 ghost use Rattle.java_properties.specs.Findings.{KeyPlace};
 ghost use Rattle.properties_text.specs.Encoding.{encoding_of};
-ghost use Rattle.properties_tables.specs.Private.Table.{hash_after, place_keys, places_in, places_of, slot_for, FindsKey, HoldKeys, IsKeyTable, KeepsRow, PutsKey, ReadsKeys, TookKeys};
+ghost use Rattle.properties_tables.specs.Private.Table.{hash_after, place_keys, places_in, table_places, slot_for, FindsKey, HoldKeys, IsKeyTable, KeepsRow, PutsKey, ReadsKeys, TookKeys};
 
 use crate::error::Failure;
 use crate::fold::Taker;
@@ -90,7 +90,7 @@ impl KeyTable {
     /// Has no keys. There are slots for as many keys as a source of this length often has.
     pub fn for_source(alloc: Global, length: usize) -> Result<KeyTable, AllocError>
         ensures table { IfOk result IsKeyTable }
-        ensures empty { IfOk result (λ table. places_of table ≡ []) }
+        ensures empty { IfOk result (λ table. table_places table ≡ []) }
     {
         let slots = length / 8 + 1;
         let keys = Keys {
@@ -106,7 +106,7 @@ impl KeyTable {
 
     /// Returns the number of keys.
     pub fn len(&self) -> usize
-        ensures { result ≡ length (places_of self.now) }
+        ensures { result ≡ length (table_places self.now) }
     {
         self.keys.len()
     }
@@ -115,8 +115,8 @@ impl KeyTable {
     #[inline(always)]
     pub fn key(&self, row: usize) -> &str
         requires table { IsKeyTable self.now }
-        requires within { row < length (places_of self.now) }
-        ensures { (d : KeyPlace) → chars result.now ≡ (get_or (places_of self.now) row d).key }
+        requires within { row < length (table_places self.now) }
+        ensures { (d : KeyPlace) → chars result.now ≡ (get_or (table_places self.now) row d).key }
     {
         self.keys.key(row)
     }
@@ -124,8 +124,8 @@ impl KeyTable {
     /// Returns the line in which the first pair with the key of a row begins.
     #[inline(always)]
     pub fn first_line(&self, row: usize) -> usize
-        requires { row < length (places_of self.now) }
-        ensures { (d : KeyPlace) → result ≡ (get_or (places_of self.now) row d).number }
+        requires { row < length (table_places self.now) }
+        ensures { (d : KeyPlace) → result ≡ (get_or (table_places self.now) row d).number }
     {
         self.keys.first_line(row)
     }
@@ -133,7 +133,7 @@ impl KeyTable {
     /// Returns the row of a key, if a pair has it.
     pub fn find(&self, key: &str) -> Option<usize>
         requires { IsKeyTable self.now }
-        ensures { FindsKey (chars key.now) (place_keys (places_of self.now)) result }
+        ensures { FindsKey (chars key.now) (place_keys (table_places self.now)) result }
     {
         self.row_in(slot_of(key, self.slots.len()), key)
     }
@@ -154,7 +154,7 @@ impl KeyTable {
     #[inline(always)]
     pub fn put(&mut self, alloc: Global, line_number: usize, key: &str) -> Result<usize, AllocError>
         requires { IsKeyTable self.old }
-        ensures puts { IfOk result (λ row. PutsKey line_number (chars key.now) (places_of self.old) row (places_of self.new)) }
+        ensures puts { IfOk result (λ row. PutsKey line_number (chars key.now) (table_places self.old) row (table_places self.new)) }
         ensures table { IfOk result (λ _. IsKeyTable self.new) }
     {
         let slot = slot_of(key, self.slots.len());
@@ -176,7 +176,7 @@ impl KeyTable {
     fn row_in(&self, slot: usize, key: &str) -> Option<usize>
         requires table { IsKeyTable self.now }
         requires slot { slot ≡ slot_for (length self.now.slots.items) key.now }
-        ensures { FindsKey (chars key.now) (place_keys (places_of self.now)) result }
+        ensures { FindsKey (chars key.now) (place_keys (table_places self.now)) result }
     {
         let held = self.slots[slot] as usize;
         if held == 0 {

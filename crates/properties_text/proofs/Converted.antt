@@ -10,7 +10,7 @@ use Rattle.std.proofs.lemmas.List.Elements.{All-head, All-tail, All-drop, All-fr
 use Rattle.std.proofs.lemmas.Str.{encodes-chars, chars-nil, chars-encodes}
 use Rattle.std.proofs.Math.Seq.{take-append_seam}
 use Rattle.std.specs.Str.{IsUtf8, chars}
-use Rattle.properties_format.specs.Text.{backslash, byte, scalar, characters}
+use Rattle.properties_format.specs.Text.{backslash, byte, scalar, piece_characters}
 use Rattle.properties_format.specs.Encoding.{Encoding, InForce, windows_1252, utf_8, begins_like_bom}
 use Rattle.properties_format.specs.Computed.Encoding.{pieces_of, decoded_of}
 use Rattle.properties_format.proofs.Encodings.Pieces.{decoded_of-meets}
@@ -33,7 +33,7 @@ use Rattle.properties_text.specs.Encoding.{encoding_of, IsBody, text_of}
 use Rattle.properties_text.specs.declared.encoding.Encoding as named
 use Rattle.properties_text.specs.Printing.{in_format}
 use Rattle.properties_text.specs.PrintedTexts.{is_copied}
-use Rattle.properties_text.specs.Converted.{converted_in, unit_in, is_stop, StaysUpTo, IsConvertedFront, IsUnitFront, line_in, body_bytes}
+use Rattle.properties_text.specs.Converted.{converted_in, unit_in, is_stop, StaysUpTo, IsConvertedFront, IsUnitFront, line_encoding_of, body_bytes}
 use Rattle.properties_text.specs.declared.encoding.line_encoding.LineEncoding.{LineEncoding}
 use Rattle.properties_text.specs.declared.encoding.line_encoding.LineEncoding.TheVariants.{Windows1252, Utf8}
 use Rattle.properties_text.specs.declared.encoding.line_encoding.ReadCharacter.{ReadCharacter}
@@ -435,8 +435,8 @@ utf_8-encoded [] = refl
 utf_8-encoded (c ∷ x) = ap (λ v. encode_utf8 c ++ v) (utf_8-encoded x)
 
 -- Those of the characters of bytes.
-same-bytes : (t : Repertoire) (bytes : List ℕ) → IsWell (line_in t) bytes → All byte bytes
-    → encoded_text (in_format t).encoding (text_in (line_in t) bytes) ≡ bytes
+same-bytes : (t : Repertoire) (bytes : List ℕ) → IsWell (line_encoding_of t) bytes → All byte bytes
+    → encoded_text (in_format t).encoding (text_in (line_encoding_of t) bytes) ≡ bytes
 same-bytes repertoire.Windows1252 bytes w b = windows-bytes bytes b
 same-bytes repertoire.Latin1 bytes w b = windows-bytes bytes b
 same-bytes repertoire.Utf8 bytes w b = utf_8-encoded (chars bytes) ∙ encodes-chars bytes w
@@ -451,7 +451,7 @@ utf_8-written x h = ((x, (all x h, sym (utf_8-encoded x))), ap chars (utf_8-enco
     all (c ∷ x) h = and_from (is_scalar c) (scalars x) (char-from_scalar c h.0) (all x h.1)
 
 written-text : (t : Repertoire) (x : List ℕ) → AreWritable (in_format t).encoding x
-    → IsWell (line_in t) (encoded_text (in_format t).encoding x) × (text_in (line_in t) (encoded_text (in_format t).encoding x) ≡ x)
+    → IsWell (line_encoding_of t) (encoded_text (in_format t).encoding x) × (text_in (line_encoding_of t) (encoded_text (in_format t).encoding x) ≡ x)
 written-text repertoire.Windows1252 x w = (tt, sym (decodes (encoded_text windows_1252 x)) ∙ text-decoded windows_1252 x w.scalars w.encodable)
 written-text repertoire.Latin1 x w = (tt, sym (decodes (encoded_text windows_1252 x)) ∙ text-decoded windows_1252 x w.scalars w.encodable)
 written-text repertoire.Utf8 x w = utf_8-written x w.scalars
@@ -473,16 +473,16 @@ copied-stays repertoire.Ascii Windows1252 text h w b = absurd (cc)
 copied-stays repertoire.Ascii Utf8 text h w b = absurd (cc)
 
 -- The bytes with the first character escaped.
-pub front_bytes : (t : Repertoire) (bytes : List ℕ) (it : ReadCharacter) (e : LineEncoding) → ((i : ℕ) → Fits w8 (get_or bytes i 0)) → e ≡ line_in t
+pub front_bytes : (t : Repertoire) (bytes : List ℕ) (it : ReadCharacter) (e : LineEncoding) → ((i : ℕ) → Fits w8 (get_or bytes i 0)) → e ≡ line_encoding_of t
     → IsFirst e bytes it → ([] ++ unicode_escape it.character) ++ take (length bytes - it.length) (drop it.length bytes) ≡ encoded_text (in_format t).encoding
-    (first_escaped (text_in (line_in t) bytes))
+    (first_escaped (text_in (line_encoding_of t) bytes))
 front_bytes t bytes it e b s f =
-    let h : IsFirst (line_in t) bytes it = subst (λ e. IsFirst e bytes it) s f in
+    let h : IsFirst (line_encoding_of t) bytes it = subst (λ e. IsFirst e bytes it) s f in
     let rest = drop it.length bytes in
     let all = All-drop byte it.length bytes (All-from_get_or byte bytes 0 (λ i inside. omega (arith, b i))) in
     ap₂ (λ x y. x ++ y) (sym (encoded_text-ascii (in_format t).encoding (unicode_escape it.character) (unicode_escape-ascii it.character)))
     (take_rest bytes it.length ∙ sym (same-bytes t rest h.well all))
-    ∙ sym (encoded_text-append (in_format t).encoding (unicode_escape it.character) (text_in (line_in t) rest))
+    ∙ sym (encoded_text-append (in_format t).encoding (unicode_escape it.character) (text_in (line_encoding_of t) rest))
     ∙ ap (λ v. encoded_text (in_format t).encoding (first_escaped v)) (sym h.is)
 
 -- ---- a source
@@ -506,7 +506,7 @@ converted-source t readable e source bytes k h =
 -- the bytes and the text that a source comes to
 pub source-written : (t : Repertoire) (readable : Bool) (e : Encoding) (source bytes : List ℕ) → All byte source
     → bytes ≡ encoded_text (in_format t).encoding (converted_of (in_format t) readable (decoded_of e source))
-    → IsWell (line_in t) bytes × (text_in (line_in t) bytes ≡ converted_of (in_format t) readable (decoded_of e source))
+    → IsWell (line_encoding_of t) bytes × (text_in (line_encoding_of t) bytes ≡ converted_of (in_format t) readable (decoded_of e source))
 source-written t readable e source bytes k h =
     let x = decoded_of e source in
     let u = units_of-meets x in
@@ -514,7 +514,7 @@ source-written t readable e source bytes k h =
     let w = subst (AreWritable (in_format t).encoding) (sym (converted_of-is (in_format t) readable x))
     (units-writable (in_format t) readable (units_of x) u.1 (subst (AllByRecursion scalar) u.0 s)) in
     let r = written-text t (converted_of (in_format t) readable x) w in
-    (subst (IsWell (line_in t)) (sym h) r.0, ap (text_in (line_in t)) h ∙ r.1)
+    (subst (IsWell (line_encoding_of t)) (sym h) r.0, ap (text_in (line_encoding_of t)) h ∙ r.1)
 
 -- Bytes that don't begin like a byte order mark, and those that do.
 pub plain-source : (t : Repertoire) (readable : Bool) (e : Encoding) (source bytes : List ℕ) → All byte source
@@ -529,7 +529,7 @@ plain-source t readable e source bytes k h f =
 
 pub marked-source : (t : Repertoire) (readable : Bool) (e : Encoding) (source bytes result : List ℕ) → All byte source
     → bytes ≡ encoded_text (in_format t).encoding (converted_of (in_format t) readable (decoded_of e source)) → begins_like_bom bytes ≡ true
-    → result ≡ encoded_text (in_format t).encoding (first_escaped (text_in (line_in t) bytes)) → IsConverted e (in_format t) readable source result
+    → result ≡ encoded_text (in_format t).encoding (first_escaped (text_in (line_encoding_of t) bytes)) → IsConverted e (in_format t) readable source result
 marked-source t readable e source bytes result k h f g =
     let x = converted_of (in_format t) readable (decoded_of e source) in
     converted-source t readable e source result k
@@ -558,4 +558,4 @@ pub source-bytes : (t : Repertoire) (readable : Bool) (requested in_force : name
     → bytes ≡ encoded_text (in_format t).encoding (converted_of (in_format t) readable (decoded_of (encoding_of requested) source))
 source-bytes t readable requested in_force source body bytes start b s h =
     h ∙ ap (λ v. encoded_text (in_format t).encoding (converted_of (in_format t) readable v))
-    (ap (text_of in_force) s ∙ ap (λ v. let w : InForce = v in characters (pieces_of w.encoding w.body)) (sym b.in_force))
+    (ap (text_of in_force) s ∙ ap (λ v. let w : InForce = v in piece_characters (pieces_of w.encoding w.body)) (sym b.in_force))

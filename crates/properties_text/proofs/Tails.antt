@@ -4,12 +4,12 @@ use Rattle.std.specs.Simd.Lanes.{mask_l}
 use Rattle.std.proofs.lemmas.Bool.{cases_Bool, or_cases, and_parts, leb-true, leb-false, le-leb, lt-leb}
 use Rattle.byte_blocks.specs.Classes.{is_non_ascii}
 use Rattle.properties_format.specs.Utf8.{IsWellFormed, IsWellFormedText}
-use Rattle.properties_text.specs.Private.Tails.{IsTail, BeginsBefore, GoesOn, ones}
+use Rattle.properties_text.specs.Private.Tails.{IsTail, BeginsBefore, OwesTails, ones}
 
 -- ---- sequences
 
-pub GoesOn-append : (n m k : ℕ) (xs ys : List ℕ) → GoesOn n xs m → GoesOn m ys k → GoesOn n (xs ++ ys) k
-GoesOn-append n m k [] ys g h = subst (λ i. GoesOn i ys k) (sym g) h
+pub GoesOn-append : (n m k : ℕ) (xs ys : List ℕ) → OwesTails n xs m → OwesTails m ys k → OwesTails n (xs ++ ys) k
+GoesOn-append n m k [] ys g h = subst (λ i. OwesTails i ys k) (sym g) h
 GoesOn-append zero m k (b ∷ xs) ys (i, s, g) h = (i, s, GoesOn-append i m k xs ys g h)
 GoesOn-append (suc n) m k (b ∷ xs) ys (t, g) h = (t, GoesOn-append n m k xs ys g h)
 
@@ -44,14 +44,14 @@ Completed n bs = (ts : List ℕ) × (rest : List ℕ) × (bs ≡ ts ++ rest) × 
 longer : (n b : ℕ) (bs : List ℕ) → BeginsBefore n b → Completed n bs → IsWellFormedText (b ∷ bs)
 longer n b bs s (ts, rest, e, h, w) = ((b ∷ ts) ∷ w.0, (rest, ap (λ v. b ∷ v) e, sequence n b ts s h, w.1))
 
-completed : (n : ℕ) (bs : List ℕ) → GoesOn n bs 0 → Completed n bs
+completed : (n : ℕ) (bs : List ℕ) → OwesTails n bs 0 → Completed n bs
 completed zero [] g = ([], [], refl, tt, ([], refl))
 completed (suc n) [] g = absurd (omega (arith, g))
 completed zero (b ∷ bs) (n, s, g) = ([], b ∷ bs, refl, tt, longer n b bs s (completed n bs g))
 completed (suc n) (b ∷ bs) (t, g) = let (ts, rest, e, h, w) = completed n bs g in (b ∷ ts, rest, ap (λ v. b ∷ v) e, (t, h), w)
 
 -- Whole sequences are well-formed.
-pub whole-sequences : (bs : List ℕ) → GoesOn 0 bs 0 → IsWellFormedText bs
+pub whole-sequences : (bs : List ℕ) → OwesTails 0 bs 0 → IsWellFormedText bs
 whole-sequences [] g = ([], refl)
 whole-sequences (b ∷ bs) (n, s, g) = longer n b bs s (completed n bs g)
 
@@ -76,7 +76,7 @@ doubled zero q = q
 doubled (suc n) q = 2 * doubled n q
 
 abbrev Next : (b n P T A C D W : ℕ) → Type 0
-Next b n P T A C D W = (i : ℕ) × (P ≡ T + A + C + D) × (ones i + 2 * A + 6 * C + 14 * D ≡ T + W) × ((bs : List ℕ) (m : ℕ) → GoesOn i bs m → GoesOn n (b ∷ bs) m)
+Next b n P T A C D W = (i : ℕ) × (P ≡ T + A + C + D) × (ones i + 2 * A + 6 * C + 14 * D ≡ T + W) × ((bs : List ℕ) (m : ℕ) → OwesTails i bs m → OwesTails n (b ∷ bs) m)
 
 -- What the bits say of the first byte, and of the others.
 step : (b p t a c d n P T A C D W : ℕ) → Kind b p t a c d → p + 2 * P ≡ (t + 2 * T) + (a + 2 * A) + (c + 2 * C) + (d + 2 * D)
@@ -96,7 +96,7 @@ step b p t a c d n P T A C D W (other e f) one two = absurd (omega (arith, e, f,
 module _ (past tail two three four : ℕ → Bool) (kind : (b : ℕ) → Kind b (bit (past b)) (bit (tail b)) (bit (two b)) (bit (three b)) (bit (four b))) where
   sums-on : (bs : List ℕ) (n q : ℕ) → mask_l (map past bs) ≡ mask_l (map tail bs) + mask_l (map two bs) + mask_l (map three bs) + mask_l (map four bs)
       → ones n + 2 * mask_l (map two bs) + 6 * mask_l (map three bs) + 14 * mask_l (map four bs) ≡ mask_l (map tail bs) + doubled (length bs) q
-      → (m : ℕ) × (q ≡ ones m) × GoesOn n bs m
+      → (m : ℕ) × (q ≡ ones m) × OwesTails n bs m
   sums-on [] n q sum carry = (n, omega (arith, carry), refl)
   sums-on (b ∷ bs) n q sum carry =
       let s = step b (bit (past b)) (bit (tail b)) (bit (two b)) (bit (three b)) (bit (four b)) n (mask_l (map past bs)) (mask_l (map tail bs))
@@ -194,17 +194,17 @@ pub block-goes_on : (block : List ℕ) (n q : ℕ) → length block ≡ 16
     → mask_l (map is_non_ascii block) ≡ mask_l (map (within 0x80 0xbf) block) + mask_l (map (within 0xc2 0xdf) block) + mask_l (map begins_three block) +
     mask_l (map (within 0xf1 0xf3) block)
     → ones n + 2 * (mask_l (map (within 0xc2 0xdf) block) + 3 * mask_l (map begins_three block) + 7 * mask_l (map (within 0xf1 0xf3) block)) ≡ mask_l
-    (map (within 0x80 0xbf) block) + 0x1_0000 * q → (m : ℕ) × (q ≡ ones m) × GoesOn n block m
+    (map (within 0x80 0xbf) block) + 0x1_0000 * q → (m : ℕ) × (q ≡ ones m) × OwesTails n block m
 block-goes_on block n q long sum carry =
     let size : doubled (length block) q ≡ 0x1_0000 * q = ap (λ k. doubled k q) long ∙ sixteen-doubled q in
     sums-on is_non_ascii (within 0x80 0xbf) (within 0xc2 0xdf) begins_three (within 0xf1 0xf3) kind block n q sum (omega (arith, carry, size))
 
 -- ASCII goes on where nothing is missing.
-ascii-on : (bs : List ℕ) → mask_l (map is_non_ascii bs) ≡ 0 → GoesOn 0 bs 0
+ascii-on : (bs : List ℕ) → mask_l (map is_non_ascii bs) ≡ 0 → OwesTails 0 bs 0
 ascii-on [] h = refl
 ascii-on (b ∷ bs) h = by (is_non_ascii b) (mask_l (map is_non_ascii bs)) refl h (ascii-on bs)
   where
-    by : (is_past : Bool) (n : ℕ) → is_non_ascii b ≡ is_past → cond is_past 1 0 + 2 * n ≡ 0 → (n ≡ 0 → GoesOn 0 bs 0) → GoesOn 0 (b ∷ bs) 0
+    by : (is_past : Bool) (n : ℕ) → is_non_ascii b ≡ is_past → cond is_past 1 0 + 2 * n ≡ 0 → (n ≡ 0 → OwesTails 0 bs 0) → OwesTails 0 (b ∷ bs) 0
     by true n e h g = absurd (omega (arith, h))
     by false n e h g = let small = leb-false 0x80 b e in (0, omega (arith, small), g (omega (arith, h)))
 
@@ -213,11 +213,11 @@ none-missing zero h = refl
 none-missing (suc n) h = absurd (omega (arith, h))
 
 pub ascii-goes_on : (block : List ℕ) (wanted n : ℕ) → mask_l (map is_non_ascii block) + wanted ≡ 0 → wanted ≡ ones n
-    → (m : ℕ) × (0 ≡ ones m) × GoesOn n block m
+    → (m : ℕ) × (0 ≡ ones m) × OwesTails n block m
 ascii-goes_on block wanted n none is =
     let start : n ≡ 0 = none-missing n (omega (arith, none, is)) in
-    (0, refl, subst (λ k. GoesOn k block 0) (sym start) (ascii-on block (omega (arith, none))))
+    (0, refl, subst (λ k. OwesTails k block 0) (sym start) (ascii-on block (omega (arith, none))))
 
 -- Where nothing is missing, all before is well-formed.
-pub well_formed-here : (bs : List ℕ) (n : ℕ) → ones n ≡ 0 → GoesOn 0 bs n → IsWellFormedText bs
-well_formed-here bs n none g = whole-sequences bs (subst (GoesOn 0 bs) (none-missing n none) g)
+pub well_formed-here : (bs : List ℕ) (n : ℕ) → ones n ≡ 0 → OwesTails 0 bs n → IsWellFormedText bs
+well_formed-here bs n none g = whole-sequences bs (subst (OwesTails 0 bs) (none-missing n none) g)

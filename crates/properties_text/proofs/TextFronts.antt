@@ -7,7 +7,7 @@ use Rattle.std.specs.Char.{IsScalar, encode_utf8}
 use Rattle.std.proofs.lemmas.Bool.{and_from, cases_lt}
 use Rattle.std.proofs.lemmas.List.{nil_from_length, drop-take, length-drop, length-take-le}
 use Rattle.std.proofs.lemmas.Str.{IsUtf8-append, IsUtf8-drop, IsCharBoundary-from_take, chars-append, chars-encodes}
-use Rattle.properties_format.specs.Text.{characters}
+use Rattle.properties_format.specs.Text.{piece_characters}
 use Rattle.properties_format.specs.Encoding.{Encoding, windows_1252, utf_8, utf_16le, utf_16be}
 use Rattle.properties_format.specs.Computed.Encoding.{first_piece, pieces_of}
 use Rattle.properties_format.proofs.Encodings.Pieces.{pieces_of-nil}
@@ -50,11 +50,11 @@ module _ (bs : List ℕ) (at : ℕ) (within : at ≤ length bs) (front : IsUtf8 
     ];
   }
 
-whole-front : (e : Encoding) (d : List ℕ) → characters (pieces_of e (d ++ [])) ≡ chars d ++ characters (pieces_of e []) → chars d ≡ characters (pieces_of e d)
+whole-front : (e : Encoding) (d : List ℕ) → piece_characters (pieces_of e (d ++ [])) ≡ chars d ++ piece_characters (pieces_of e []) → chars d ≡ piece_characters (pieces_of e d)
 whole-front e d h = sym (rw (append-nil d, pieces_of-nil e, append-nil (chars d)) at h)
 
 -- Text is decoded to its characters.
-pub text-decoded : (e : Encoding) (d : List ℕ) → IsText e d → chars d ≡ characters (pieces_of e d)
+pub text-decoded : (e : Encoding) (d : List ℕ) → IsText e d → chars d ≡ piece_characters (pieces_of e d)
 text-decoded windows_1252 d h = whole-front windows_1252 d (characters-ascii d [] h)
 text-decoded utf_8 d h = whole-front utf_8 d (characters-text d [] (IsUtf8-from_well_formed d h))
 text-decoded utf_16le d h = absurd h
@@ -68,7 +68,7 @@ at-error (Err e) h = h
 -- ---- The steps of decoding: the decoded text and the characters of the rest make `all`.
 
 -- Nothing is left.
-pub decoded-all : (e : Encoding) (text rest all : List ℕ) → text ++ characters (pieces_of e rest) ≡ all → length rest ≡ 0 → text ≡ all
+pub decoded-all : (e : Encoding) (text rest all : List ℕ) → text ++ piece_characters (pieces_of e rest) ≡ all → length rest ≡ 0 → text ≡ all
 decoded-all e text rest all joins h = sym (append-nil text) ∙ rw (nil_from_length rest h, pieces_of-nil e) at joins
 
 -- Characters are appended.
@@ -87,8 +87,8 @@ chars-more old new c u h e =
 
 -- The first piece is decoded, and appended.
 pub decoded-one : (e : Encoding) (old new all : List ℕ) (b : ℕ) (d : List ℕ) (c n : ℕ) → IsUtf8 old → IsScalar c → new ≡ old ++ encode_utf8 c
-    → chars old ++ characters (pieces_of e (b ∷ d)) ≡ all → c ≡ (first_piece e b d).character → n ≡ length (first_piece e b d).bytes
-    → IsUtf8 new × (chars new ++ characters (pieces_of e (drop n (b ∷ d))) ≡ all)
+    → chars old ++ piece_characters (pieces_of e (b ∷ d)) ≡ all → c ≡ (first_piece e b d).character → n ≡ length (first_piece e b d).bytes
+    → IsUtf8 new × (chars new ++ piece_characters (pieces_of e (drop n (b ∷ d))) ≡ all)
 decoded-one e old new all b d c n u s h joins k l =
-    let step : characters (pieces_of e (b ∷ d)) ≡ c ∷ characters (pieces_of e (drop n (b ∷ d))) = rw (k, l) (characters-step e b d) in
+    let step : piece_characters (pieces_of e (b ∷ d)) ≡ c ∷ piece_characters (pieces_of e (drop n (b ∷ d))) = rw (k, l) (characters-step e b d) in
     decoded-more old new (c ∷ []) _ _ all u (and_from (is_scalar c) true s refl) (rw (append-nil (encode_utf8 c)) h) step joins

@@ -52,11 +52,11 @@ pub record IsUnitFront (t : Repertoire) (readable : Bool) (e : LineEncoding) (ol
   pub put : take end new ≡ take at old ++ unit_in t readable unit
 
 -- the encoding of a result
-abbrev pub line_in : Repertoire → LineEncoding
-line_in repertoire.Windows1252 = Windows1252
-line_in repertoire.Latin1 = Windows1252
-line_in repertoire.Utf8 = Utf8
-line_in repertoire.Ascii = Utf8
+abbrev pub line_encoding_of : Repertoire → LineEncoding
+line_encoding_of repertoire.Windows1252 = Windows1252
+line_encoding_of repertoire.Latin1 = Windows1252
+line_encoding_of repertoire.Utf8 = Utf8
+line_encoding_of repertoire.Ascii = Utf8
 
 -- The bytes that a body in this encoding comes to.
 abbrev pub body_bytes : Repertoire → Bool → Encoding → List ℕ → List ℕ

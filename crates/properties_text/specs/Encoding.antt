@@ -8,7 +8,7 @@ use Rattle.properties_text.specs.declared.encoding.line_encoding.LineEncoding.Th
 use Rattle.std.specs.Prelude.{◌≡◌, ℕ, ◌≤◌, ◌<◌, ◌++◌, Bool, true, false, List, [], ◌∷◌, length, take, drop}
 use Rattle.std.specs.Char.{IsScalar, encode_utf8}
 use Rattle.std.specs.Str.{IsAscii, IsUtf8, chars}
-use Rattle.properties_format.specs.Text.{Piece, characters}
+use Rattle.properties_format.specs.Text.{Piece, piece_characters}
 use Rattle.properties_format.specs.Utf8.{Range, from_to, IsWellFormedText}
 use Rattle.properties_format.specs.Utf16.{low_first, high_first}
 use Rattle.properties_format.specs.Windows1252.{windows_1252_character}
@@ -100,7 +100,7 @@ IsFirstPiece e b d shown = ShowsPiece (first_piece e b d) (awaits_more e b d) sh
 
 -- the characters of some bytes, decoded by themselves
 abbrev pub text_of : Encoding → List ℕ → List ℕ
-text_of encoding d = characters (pieces_of (encoding_of encoding) d)
+text_of encoding d = piece_characters (pieces_of (encoding_of encoding) d)
 
 -- So many bytes at the front are well-formed UTF-8, and no more.
 pub record IsLongestText (bytes : List ℕ) (n : ℕ) : Type 0 where

@@ -14,7 +14,7 @@ use Rattle.properties_text.specs.declared.escape.UnescapeError.TheVariants as er
 use Rattle.properties_text.specs.declared.escape.Escapes.{Escapes}
 use Rattle.std.specs.Char.{IsScalar}
 use Rattle.properties_format.specs.Escapes.{letter_u, Spelling, spelling_text, spelling_character, IsSpelling, NoSpelling, are_hexadecimal, code_unit, is_high, is_low, pair_character, means, breaks, Four}
-use Rattle.properties_format.specs.Computed.Cut.{characters_of}
+use Rattle.properties_format.specs.Computed.Cut.{windows_1252_characters}
 use Rattle.properties_text.specs.declared.encoding.line_encoding.LineEncoding.{LineEncoding}
 use Rattle.properties_text.specs.declared.encoding.line_encoding.LineEncoding.TheVariants.{Windows1252, Utf8}
 use Rattle.properties_text.specs.declared.encoding.line_encoding.ReadCharacter.{ReadCharacter}
@@ -74,7 +74,7 @@ ResolvesFront text new (Err malformed) = meaning_of (chars text) ≡ format.brea
 
 -- the characters of the bytes of a line
 abbrev pub text_in : LineEncoding → List ℕ → List ℕ
-text_in Windows1252 bytes = characters_of bytes
+text_in Windows1252 bytes = windows_1252_characters bytes
 text_in Utf8 bytes = chars bytes
 
 -- The bytes are well-formed. In windows-1252 any are.
@@ -111,9 +111,9 @@ abbrev pub IsRead : LineEncoding → List ℕ → ReadCharacter → Type 0
 IsRead e bytes spelt = IsReadBy true e bytes spelt
 
 -- The bytes begin with a spelling; or with none, and the error says how they are malformed.
-abbrev pub Reads : LineEncoding → List ℕ → Result ReadCharacter Malformed → Type 0
-Reads e bytes (Ok spelt) = IsRead e bytes spelt
-Reads e bytes (Err malformed) = NoSpelling (text_in e bytes) × (meaning_of (text_in e bytes) ≡ breaks (malformed_in malformed))
+abbrev pub ReadsSpelt : LineEncoding → List ℕ → Result ReadCharacter Malformed → Type 0
+ReadsSpelt e bytes (Ok spelt) = IsRead e bytes spelt
+ReadsSpelt e bytes (Err malformed) = NoSpelling (text_in e bytes) × (meaning_of (text_in e bytes) ≡ breaks (malformed_in malformed))
 
 -- the number of bytes of a character of UTF-8, by the first of them
 abbrev pub length_by_first : ℕ → ℕ

@@ -137,14 +137,14 @@ pub record IsRunPut (holds : ℕ → Bool) (old : List ℕ) (at : ℕ) (text : L
 abbrev pub bytes_of : Part → List ℕ
 bytes_of t = take t.size t.bytes.now
 
-abbrev pub key_of : Pair → Meaning
-key_of p = meaning_in p.encoding p.escaped (bytes_of p.key)
+abbrev pub key_meaning : Pair → Meaning
+key_meaning p = meaning_in p.encoding p.escaped (bytes_of p.key)
 
-abbrev pub value_of : Pair → Meaning
-value_of p = meaning_in p.encoding p.escaped (bytes_of p.value)
+abbrev pub value_meaning : Pair → Meaning
+value_meaning p = meaning_in p.encoding p.escaped (bytes_of p.value)
 
 -- The key and the value are well-formed.
-pub record IsPair (p : Pair) : Type 0 where
+pub record IsWellPair (p : Pair) : Type 0 where
   pub key : IsWell p.encoding (bytes_of p.key)
   pub value : IsWell p.encoding (bytes_of p.value)
 
@@ -152,13 +152,13 @@ pub record IsPair (p : Pair) : Type 0 where
 pub record IsPairPrinted (r : Repertoire) (first : Bool) (puts : List ℕ → List ℕ) (old : List ℕ) (p : Pair) (separator ending new : List ℕ) : Type 0 where
   pub key : List ℕ
   pub value : List ℕ
-  pub key_means : key_of p ≡ means key
-  pub value_means : value_of p ≡ means value
+  pub key_means : key_meaning p ≡ means key
+  pub value_means : value_meaning p ≡ means value
   pub printed : new ≡ old ++ (key_bytes r first key ++ (separator ++ (puts value ++ ending)))
 
 -- The key is malformed; or the value is, and the key isn't.
 abbrev pub BreaksPair : Pair → format_escapes.Malformed → Type 0
-BreaksPair p kind = (key_of p ≡ breaks kind) ⊎ ((key : List ℕ) × (key_of p ≡ means key) × (value_of p ≡ breaks kind))
+BreaksPair p kind = (key_meaning p ≡ breaks kind) ⊎ ((key : List ℕ) × (key_meaning p ≡ means key) × (value_meaning p ≡ breaks kind))
 
 -- The result of printing a pair, and the line after it.
 abbrev pub PrintsPair : Repertoire → Bool → (List ℕ → List ℕ) → List ℕ → Pair → List ℕ → List ℕ → Result Unit UnescapeError → List ℕ → Type 0

@@ -6,7 +6,7 @@ ghost use Rattle.properties_format.specs.Printing.{encoded_text};
 ghost use Rattle.properties_text.specs.Encoding.{encoding_of};
 ghost use Rattle.properties_text.specs.Escaping.{IsWell, text_in};
 ghost use Rattle.properties_text.specs.Printing.{in_format};
-ghost use Rattle.properties_text.specs.Converted.{is_readable, body_bytes, line_in};
+ghost use Rattle.properties_text.specs.Converted.{is_readable, body_bytes, line_encoding_of};
 
 use crate::encoding::byte_order_mark::{begins_like_byte_order_mark, encoding_in_force};
 use crate::encoding::{Encoding, LineEncoding, TextBuffer, as_text};
@@ -99,8 +99,8 @@ fn convert_body(
 #[tactic(auto, using(crate::proofs::Converted::front_bytes))]
 fn escape_first(alloc: Global, repertoire: Repertoire, bytes: &[u8]) -> Result<Vec<u8>, AllocError>
     requires some { 0 < length bytes.now }
-    requires well { IsWell (line_in repertoire) bytes.now }
-    ensures { IfOk result (λ escaped. escaped.items ≡ encoded_text (in_format repertoire).encoding (first_escaped (text_in (line_in repertoire) bytes.now))) }
+    requires well { IsWell (line_encoding_of repertoire) bytes.now }
+    ensures { IfOk result (λ escaped. escaped.items ≡ encoded_text (in_format repertoire).encoding (first_escaped (text_in (line_encoding_of repertoire) bytes.now))) }
 {
     let first = line_in(repertoire).first_character(bytes);
     let mut escaped = LineBuffer::new(alloc);
@@ -111,7 +111,7 @@ fn escape_first(alloc: Global, repertoire: Repertoire, bytes: &[u8]) -> Result<V
 
 // The encoding of a result.
 fn line_in(repertoire: Repertoire) -> LineEncoding
-    ensures { result ≡ line_in repertoire }
+    ensures { result ≡ line_encoding_of repertoire }
 {
     match repertoire {
         Repertoire::Windows1252 | Repertoire::Latin1 => LineEncoding::Windows1252,

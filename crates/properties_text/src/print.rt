@@ -12,7 +12,7 @@ ghost use Rattle.properties_text.specs.Encoding.{line_of};
 ghost use Rattle.properties_text.specs.Parsing.{IsSpan, bytes_in};
 ghost use Rattle.properties_text.specs.Escaping.{text_in, IsWell};
 ghost use Rattle.properties_text.specs.Printing.{in_format, AppendsOnOk, character_bytes, text_bytes, put_of, puts_of, value_bytes, rest_bytes, inside_bytes, key_bytes, escaped_key, is_first_escaped, last_run};
-ghost use Rattle.properties_text.specs.PrintedTexts.{is_copied, StopsIn, meaning_in, Prints, bytes_of, key_of, value_of, IsPair, PrintsPair, ReadsBy, PrintsMeant};
+ghost use Rattle.properties_text.specs.PrintedTexts.{is_copied, StopsIn, meaning_in, Prints, bytes_of, key_meaning, value_meaning, IsWellPair, PrintsPair, ReadsBy, PrintsMeant};
 
 use crate::characters::{is_comment_sign, is_separator};
 use crate::encoding::byte_order_mark::begins_like_byte_order_mark;
@@ -88,9 +88,9 @@ impl<'a> Pair<'a> {
     /// A key and a value.
     #[inline(always)]
     pub fn literal(key: &'a str, value: &'a str) -> Pair<'a>
-        ensures well { IsPair result }
-        ensures key { key_of result ≡ means (chars key.now) }
-        ensures value { value_of result ≡ means (chars value.now) }
+        ensures well { IsWellPair result }
+        ensures key { key_meaning result ≡ means (chars key.now) }
+        ensures value { value_meaning result ≡ means (chars value.now) }
     {
         Pair {
             encoding: LineEncoding::Utf8,
@@ -109,9 +109,9 @@ impl<'a> Pair<'a> {
         requires value_within { value.end ≤ length line.now }
         requires key { IsWell encoding (bytes_in line.now key) }
         requires value { IsWell encoding (bytes_in line.now value) }
-        ensures well { IsPair result }
-        ensures key { key_of result ≡ meaning_of (text_in encoding (bytes_in line.now key)) }
-        ensures value { value_of result ≡ meaning_of (text_in encoding (bytes_in line.now value)) }
+        ensures well { IsWellPair result }
+        ensures key { key_meaning result ≡ meaning_of (text_in encoding (bytes_in line.now key)) }
+        ensures value { value_meaning result ≡ meaning_of (text_in encoding (bytes_in line.now value)) }
     {
         Pair {
             encoding,
@@ -162,7 +162,7 @@ pub fn print_pair(
     layout: PairLayout<'_>,
     pair: Pair<'_>,
 ) -> Result<(), UnescapeError>
-    requires { IsPair pair }
+    requires { IsWellPair pair }
     ensures printed { let l = layout.entry in
         PrintsPair l.repertoire l.first (puts_of l.repertoire) line.old pair.entry l.separator.now l.ending.now result line.new }
     ensures unchanged { OnErr result (line.new ≡ line.old) }
@@ -182,7 +182,7 @@ fn print_parts<Stops: ByteClass>(
     layout: PairLayout<'_>,
     pair: Pair<'_>,
 ) -> Result<(), UnescapeError>
-    requires well { IsPair pair }
+    requires well { IsWellPair pair }
     requires stops { StopsIn Stops.holds pair.encoding layout.repertoire }
     requires escaped { Stops.holds backslash ≡ pair.escaped }
     ensures printed { let l = layout.entry in

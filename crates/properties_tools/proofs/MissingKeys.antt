@@ -16,7 +16,7 @@ use Rattle.properties_format.specs.Encoding.{Encoding}
 use Rattle.properties_checking.specs.Private.Checking.{IsChecked}
 use Rattle.properties_checking.specs.Private.Objects.{AddsReport}
 use Rattle.properties_tools.specs.Private.Lacking.{is_among, is_lacking, lacking}
-use Rattle.properties_tables.specs.Private.Table.{places_of, FindsKey}
+use Rattle.properties_tables.specs.Private.Table.{table_places, FindsKey}
 use Rattle.properties_tools.specs.Propedit.Against.{is_compared, keys_at, missing_line, missing_value, surplus_line, surplus_value, AreKeyPlaces, AreLacking, IsBaseOf, IsReportAgainst, KnownBase, TellsWellFormed}
 use Rattle.properties_checking.specs.Kinds.{reported}
 use Rattle.properties_tables.specs.Table.{IsFirstLine}
@@ -156,11 +156,11 @@ module _ (name : List ℕ) (e : Encoding) (check : Check) (source : List ℕ) (r
   told : TellsWellFormed e source r.is_well_formed
   told = record { numbers = h.ill_formed; are = h.are_ill_formed; is = h.well_formed }
 
-  own : AreKeyPlaces h.places.pairs (places_of r.keys)
+  own : AreKeyPlaces h.places.pairs (table_places r.keys)
   own = record { keys = h.places.keys; lines = h.places.each }
 
   -- what is kept of a base
-  pub base-kept : (base : KnownBase) → base.name ≡ name → base.keys ≡ places_of r.keys → base.is_well_formed ≡ r.is_well_formed
+  pub base-kept : (base : KnownBase) → base.name ≡ name → base.keys ≡ table_places r.keys → base.is_well_formed ≡ r.is_well_formed
       → IsBaseOf name e source base
   base-kept base named keys well = record {
     named = named;
@@ -173,9 +173,9 @@ module _ (name : List ℕ) (e : Encoding) (check : Check) (source : List ℕ) (r
   -- what is said beside a base
   pub said-against : (base : KnownBase) (w : Bool) (after all : String Global) → w ≡ (base.is_well_formed && r.is_well_formed)
       → AddsReport check.report (missing_line name base.name) (missing_value name base.name)
-      (reported check.ignored (λ p. MissingKey) (lacking w (keys_at (places_of r.keys)) base.keys)) r.text after
+      (reported check.ignored (λ p. MissingKey) (lacking w (keys_at (table_places r.keys)) base.keys)) r.text after
       → AddsReport check.report (surplus_line name base.name) (surplus_value name base.name)
-      (reported check.ignored (λ p. SurplusKey) (lacking w (keys_at base.keys) (places_of r.keys))) after all
+      (reported check.ignored (λ p. SurplusKey) (lacking w (keys_at base.keys) (table_places r.keys))) after all
       → IsReportAgainst base name e check source (string_bytes all)
   said-against base w after all both h1 h2 = record {
     report = string_bytes r.text;
@@ -184,14 +184,14 @@ module _ (name : List ℕ) (e : Encoding) (check : Check) (source : List ℕ) (r
     are = h.places.are;
     is_well_formed = r.is_well_formed;
     well_formed = told;
-    missing = lacking w (keys_at (places_of r.keys)) base.keys;
+    missing = lacking w (keys_at (table_places r.keys)) base.keys;
     are_missing = λ base_pairs theirs.
-        subst (λ v. AreLacking v base_pairs h.places.pairs (lacking w (keys_at (places_of r.keys)) base.keys)) both
-        (lacking-are w base_pairs h.places.pairs base.keys (keys_at (places_of r.keys)) theirs h.places.keys);
-    surplus = lacking w (keys_at base.keys) (places_of r.keys);
+        subst (λ v. AreLacking v base_pairs h.places.pairs (lacking w (keys_at (table_places r.keys)) base.keys)) both
+        (lacking-are w base_pairs h.places.pairs base.keys (keys_at (table_places r.keys)) theirs h.places.keys);
+    surplus = lacking w (keys_at base.keys) (table_places r.keys);
     are_surplus = λ base_pairs theirs.
-        subst (λ v. AreLacking v h.places.pairs base_pairs (lacking w (keys_at base.keys) (places_of r.keys))) both
-        (lacking-are w h.places.pairs base_pairs (places_of r.keys) (keys_at base.keys) own theirs.keys);
+        subst (λ v. AreLacking v h.places.pairs base_pairs (lacking w (keys_at base.keys) (table_places r.keys))) both
+        (lacking-are w h.places.pairs base_pairs (table_places r.keys) (keys_at base.keys) own theirs.keys);
     missing_text = h1.text;
     tells_missing = h1.is_text;
     surplus_text = h2.text;

@@ -112,7 +112,7 @@ module _ {W : Type 0} {sink : Sink W} {r : Form} {output : W} {items : List Entr
   pairs-flushed k = (written-flushed pairs-written k.flushed, k.flushed.flushed)
 
   pub pairs-flush-failed : {new : Writing W} {error : PropertiesError} → FailsInFlush sink w error new
-      → source.FailsInFlush sink output (pair_lines r items) error new.sink
+      → source.FailsInSourceFlush sink output (pair_lines r items) error new.sink
   pairs-flush-failed k = record { middle = w.sink; written = pairs-written; cause = k.cause; flushed = k.flushed; is = k.is }
 
   -- a flush whose result is dropped

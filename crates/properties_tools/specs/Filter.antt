@@ -13,7 +13,7 @@ use Rattle.java_properties.specs.ReadBack.{TakesAscii}
 use Rattle.java_properties.specs.Errors.{cause_of_write, IsError, IsBareError}
 use Rattle.java_properties.specs.PropertiesWriter.{Writing, new_writer, with_settings}
 use Rattle.java_properties.specs.ReadLines.{BeginsWith, ReadsWhole, ReadsUpTo}
-use Rattle.java_properties.specs.WholeSources.{FailsInFlush}
+use Rattle.java_properties.specs.WholeSources.{FailsInSourceFlush}
 use Rattle.properties_items.specs.declared.error.ErrorKind.TheVariants as kind
 use Rattle.properties_items.specs.declared.error.PropertiesError.{PropertiesError}
 
@@ -108,7 +108,7 @@ pub record StopsInFlush {R W : Type 0} (reader : Reader R) (sink : Sink W) (r : 
     (items : List Entry) (error : PropertiesError) (input' : R) (output' : W) : Type 0 where
   pub whole : AreItems items
   pub reads : ReadsWhole reader r.encoding input items input'
-  pub fails : FailsInFlush sink output (pair_lines r items) error output'
+  pub fails : FailsInSourceFlush sink output (pair_lines r items) error output'
 
 -- Filtering stopped after these items of the input, of whose pairs the texts are of scalar values.
 pub record StopsAfter {R W : Type 0} (reader : Reader R) (sink : Sink W) (r : Form) (input : R) (output : W)

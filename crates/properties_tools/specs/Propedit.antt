@@ -20,7 +20,7 @@ use Rattle.properties_tools.specs.Propedit.Against.{IsBaseOf, IsReportAgainst, K
 use Rattle.properties_changing.specs.Change.{Changes}
 use Rattle.properties_checking.specs.Check.{IsReport}
 use Rattle.properties_tools.specs.Propedit.Comment.{ShowsComment}
-use Rattle.properties_tables.specs.Failures.{LacksMemory, failure_status, standard_output, Reports}
+use Rattle.properties_tables.specs.Failures.{IsMemoryFailure, failure_status, standard_output, Reports}
 use Rattle.properties_tools.specs.Propedit.Get.{Gets}
 use Rattle.properties_tools.specs.Propedit.Hints.{hint_bytes, IsHint, PrintsHint}
 use Rattle.properties_tools.specs.Propedit.Json.{ListsJson}
@@ -42,10 +42,10 @@ use Rattle.properties_items.specs.declared.error.PropertiesError.{PropertiesErro
 use Rattle.properties_tables.specs.declared.error.Failure.TheVariants.{Input, Output}
 
 -- the name of a source in messages
-abbrev pub name_of : Source → List ℕ
-name_of StandardInput = codes "standard input"
-name_of Dash = codes "standard input"
-name_of (File path) = string_bytes path
+abbrev pub source_name : Source → List ℕ
+source_name StandardInput = codes "standard input"
+source_name Dash = codes "standard input"
+source_name (File path) = string_bytes path
 
 -- The status of a report: 0 where it is empty.
 abbrev pub report_status : List ℕ → ℕ
@@ -65,14 +65,14 @@ pub record ChecksSource (name : List ℕ) (e : Encoding) (check : AskedCheck) (s
   pub status : answer.status ≡ report_status report
 
 -- What checking gives; or memory ran out.
-abbrev pub Checks : List ℕ → Encoding → AskedCheck → List ℕ → Result Answer Failure → Type 0
-Checks name e check source (Ok answer) = ChecksSource name e check source answer
-Checks name e check source (Err failure) = LacksMemory failure
+abbrev pub AnswersCheck : List ℕ → Encoding → AskedCheck → List ℕ → Result Answer Failure → Type 0
+AnswersCheck name e check source (Ok answer) = ChecksSource name e check source answer
+AnswersCheck name e check source (Err failure) = IsMemoryFailure failure
 
 -- What checking a base returns: what is wrong in it, and what is kept of it. Otherwise memory ran out.
 abbrev pub ChecksBase : List ℕ → Encoding → AskedCheck → List ℕ → Result (Answer × KnownBase) Failure → Type 0
 ChecksBase name e check source (Ok checked) = ChecksSource name e check source checked.0 × IsBaseOf name e source checked.1
-ChecksBase name e check source (Err failure) = LacksMemory failure
+ChecksBase name e check source (Err failure) = IsMemoryFailure failure
 
 -- The source was checked and compared: the status is that of the report, which is printed unless the check is quiet.
 pub record ChecksSourceAgainst (base : KnownBase) (name : List ℕ) (e : Encoding) (check : AskedCheck) (source : List ℕ) (answer : Answer) : Type 0 where
@@ -84,7 +84,7 @@ pub record ChecksSourceAgainst (base : KnownBase) (name : List ℕ) (e : Encodin
 -- What checking a source against a base returns. It fails only if memory runs out.
 abbrev pub ChecksAgainst : KnownBase → List ℕ → Encoding → AskedCheck → List ℕ → Result Answer Failure → Type 0
 ChecksAgainst base name e check source (Ok answer) = ChecksSourceAgainst base name e check source answer
-ChecksAgainst base name e check source (Err failure) = LacksMemory failure
+ChecksAgainst base name e check source (Err failure) = IsMemoryFailure failure
 
 -- What a change gives as an answer: the bytes after it, and the status 0.
 abbrev pub ChangesTo : Encoding → List ℕ → AskedChange → Result Answer Failure → Type 0
@@ -98,21 +98,21 @@ AnswersCommand name e (command.List prefix end) source result = Lists e source (
 AnswersCommand name e (command.ListValues prefix end) source result = ListsValues e source (characters prefix) end result
 AnswersCommand name e (command.ListJson prefix) source result = ListsJson e source (characters prefix) result
 AnswersCommand name e (command.Comment key) source result = ShowsComment e source (characters key) result
-AnswersCommand name e (command.Check check) source result = Checks name e check source result
+AnswersCommand name e (command.Check check) source result = AnswersCheck name e check source result
 AnswersCommand name e (command.CheckAgainst check base) source result = ChecksAgainst base name e check source result
 AnswersCommand name e (command.Change change) source result = ChangesTo e source change result
 
 -- What the command of some job gives for its source.
 abbrev pub Answers : Job → List ℕ → Result Answer Failure → Type 0
-Answers job source result = AnswersCommand (name_of job.source) (encoding_of job.encoding) job.command source result
+Answers job source result = AnswersCommand (source_name job.source) (encoding_of job.encoding) job.command source result
 
 -- ---- how it ends
 
 -- The status is that of the result, and nothing is printed; or it is that of the failure, whose message is printed,
 -- but for an output that nobody reads any more.
-abbrev pub Ends : {E : Type 0} → Sink E → List ℕ → E → Result ℕ Failure → ℕ → E → Type 0
-Ends error_sink name errors (Ok answer) status errors' = (status ≡ answer) × (errors' ≡ errors)
-Ends error_sink name errors (Err failure) status errors' = (status ≡ failure_status failure) × Reports error_sink errors name failure errors'
+abbrev pub EndsRun : {E : Type 0} → Sink E → List ℕ → E → Result ℕ Failure → ℕ → E → Type 0
+EndsRun error_sink name errors (Ok answer) status errors' = (status ≡ answer) × (errors' ≡ errors)
+EndsRun error_sink name errors (Err failure) status errors' = (status ≡ failure_status failure) × Reports error_sink errors name failure errors'
 
 -- ---- a command
 
@@ -147,25 +147,25 @@ pub record FailsInOutput {R W : Type 0} (reader : Reader R) (sink : Sink W) (job
   pub is : failure ≡ Output error
 
 -- What printing the answer to a command returns: the answer's status and what is said of it, or why it failed.
-abbrev pub Prints : {R W : Type 0} → Reader R → Sink W → Job → List (List ℕ) → R → W → Result (ℕ × Option (String Global)) Failure → R → W → Type 0
-Prints reader sink job files input output (Ok said) input' output' =
+abbrev pub PrintsResult : {R W : Type 0} → Reader R → Sink W → Job → List (List ℕ) → R → W → Result (ℕ × Option (String Global)) Failure → R → W → Type 0
+PrintsResult reader sink job files input output (Ok said) input' output' =
     (answer : Answer) × (printed : PrintsAnswer reader sink job input output answer (Ok tt) input' output') × (said.0 ≡ answer.status)
     × IsHint job files printed.source answer.status (hint_bytes said.1)
-Prints reader sink job files input output (Err failure) input' output' =
+PrintsResult reader sink job files input output (Err failure) input' output' =
     FailsInSource reader job input output failure input' output'
     ⊎ (HasNoAnswer reader job input output failure input' output' ⊎ FailsInOutput reader sink job input output failure input' output')
 
 -- The status is that of the answer, and what is said of it is printed; or it ends as at any failure.
 abbrev pub EndsSaying : {E : Type 0} → Sink E → List ℕ → E → Result (ℕ × Option (String Global)) Failure → ℕ → E → Type 0
 EndsSaying error_sink name errors (Ok said) status errors' = (status ≡ said.0) × PrintsHint error_sink errors (hint_bytes said.1) errors'
-EndsSaying error_sink name errors (Err failure) status errors' = Ends error_sink name errors (Err failure) status errors'
+EndsSaying error_sink name errors (Err failure) status errors' = EndsRun error_sink name errors (Err failure) status errors'
 
 -- What the program does for a command: it reads the source, prints the answer, and ends so. These files are there.
 pub record Runs {R W E : Type 0} (reader : Reader R) (sink : Sink W) (error_sink : Sink E) (job : Job) (files : List (List ℕ)) (input : R) (output : W)
     (errors : E) (status : ℕ) (input' : R) (output' : W) (errors' : E) : Type 0 where
   pub result : Result (ℕ × Option (String Global)) Failure
-  pub prints : Prints reader sink job files input output result input' output'
-  pub ends : EndsSaying error_sink (name_of job.source) errors result status errors'
+  pub prints : PrintsResult reader sink job files input output result input' output'
+  pub ends : EndsSaying error_sink (source_name job.source) errors result status errors'
 
 -- ---- a text
 
@@ -178,4 +178,4 @@ printed_status (Err error) = Err (Output error)
 pub record PrintsText {W E : Type 0} (sink : Sink W) (error_sink : Sink E) (text : List ℕ) (output : W) (errors : E) (status : ℕ) (output' : W) (errors' : E) : Type 0 where
   pub result : Result Unit PropertiesError
   pub writes : WritesSource sink output text result output'
-  pub ends : Ends error_sink standard_output errors (printed_status result) status errors'
+  pub ends : EndsRun error_sink standard_output errors (printed_status result) status errors'

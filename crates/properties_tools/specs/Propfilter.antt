@@ -54,7 +54,7 @@ status_of (Err error) = 1
 
 -- The input was filtered to the output in the encoding that was asked for, to ASCII only where that was asked for, and
 -- an error was printed on `errors`.
-pub record HasRun {R W E : Type 0} (reader : Reader R) (sink : Sink W) (error_sink : Sink E) (arguments : List (List ℕ)) (input : R) (output : W) (errors : E)
+pub record HasRunFilter {R W E : Type 0} (reader : Reader R) (sink : Sink W) (error_sink : Sink E) (arguments : List (List ℕ)) (input : R) (output : W) (errors : E)
     (status : ℕ) (input' : R) (output' : W) (errors' : E) : Type 0 where
   pub allowed : Form
   pub asked : Asks arguments allowed
@@ -73,7 +73,7 @@ pub record RefusesArguments {R W E : Type 0} (error_sink : Sink E) (arguments : 
   pub prints : HasPrintedLine error_sink errors (printed_line usage) errors'
 
 -- What the program does with these arguments.
-abbrev pub Runs : {R W E : Type 0} → Reader R → Sink W → Sink E → List (List ℕ) → R → W → E → ℕ → R → W → E → Type 0
-Runs reader sink error_sink arguments input output errors status input' output' errors' =
-    HasRun reader sink error_sink arguments input output errors status input' output' errors'
+abbrev pub RunsFilter : {R W E : Type 0} → Reader R → Sink W → Sink E → List (List ℕ) → R → W → E → ℕ → R → W → E → Type 0
+RunsFilter reader sink error_sink arguments input output errors status input' output' errors' =
+    HasRunFilter reader sink error_sink arguments input output errors status input' output' errors'
     ⊎ RefusesArguments error_sink arguments input output errors status input' output' errors'

@@ -28,7 +28,7 @@ ghost use Rattle.std.specs.Prelude.{◌≡◌, map};
 ghost use Rattle.counted_io.specs.Streams.{IsSameReader, IsSameSink};
 ghost use Rattle.java_properties.specs.Maps.{characters};
 ghost use Rattle.properties_tables.specs.Messages.{printed_line, HasPrintedLine};
-ghost use Rattle.properties_tools.specs.Propedit.{Ends, Prints, Runs, PrintsText};
+ghost use Rattle.properties_tools.specs.Propedit.{EndsRun, PrintsResult, Runs, PrintsText};
 ghost use Rattle.properties_tables.specs.Failures.{memory_words};
 
 use crate::propedit::answers::{answer_to, name};
@@ -88,7 +88,7 @@ fn print_answer<R: CountedRead, W: CountedWrite>(
     input: &mut R,
     output: &mut W,
 ) -> Result<(u8, Option<String>), Failure>
-    ensures prints { Prints R.CountedRead W.CountedWrite job.now (map characters files.now)
+    ensures prints { PrintsResult R.CountedRead W.CountedWrite job.now (map characters files.now)
         input.old output.old result input.new output.new }
     ensures same_reader { IsSameReader R.CountedRead input.old input.new }
     ensures same_sink { IsSameSink W.CountedWrite output.old output.new }
@@ -118,7 +118,7 @@ pub fn exit_status<E: CountedWrite>(
     name: &str,
     outcome: Result<u8, Failure>,
 ) -> u8
-    ensures ends { Ends E.CountedWrite name.now errors.old outcome result errors.new }
+    ensures ends { EndsRun E.CountedWrite name.now errors.old outcome result errors.new }
     ensures same_sink { IsSameSink E.CountedWrite errors.old errors.new }
 {
     match outcome {

@@ -4,7 +4,7 @@ ghost use Rattle.std.specs.Prelude.{◌≡◌, ◌∷◌, [], map, string_bytes}
 ghost use Rattle.std.specs.Option.{option_map};
 ghost use Rattle.counted_io.specs.Streams.{IsSameReader, IsSameSink};
 ghost use Rattle.properties_tables.specs.Messages.{printed_line, HasPrintedLine};
-ghost use Rattle.properties_tools.specs.Propfilter.{asked_of, not_utf_8, usage, IsAsked, IsNamedWith, Runs};
+ghost use Rattle.properties_tools.specs.Propfilter.{asked_of, not_utf_8, usage, IsAsked, IsNamedWith, RunsFilter};
 
 use crate::filter::filter_with;
 use counted_io::{CountedRead, CountedWrite};
@@ -44,7 +44,7 @@ pub fn run<R: CountedRead, W: CountedWrite, E: CountedWrite>(
     errors: &mut E,
 ) -> u8
     ensures runs { let names = map string_bytes arguments.now in
-        Runs R.CountedRead W.CountedWrite E.CountedWrite names
+        RunsFilter R.CountedRead W.CountedWrite E.CountedWrite names
         input.old output.old errors.old result input.new output.new errors.new }
     ensures same_reader { IsSameReader R.CountedRead input.old input.new }
     ensures same_sink { IsSameSink W.CountedWrite output.old output.new }

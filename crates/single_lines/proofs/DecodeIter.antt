@@ -4,7 +4,7 @@ use Rattle.std.specs.Prelude.{Some, None}
 use Rattle.std.specs.declared.io.Error.{Error}
 use Rattle.counted_io.specs.Streams.{Reader}
 use Rattle.counted_io.proofs.Streams.{read-none, read-more, failed-more}
-use Rattle.properties_format.specs.Text.{characters}
+use Rattle.properties_format.specs.Text.{piece_characters}
 use Rattle.properties_format.specs.Encoding.{Encoding, byte_order_mark}
 use Rattle.properties_format.specs.Computed.Encoding.{first_piece, pieces_of, decoded_of, characters_from, awaits_bom, awaits_more}
 use Rattle.properties_format.proofs.Encodings.Pieces.{pieces_of-nil}
@@ -27,8 +27,8 @@ coming-nil End = refl
 coming-nil (Fault e) = refl
 
 characters_from-nil : (e : Encoding) (decided : Bool) → characters_from e decided [] ≡ []
-characters_from-nil e true = ap characters (pieces_of-nil e)
-characters_from-nil e false = ap characters (pieces_of-nil e)
+characters_from-nil e true = ap piece_characters (pieces_of-nil e)
+characters_from-nil e false = ap piece_characters (pieces_of-nil e)
 
 nothing-comes : (P : Type 0) (ending : Ending) (d : List ℕ) → (is_over ending ≡ true) ⊎ P → (coming ending d ≡ []) ⊎ P
 nothing-comes P ending d (inl h) = inl (coming-over ending d h)
@@ -37,25 +37,25 @@ nothing-comes P ending d (inr h) = inr h
 -- ---- A character, or a byte order mark, is taken.
 
 bom-characters : (e f : Encoding) (held body x : List ℕ) → byte_order_mark e held ≡ record { encoding = f; body = body } → (x ≡ []) ⊎ (awaits_bom held ≡ false)
-    → decoded_of e (held ++ x) ≡ characters (pieces_of f (body ++ x))
+    → decoded_of e (held ++ x) ≡ piece_characters (pieces_of f (body ++ x))
 bom-characters e f held body x h (inl none) =
     ap (λ v. decoded_of e (held ++ v)) none
     ∙ ap (decoded_of e) (append-nil held)
-    ∙ ap (λ m. characters (pieces_of m.encoding m.body)) h
-    ∙ ap (λ v. characters (pieces_of f v)) (sym (append-nil body))
-    ∙ ap (λ v. characters (pieces_of f (body ++ v))) (sym none)
-bom-characters e f held body x h (inr decided) = decoded_of-append e held x decided ∙ ap (λ m. characters (pieces_of m.encoding (m.body ++ x))) h
+    ∙ ap (λ m. piece_characters (pieces_of m.encoding m.body)) h
+    ∙ ap (λ v. piece_characters (pieces_of f v)) (sym (append-nil body))
+    ∙ ap (λ v. piece_characters (pieces_of f (body ++ v))) (sym none)
+bom-characters e f held body x h (inr decided) = decoded_of-append e held x decided ∙ ap (λ m. piece_characters (pieces_of m.encoding (m.body ++ x))) h
 
 piece-characters : (e : Encoding) (b : ℕ) (d x : List ℕ) → (x ≡ []) ⊎ (awaits_more e b d ≡ false)
-    → characters (pieces_of e ((b ∷ d) ++ x)) ≡ (first_piece e b d).character ∷ characters (pieces_of e (drop (length (first_piece e b d).bytes) (b ∷ d) ++ x))
+    → piece_characters (pieces_of e ((b ∷ d) ++ x)) ≡ (first_piece e b d).character ∷ piece_characters (pieces_of e (drop (length (first_piece e b d).bytes) (b ∷ d) ++ x))
 piece-characters e b d x (inl none) =
     let rest = drop (length (first_piece e b d).bytes) (b ∷ d) in
-    ap (λ v. characters (pieces_of e ((b ∷ d) ++ v))) none
-    ∙ ap (λ v. characters (pieces_of e v)) (append-nil (b ∷ d))
+    ap (λ v. piece_characters (pieces_of e ((b ∷ d) ++ v))) none
+    ∙ ap (λ v. piece_characters (pieces_of e v)) (append-nil (b ∷ d))
     ∙ characters-step e b d
-    ∙ ap (λ v. (first_piece e b d).character ∷ characters (pieces_of e v)) (sym (append-nil rest))
-    ∙ ap (λ v. (first_piece e b d).character ∷ characters (pieces_of e (rest ++ v))) (sym none)
-piece-characters e b d x (inr decided) = ap characters (pieces_of-decided e b d x decided)
+    ∙ ap (λ v. (first_piece e b d).character ∷ piece_characters (pieces_of e v)) (sym (append-nil rest))
+    ∙ ap (λ v. (first_piece e b d).character ∷ piece_characters (pieces_of e (rest ++ v))) (sym none)
+piece-characters e b d x (inr decided) = ap piece_characters (pieces_of-decided e b d x decided)
 
 -- the byte order mark is decided: the encoding in force and the body say the characters to come
 pub gives-bom : (s t : Undecoded) → s.is_decided ≡ false → (is_over s.ending ≡ true) ⊎ (awaits_bom s.held ≡ false)
@@ -78,11 +78,11 @@ gives-character s t b d c n decided settled whole character count after = record
       let x = coming s.ending e in
       let more : (is_over s.ending ≡ true) ⊎ (awaits_more s.encoding b d ≡ false) = rw whole at settled in
       ap (λ v. characters_from s.encoding v (s.held ++ x)) decided
-      ∙ ap (λ v. characters (pieces_of s.encoding (v ++ x))) whole
+      ∙ ap (λ v. piece_characters (pieces_of s.encoding (v ++ x))) whole
       ∙ piece-characters s.encoding b d x (nothing-comes (awaits_more s.encoding b d ≡ false) s.ending e more)
-      ∙ ap (λ v. v ∷ characters (pieces_of s.encoding (drop (length (first_piece s.encoding b d).bytes) (b ∷ d) ++ x))) (sym character)
-      ∙ ap (λ v. c ∷ characters (pieces_of s.encoding (drop v (b ∷ d) ++ x))) (sym count)
-      ∙ ap (λ v. c ∷ characters (pieces_of s.encoding (drop n v ++ x))) (sym whole)
+      ∙ ap (λ v. v ∷ piece_characters (pieces_of s.encoding (drop (length (first_piece s.encoding b d).bytes) (b ∷ d) ++ x))) (sym character)
+      ∙ ap (λ v. c ∷ piece_characters (pieces_of s.encoding (drop v (b ∷ d) ++ x))) (sym count)
+      ∙ ap (λ v. c ∷ piece_characters (pieces_of s.encoding (drop n v ++ x))) (sym whole)
       ∙ ap (λ v. c ∷ characters_from s.encoding v (drop n s.held ++ x)) (sym decided)
       ∙ ap (λ v. c ∷ characters_to_come v e) (sym after);
 }

@@ -11,7 +11,7 @@ use Rattle.std.proofs.lemmas.List.{take-append-le, length-take-le, drop-take}
 use Rattle.counted_io.specs.Faults.{CountsFault, ShowsEnd}
 use Rattle.counted_io.specs.Streams.{Reader}
 use Rattle.properties_lines.proofs.InputBuffer.{keeps-consumes, ended-by}
-use Rattle.single_lines.specs.Private.ReadAhead.{ReadsMore, count_of}
+use Rattle.single_lines.specs.Private.ReadAhead.{ReadsMore, count_read}
 
 -- what a buffer holds after a read into its end: the bytes before the place, and those that came
 pub read-into : (buffer came rest : List ℕ) (place n : ℕ) → place ≤ length buffer → n ≤ length came
@@ -24,7 +24,7 @@ read-into buffer came rest place n h k =
 module _ {R : Type 0} (reader : Reader R) (old new : R) (buffer came rest : List ℕ) (place : ℕ) (within : place ≤ length buffer) (some : 0 < length came) where
   pub reads-more : (r : Result ℕ Error) → ReadsAtMost r came → ReadConsumes (reader.remaining old) (reader.remaining new) r came
       → CountsFault (reader.faults old) (reader.faults new) r → ShowsEnd (reader.at_end new) r came → reader.read_gives old r new
-      → ReadsMore reader old (take place buffer) r new (take (place + count_of r) (take place buffer ++ (came ++ rest)))
+      → ReadsMore reader old (take place buffer) r new (take (place + count_read r) (take place buffer ++ (came ++ rest)))
   reads-more (Ok n) most moved faults ended gives =
       (take n came, read-into buffer came rest place n within most.0, most.1, record { moved = moved.0; faultless = faults }, λ none. ended-by reader new (ended none some) (moved.1 none some))
   reads-more (Err e) most moved faults ended gives =

@@ -59,13 +59,13 @@ pub record LacksMemory {I : Type 0} (steps : Steps I) (from : I) (error : LineEr
   pub plain : error ≡ why.Memory
 
 -- what a line, or an error in its place, takes of the natural lines
-abbrev pub TakesNext : {I : Type 0} → Steps I → I → Result LogicalLine LineError → LogicalLines I → Type 0
-TakesNext steps from (Ok line) to = TakesGroup steps from line to
-TakesNext steps from (Err error) to = (to.is_done ≡ true) × (TakesError steps from error to.lines ⊎ LacksMemory steps from error to.lines)
+abbrev pub TakesNextGroup : {I : Type 0} → Steps I → I → Result LogicalLine LineError → LogicalLines I → Type 0
+TakesNextGroup steps from (Ok line) to = TakesGroup steps from line to
+TakesNextGroup steps from (Err error) to = (to.is_done ≡ true) × (TakesError steps from error to.lines ⊎ LacksMemory steps from error to.lines)
 
 -- what a line, or an error in its place, takes of the natural lines, the first of which a call gave before
 abbrev pub TakesAfter : {I : Type 0} → Steps I → NaturalLine → I → Result LogicalLine LineError → LogicalLines I → Type 0
-TakesAfter {I} steps first after answer to = (from : I) → steps from (Some (Ok first)) after → TakesNext steps from answer to
+TakesAfter {I} steps first after answer to = (from : I) → steps from (Some (Ok first)) after → TakesNextGroup steps from answer to
 
 -- Unless it is at its end, it may be called on, and no more natural lines are left than before.
 abbrev pub MayGoOn : {I : Type 0} → (I → Type 0) → (I → Count) → I → LogicalLines I → Type 0
@@ -75,7 +75,7 @@ MayGoOn can left from to = to.is_done ≡ false → can to.lines × IsFinite (le
 abbrev pub GivesLogicalLine : {I : Type 0} → Steps I → LogicalLines I → Option (Result LogicalLine LineError) → LogicalLines I → Type 0
 GivesLogicalLine steps from None to =
     (to.is_done ≡ true) × (((from.is_done ≡ true) × (to.lines ≡ from.lines)) ⊎ ((from.is_done ≡ false) × steps from.lines None to.lines))
-GivesLogicalLine steps from (Some answer) to = (from.is_done ≡ false) × TakesNext steps from.lines answer to
+GivesLogicalLine steps from (Some answer) to = (from.is_done ≡ false) × TakesNextGroup steps from.lines answer to
 
 -- ---- all that is given
 

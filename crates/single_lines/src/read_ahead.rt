@@ -2,7 +2,7 @@
 
 ghost use Rattle.std.specs.Prelude.{◌≡◌, ℕ, ◌<◌, ◌≤◌, ◌+◌, ◌-◌, List, [], take, drop, length, IfOk};
 ghost use Rattle.counted_io.specs.Streams.{IsSameReader};
-ghost use Rattle.single_lines.specs.Private.ReadAhead.{ReadsMore, count_of, room};
+ghost use Rattle.single_lines.specs.Private.ReadAhead.{ReadsMore, count_read, room};
 
 use counted_io::CountedRead;
 use std::alloc::{AllocError, Global};
@@ -89,8 +89,8 @@ fn move_down(buffer: &mut [u8], start: usize, end: usize)
 fn read_after<R: CountedRead>(reader: &mut R, buffer: &mut [u8], place: usize) -> io::Result<usize>
     requires { place < length buffer.old }
     ensures reads { ReadsMore R.CountedRead reader.old (take place buffer.old)
-        result reader.new (take (place + count_of result) buffer.new) }
-    ensures within { place + count_of result ≤ length buffer.new }
+        result reader.new (take (place + count_read result) buffer.new) }
+    ensures within { place + count_read result ≤ length buffer.new }
     ensures same_reader { IsSameReader R.CountedRead reader.old reader.new }
 {
     reader.read_counted(&mut buffer[place..])

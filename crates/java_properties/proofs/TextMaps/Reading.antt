@@ -7,7 +7,7 @@ use Rattle.properties_format.specs.ItemsToCome.{ReaderState, start}
 use Rattle.properties_format.specs.Items.{Content, comment, pair, item, AreItems}
 use Rattle.properties_format.specs.Maps.{IsMap}
 use Rattle.properties_format.proofs.Maps.{map-none, map-comment, map-pair}
-use Rattle.properties_items.specs.Line.{number_of, content_of}
+use Rattle.properties_items.specs.Line.{line_number_of, content_of}
 use Rattle.java_properties.specs.PropertiesIter.{format_content, entry_of, GivesEntry, GivesNone}
 use Rattle.java_properties.specs.ReadLines.{entries_in}
 use Rattle.java_properties.specs.Maps.{HasPut, HasReadMap, ReadsValue}
@@ -45,11 +45,11 @@ module _ {R Y Z : Type 0} {reader : Reader R} {e : Encoding} where
     is_map = subst (λ v. IsMap v (value_at n)) (entries-more h.so_far.lines line) (by-content (format_content (content_of line)) k);
   }
     where
-      by-content : (c : Content) → Takes m c n → IsMap (entries_in h.so_far.lines ++ (item (number_of line) c ∷ [])) (value_at n)
+      by-content : (c : Content) → Takes m c n → IsMap (entries_in h.so_far.lines ++ (item (line_number_of line) c ∷ [])) (value_at n)
       by-content (comment text) k =
-          let P : Entries Y Z → Type 0 = λ v. IsMap (entries_in h.so_far.lines ++ (item (number_of line) (comment text) ∷ [])) (value_at v) in
-          subst P (sym k) (map-comment (entries_in h.so_far.lines) (number_of line) text (value_at m) h.is_map)
-      by-content (pair key value) k = map-pair (entries_in h.so_far.lines) (number_of line) key value (value_at m) (value_at n) h.is_map k
+          let P : Entries Y Z → Type 0 = λ v. IsMap (entries_in h.so_far.lines ++ (item (line_number_of line) (comment text) ∷ [])) (value_at v) in
+          subst P (sym k) (map-comment (entries_in h.so_far.lines) (line_number_of line) text (value_at m) h.is_map)
+      by-content (pair key value) k = map-pair (entries_in h.so_far.lines) (line_number_of line) key value (value_at m) (value_at n) h.is_map k
 
   -- no item comes any more
   pub passed-all : {from to next : R} {m : Entries Y Z} {s t : ReaderState} → HasPassed reader e from m s to

@@ -23,7 +23,7 @@ use Rattle.properties_text.specs.declared.print.Pair.{Pair}
 use Rattle.properties_text.specs.declared.print.Repertoire.TheVariants as repertoire
 use Rattle.properties_text.specs.Escaping.{malformed_in}
 use Rattle.properties_text.specs.Printing.{text_bytes}
-use Rattle.properties_text.specs.PrintedTexts.{key_of, value_of, BreaksPair}
+use Rattle.properties_text.specs.PrintedTexts.{key_meaning, value_meaning, BreaksPair}
 use Rattle.java_properties.specs.PropertiesWriter.{Writing}
 use Rattle.properties_text.specs.declared.print.Repertoire.{Repertoire}
 use Rattle.properties_text.specs.declared.print.Place.TheVariants as place
@@ -42,17 +42,17 @@ repertoire_in true e = repertoire.Ascii
 repertoire_in false line.Windows1252 = repertoire.Windows1252
 repertoire_in false line.Utf8 = repertoire.Utf8
 
-abbrev pub repertoire_of : Engine → Repertoire
-repertoire_of engine = repertoire_in engine.settings.ascii_only engine.encoding
+abbrev pub engine_repertoire : Engine → Repertoire
+engine_repertoire engine = repertoire_in engine.settings.ascii_only engine.encoding
 
 -- the bytes of the line that the engine builds
-abbrev pub line_bytes : Engine → format.Content → List ℕ
-line_bytes engine line = printed (line_of engine.encoding) engine.settings (engine.lines == 0) line
+abbrev pub engine_line_bytes : Engine → format.Content → List ℕ
+engine_line_bytes engine line = printed (line_of engine.encoding) engine.settings (engine.lines == 0) line
 
 -- the bytes of a comment, without the line ending
 abbrev pub comment_bytes : Engine → List ℕ → List ℕ
 comment_bytes engine text =
-    text_bytes (repertoire_of engine) place.Prefix engine.settings.comment_prefix ++ text_bytes (repertoire_of engine) place.Comment text
+    text_bytes (engine_repertoire engine) place.Prefix engine.settings.comment_prefix ++ text_bytes (engine_repertoire engine) place.Comment text
 
 -- The number of the next line, if it can be written; or why it can't.
 abbrev pub NumbersLine : Engine → Bool → Result ℕ ErrorKind → Type 0
@@ -78,6 +78,6 @@ takes_span settings key = not (key.start == key.end) || not (is_blanks settings.
 -- the line of the pair that its spelling means; or how it is malformed
 abbrev pub BuildsPair : Engine → Pair → Result Unit UnescapeError → List ℕ → Type 0
 BuildsPair engine p (Ok done) bytes =
-    (key : List ℕ) × (value : List ℕ) × (key_of p ≡ means key) × (value_of p ≡ means value) × (bytes ≡ line_bytes engine (format.pair key value))
+    (key : List ℕ) × (value : List ℕ) × (key_meaning p ≡ means key) × (value_meaning p ≡ means value) × (bytes ≡ engine_line_bytes engine (format.pair key value))
 BuildsPair engine p (Err (error.Malformed malformed)) bytes = BreaksPair p (malformed_in malformed)
 BuildsPair engine p (Err error.Memory) bytes = Unit {0}

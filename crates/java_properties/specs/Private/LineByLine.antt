@@ -28,7 +28,7 @@ use Rattle.properties_text.specs.declared.escape.UnescapeError.{UnescapeError}
 use Rattle.properties_text.specs.declared.escape.UnescapeError.TheVariants as error
 use Rattle.properties_items.specs.declared.error.ErrorKind.{ErrorKind}
 use Rattle.java_properties.specs.Copying.{HasScalars}
-use Rattle.java_properties.specs.Private.Engine.{line_bytes, NumbersLine}
+use Rattle.java_properties.specs.Private.Engine.{engine_line_bytes, NumbersLine}
 use Rattle.java_properties.specs.declared.copy.Built.{Built}
 use Rattle.java_properties.specs.declared.copy.Built.TheVariants.{Nothing, Pair}
 use Rattle.java_properties.specs.declared.writer.engine.Engine.{Engine}
@@ -94,7 +94,7 @@ pub record HasBuilt (text : List ℕ) (number : Result ℕ ErrorKind) (w : Engin
   pub outcome : outcome_of text ≡ given (pair key value)
   pub scalars : HasScalars (pair key value)
   pub numbers : NumbersLine w (is_accepted w.settings (pair_call key value)) number
-  pub built : w.line ≡ line_bytes w (pair key value)
+  pub built : w.line ≡ engine_line_bytes w (pair key value)
 
 -- A line of this text is no pair: it is blank, or a comment.
 abbrev pub IsNoPair : List ℕ → Type 0

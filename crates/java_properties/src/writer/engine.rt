@@ -6,8 +6,8 @@ ghost use Rattle.properties_format.specs.Items as format;
 ghost use Rattle.properties_format.specs.Settings.{default_settings};
 ghost use Rattle.properties_format.specs.Writing.{is_accepted};
 ghost use Rattle.counted_io.specs.Streams.{IsSameSink};
-ghost use Rattle.properties_text.specs.PrintedTexts.{IsPair};
-ghost use Rattle.java_properties.specs.Private.Engine.{entry_content, writing, repertoire_of, line_bytes};
+ghost use Rattle.properties_text.specs.PrintedTexts.{IsWellPair};
+ghost use Rattle.java_properties.specs.Private.Engine.{entry_content, writing, engine_repertoire, engine_line_bytes};
 ghost use Rattle.java_properties.specs.Private.Engine.{comment_bytes, NumbersLine, SendsLine, takes_span, BuildsPair};
 ghost use Rattle.properties_text.specs.Printing.{AppendsOnOk};
 ghost use Rattle.java_properties.specs.PropertiesWriter.{call_of, WritesLine, Flushes};
@@ -171,7 +171,7 @@ impl Engine {
     #[inline(always)]
     #[tactic(auto, using(crate::proofs::Engine::spelling))]
     pub fn build_pair(&mut self, pair: Pair<'_>, readable: bool) -> Result<(), UnescapeError>
-        requires pair { IsPair pair }
+        requires pair { IsWellPair pair }
         requires readable { self.old.settings.readable ≡ readable }
         ensures printed { BuildsPair self.old pair.entry result self.new.line }
         ensures same { self.new ≡ record self.old { line = self.new.line } }
@@ -194,7 +194,7 @@ impl Engine {
     #[inline(always)]
     #[tactic(auto, using(crate::proofs::Engine::building))]
     fn build(&mut self, content: Content<'_>) -> Result<(), AllocError>
-        ensures printed { let bytes = line_bytes self.old (entry_content content.entry) in
+        ensures printed { let bytes = engine_line_bytes self.old (entry_content content.entry) in
             OnOk result (self.new.line ≡ bytes) }
         ensures same { self.new ≡ record self.old { line = self.new.line } }
     {
@@ -226,7 +226,7 @@ impl Engine {
     #[tactic(auto, using(crate::proofs::Engine::building))]
     fn build_readable(&mut self, key: &str, value: &str) -> Result<(), AllocError>
         requires { self.old.settings.readable ≡ true }
-        ensures printed { let bytes = line_bytes self.old
+        ensures printed { let bytes = engine_line_bytes self.old
             (format.pair (chars key.now) (chars value.now)) in
             OnOk result (self.new.line ≡ bytes) }
         ensures same { self.new ≡ record self.old { line = self.new.line } }
@@ -260,7 +260,7 @@ impl Engine {
     #[inline(always)]
     #[tactic(auto, using(crate::proofs::Engine::repertoires))]
     fn repertoire(&self) -> Repertoire
-        ensures { result ≡ repertoire_of self.now }
+        ensures { result ≡ engine_repertoire self.now }
     {
         if self.settings.ascii_only() {
             return Repertoire::Ascii;

@@ -33,11 +33,11 @@ command_of (remove key) = codes "remove"
 command_of (rename old new) = codes "rename"
 command_of (set_comment key text) = codes "set-comment"
 
-abbrev pub texts_of : Edit → List (List ℕ)
-texts_of (set key value) = key ∷ (value ∷ [])
-texts_of (remove key) = key ∷ []
-texts_of (rename old new) = old ∷ (new ∷ [])
-texts_of (set_comment key text) = key ∷ (text ∷ [])
+abbrev pub edit_texts : Edit → List (List ℕ)
+edit_texts (set key value) = key ∷ (value ∷ [])
+edit_texts (remove key) = key ∷ []
+edit_texts (rename old new) = old ∷ (new ∷ [])
+edit_texts (set_comment key text) = key ∷ (text ∷ [])
 
 -- how its texts are written: plainly, or after a `--`, which has them taken as they are
 pub data Form : Type 0 where
@@ -56,7 +56,7 @@ MayBegin plain texts = (others : List (List ℕ)) → texts ≡ codes "--" ∷ o
 
 -- the words of an edit
 abbrev pub edit_words : Form → Edit → List (List ℕ)
-edit_words form edit = command_of edit ∷ text_words form (texts_of edit)
+edit_words form edit = command_of edit ∷ text_words form (edit_texts edit)
 
 -- whether a character is a `=`
 abbrev pub is_sign : ℕ → Bool
@@ -86,9 +86,9 @@ pub record WrittenEdit : Type 0 where
   pub may : MayBeWritten form edit
 
 -- the words of edits, one after another
-abbrev pub words_of : List WrittenEdit → List (List ℕ)
-words_of [] = []
-words_of (w ∷ ws) = edit_words w.form w.edit ++ words_of ws
+abbrev pub written_words : List WrittenEdit → List (List ℕ)
+written_words [] = []
+written_words (w ∷ ws) = edit_words w.form w.edit ++ written_words ws
 
 -- what is made: an edit of the format, or a key's new name or comment, in characters
 pub data Meant : Type 0 where
@@ -97,11 +97,11 @@ pub data Meant : Type 0 where
   commented : List ℕ → List ℕ → Meant
 
 -- What is made of it. Setting a key keeps the layout of its line.
-abbrev pub in_characters : Edit → Meant
-in_characters (set key value) = edited (format.set_value (chars key) (chars value))
-in_characters (remove key) = edited (format.remove (chars key))
-in_characters (rename old new) = renamed (chars old) (chars new)
-in_characters (set_comment key text) = commented (chars key) (chars text)
+abbrev pub meant_edit : Edit → Meant
+meant_edit (set key value) = edited (format.set_value (chars key) (chars value))
+meant_edit (remove key) = edited (format.remove (chars key))
+meant_edit (rename old new) = renamed (chars old) (chars new)
+meant_edit (set_comment key text) = commented (chars key) (chars text)
 
 abbrev pub asked_edit : AskedEdit → Meant
 asked_edit (Asked.Edit edit) = edited (edit_in edit)
@@ -114,8 +114,8 @@ asked_edits edits = map asked_edit edits
 -- The words are those of edits, and these are made.
 pub record AreWordsOfEdits (words : List (List ℕ)) (edits : List Meant) : Type 0 where
   pub asked : List WrittenEdit
-  pub is : words ≡ words_of asked
-  pub made : edits ≡ map (λ w. in_characters w.edit) asked
+  pub is : words ≡ written_words asked
+  pub made : edits ≡ map (λ w. meant_edit w.edit) asked
 
 -- ---- words that ask for no edit
 
@@ -139,7 +139,7 @@ pub data IsMistakeAt (words : List (List ℕ)) (mistake : Mistake) : Type 0 wher
 pub record AreWrong (words : List (List ℕ)) (mistake : Mistake) : Type 0 where
   pub before : List WrittenEdit
   pub rest : List (List ℕ)
-  pub is : words ≡ words_of before ++ rest
+  pub is : words ≡ written_words before ++ rest
   pub wrong : IsMistakeAt rest mistake
 
 -- What the words give: the edits that they ask for; or they ask for none, and the mistake says why, or memory ran out.
@@ -147,7 +147,7 @@ pub record AreWrong (words : List (List ℕ)) (mistake : Mistake) : Type 0 where
 -- with a dash is a key.
 abbrev pub GivesEdits : List (List ℕ) → Result (Vec AskedEdit) Mistake → Type 0
 GivesEdits words (Ok edits) = AreWordsOfEdits words (asked_edits edits.items)
-GivesEdits words (Err mistake) = mistake ≢ Memory → AreWrong words mistake × ((edits : List WrittenEdit) → words ≡ words_of edits → ⊥)
+GivesEdits words (Err mistake) = mistake ≢ Memory → AreWrong words mistake × ((edits : List WrittenEdit) → words ≡ written_words edits → ⊥)
 
 -- ---- what the code finds on the way
 

@@ -1,6 +1,6 @@
 -- What taking a packed list apart returns.
 use Rattle.std.specs.Prelude.{◌≡◌, ◌+◌, ◌++◌, ℕ, List, length, ◌<◌, ◌^◌, Option, Some, None, Result, Ok, Err}
-use Rattle.properties_c.specs.Packed.{number_bytes, IsText, Meaning, edits, lines, IsPackedList, IsBadList, LacksText, HasNoRecord, HasNoText, Record, packed, record_in, IsSized}
+use Rattle.properties_c.specs.Packed.{number_bytes, IsPackedText, Meaning, edits, lines, IsPackedList, IsBadList, LacksText, HasNoRecord, HasNoText, Record, packed, record_in, IsSized}
 use Rattle.properties_c.specs.declared.lists.Line.{Line}
 use Rattle.properties_c.specs.declared.lists.Line.TheVariants.{Comment, Pair}
 use Rattle.properties_c.specs.declared.records.Header.{Header}
@@ -58,7 +58,7 @@ abbrev pub RefusesList : {A : Type 0} → Meaning A → List ℕ → Status → 
 RefusesList m list = RefusesFor (IsBadList m list) (LacksText m list)
 
 -- The first record of the list is that of this thing.
-pub record IsFirst {A : Type 0} (m : Meaning A) (list : List ℕ) (thing : A) (rest : List ℕ) : Type 0 where
+pub record IsFirstThing {A : Type 0} (m : Meaning A) (list : List ℕ) (thing : A) (rest : List ℕ) : Type 0 where
   pub first : Record
   pub splits : Splits list first rest
   pub means : m.Means first thing
@@ -67,7 +67,7 @@ pub record IsFirst {A : Type 0} (m : Meaning A) (list : List ℕ) (thing : A) (r
 
 -- the result of copying a text
 abbrev pub CopiesText : {Z : Type 0} → List ℕ → Result (String Z) Status → Type 0
-CopiesText bytes (Ok text) = IsText bytes (characters text)
+CopiesText bytes (Ok text) = IsPackedText bytes (characters text)
 CopiesText bytes (Err status) = RefusesFor ⊥ (¬ IsUtf8 bytes) status
 
 -- ---- edits
@@ -77,7 +77,7 @@ MakesEdit r (Ok edit) = edits.Means r (edit_in edit)
 MakesEdit r (Err status) = RefusesRecord edits r status
 
 abbrev pub ReadsFirstEdit : List ℕ → Result (Edit × Bor (List ℕ)) Status → Type 0
-ReadsFirstEdit list (Ok (edit, rest)) = IsFirst edits list (edit_in edit) rest.now
+ReadsFirstEdit list (Ok (edit, rest)) = IsFirstThing edits list (edit_in edit) rest.now
 ReadsFirstEdit list (Err status) = RefusesFirst edits list status
 
 abbrev pub ReadsEdits : List ℕ → Result (Vec Edit) Status → Type 0
@@ -88,23 +88,23 @@ ReadsEdits list (Err status) = RefusesList edits list status
 
 -- the result of taking a text
 abbrev pub TakesText : List ℕ → Result (Bor (List ℕ)) Status → Type 0
-TakesText bytes (Ok text) = IsText bytes (chars text.now)
+TakesText bytes (Ok text) = IsPackedText bytes (chars text.now)
 TakesText bytes (Err status) = RefusesFor ⊥ (¬ IsUtf8 bytes) status
 
 -- the result of taking two texts
 abbrev pub TakesTexts : List ℕ → List ℕ → Result (Bor (List ℕ) × Bor (List ℕ)) Status → Type 0
-TakesTexts key value (Ok (name, text)) = IsText key (chars name.now) × IsText value (chars text.now)
+TakesTexts key value (Ok (name, text)) = IsPackedText key (chars name.now) × IsPackedText value (chars text.now)
 TakesTexts key value (Err status) = RefusesFor ⊥ (IsUtf8 key → IsUtf8 value → ⊥) status
 
 -- what a line holds
-abbrev pub line_in : Line → Content
-line_in (Comment text) = comment (chars text.now)
-line_in (Pair key value) = pair (chars key.now) (chars value.now)
+abbrev pub line_content : Line → Content
+line_content (Comment text) = comment (chars text.now)
+line_content (Pair key value) = pair (chars key.now) (chars value.now)
 
 abbrev pub MakesLine : Record → Result Line Status → Type 0
-MakesLine r (Ok line) = lines.Means r (line_in line)
+MakesLine r (Ok line) = lines.Means r (line_content line)
 MakesLine r (Err status) = RefusesRecord lines r status
 
 abbrev pub ReadsFirstLine : List ℕ → Result (Line × Bor (List ℕ)) Status → Type 0
-ReadsFirstLine list (Ok (line, rest)) = IsFirst lines list (line_in line) rest.now
+ReadsFirstLine list (Ok (line, rest)) = IsFirstThing lines list (line_content line) rest.now
 ReadsFirstLine list (Err status) = RefusesFirst lines list status

@@ -19,7 +19,7 @@ use Rattle.properties_editing.specs.declared.group.GroupKind.{GroupKind}
 use Rattle.properties_editing.specs.declared.group.GroupKind.TheVariants as group
 use Rattle.properties_editing.specs.declared.group.PartPlaces.{PartPlaces}
 use Rattle.properties_editing.specs.declared.group.ViewedGroup.{ViewedGroup}
-use Rattle.properties_c.specs.Items.{AreAsked, GivesLine, IsPackedGroup, ArePacked, key_in, span_numbers, value_in}
+use Rattle.properties_c.specs.Items.{AreAsked, GivesAskedLine, IsPackedGroup, ArePacked, key_in, span_numbers, outcome_value}
 use Rattle.properties_c.specs.Parts.{IsLineEnd}
 use Rattle.properties_c.specs.Packed.{IsPackedList, lines, end_bytes, item_record, Record, packed, packed_items, reading_line, reading_status, finding_bytes, packed_findings}
 use Rattle.properties_c.specs.declared.asked.Asked.{Asked}
@@ -86,20 +86,20 @@ feeds [] = 0
 feeds (c ∷ cs) = if c == line_feed then feeds cs + 1 else feeds cs
 
 -- What a logical line gives was appended.
-abbrev pub Appends : ℕ → Outcome → List ℕ → List ℕ → Type 0
-Appends number ignored old new = new ≡ old
-Appends number (given content) old new = new ≡ old ++ packed (item_record number content)
-Appends number (broken how) old new = ⊥
+abbrev pub AppendsOutcome : ℕ → Outcome → List ℕ → List ℕ → Type 0
+AppendsOutcome number ignored old new = new ≡ old
+AppendsOutcome number (given content) old new = new ≡ old ++ packed (item_record number content)
+AppendsOutcome number (broken how) old new = ⊥
 
 -- Or an escape of it that is read is malformed, and nothing was; or memory ran out.
 abbrev pub PushesLine : Asked → ℕ → List ℕ → List ℕ → Result Unit PropertiesError → List ℕ → Type 0
-PushesLine a number x old (Ok done) new = (o : Outcome) × GivesLine a x o × Appends number o old new
+PushesLine a number x old (Ok done) new = (o : Outcome) × GivesAskedLine a x o × AppendsOutcome number o old new
 PushesLine a number x old (Err error) new =
-    ((how : Malformed) × GivesLine a x (broken how) × IsMalformed how number error × (new ≡ old)) ⊎ IsBareError kind.Memory error
+    ((how : Malformed) × GivesAskedLine a x (broken how) × IsMalformed how number error × (new ≡ old)) ⊎ IsBareError kind.Memory error
 
 -- The same of a line that is read.
 abbrev pub PushesRead : ℕ → List ℕ → List ℕ → Result Unit PropertiesError → List ℕ → Type 0
-PushesRead number x old (Ok done) new = Appends number (outcome_of x) old new
+PushesRead number x old (Ok done) new = AppendsOutcome number (outcome_of x) old new
 PushesRead number x old (Err error) new = IsNoItem number x error × (new ≡ old) ⊎ IsBareError kind.Memory error
 
 -- the record of a logical line with its texts as they stand
@@ -110,7 +110,7 @@ standing_record number (Logical.pair key value) = item_record number (pair key v
 
 -- the record of a content, of this kind, and the kind of an item
 abbrev pub content_record : ℕ → ℕ → Content → Record
-content_record kind number content = record { kind = kind; line = number; key = encode_utf8_all (key_in (given content)); value = encode_utf8_all (value_in (given content)) }
+content_record kind number content = record { kind = kind; line = number; key = encode_utf8_all (key_in (given content)); value = encode_utf8_all (outcome_value (given content)) }
 
 abbrev pub kind_of_content : Content → ℕ
 kind_of_content (comment text) = 0
@@ -169,8 +169,8 @@ kind_of_finding kind.NotEnoughDigits = 1
 kind_of_finding kind.NotHex = 2
 kind_of_finding other = 3
 
-abbrev pub found_bytes : MalformedEscape → List ℕ
-found_bytes escape = finding_bytes (kind_of_finding escape.kind) escape.line_number (if escape.in_comment then 1 else 0) []
+abbrev pub malformed_bytes : MalformedEscape → List ℕ
+malformed_bytes escape = finding_bytes (kind_of_finding escape.kind) escape.line_number (if escape.in_comment then 1 else 0) []
 
 -- These are the bytes of what is wrong in a source.
 pub record HasFindings (e : Encoding) (source bytes : List ℕ) : Type 0 where
@@ -196,9 +196,9 @@ RefusesSettings s NoMemory = Unit {0}
 RefusesSettings s other = ⊥
 
 -- This is the writer with these settings, or they are refused.
-abbrev pub SetsAll : {W : Type 0} → Writing W → Settings → Result (Writing W) Status → Type 0
-SetsAll w s (Ok writer) = AreGood s × (writer ≡ with_settings w s)
-SetsAll w s (Err status) = RefusesSettings s status
+abbrev pub SetsSettings : {W : Type 0} → Writing W → Settings → Result (Writing W) Status → Type 0
+SetsSettings w s (Ok writer) = AreGood s × (writer ≡ with_settings w s)
+SetsSettings w s (Err status) = RefusesSettings s status
 
 -- whether a call is not accepted
 abbrev pub has_refused_call : Settings → List Call → Bool
@@ -229,9 +229,9 @@ acceptance (Ok done) = Ok true
 acceptance (Err error) = accepted_for (kind_of error)
 
 -- A line was written, or the writer didn't accept it; or memory ran out.
-abbrev pub AddsLine : {W : Type 0} → Sink W → Content → Writing W → Result Bool Status → Writing W → Type 0
-AddsLine sink content old (Ok accepted) new = HasMadeCall sink old (call_of content) accepted new
-AddsLine sink content old (Err status) new = status ≡ NoMemory
+abbrev pub WritesContent : {W : Type 0} → Sink W → Content → Writing W → Result Bool Status → Writing W → Type 0
+WritesContent sink content old (Ok accepted) new = HasMadeCall sink old (call_of content) accepted new
+WritesContent sink content old (Err status) new = status ≡ NoMemory
 
 -- The lines of a list were written that the writer accepts, and this is whether it didn't accept one.
 pub record HasAddedAll {W : Type 0} (sink : Sink W) (list : List ℕ) (old : Writing W) (refused : Bool) (new : Writing W) : Type 0 where

@@ -8,10 +8,10 @@ use Rattle.java_properties.specs.Maps.{characters}
 use Rattle.properties_format.specs.Edits.{Edit}
 use Rattle.properties_editing.specs.declared.edit.Edit as editor
 use Rattle.java_properties.specs.Editing.{edits_in, ArePairsMade}
-use Rattle.properties_changing.specs.Change.{put_in, AreKnown, RefusesEdits}
-use Rattle.properties_changing.specs.Keys.{HasKeys, IsFirstAbsent}
+use Rattle.properties_changing.specs.Change.{edits_repertoire, AreKnown, RefusesEdits}
+use Rattle.properties_changing.specs.Keys.{HoldsKeys, IsFirstAbsent}
 use Rattle.properties_changing.specs.declared.request.Edits.{Edits}
-use Rattle.properties_tables.specs.Failures.{LacksMemory}
+use Rattle.properties_tables.specs.Failures.{IsMemoryFailure}
 use Rattle.properties_tables.specs.declared.error.Failure.{Failure}
 use Rattle.properties_tables.specs.declared.error.Failure.TheVariants.{Absent}
 use Rattle.std.specs.Borrow.{Bor}
@@ -33,8 +33,8 @@ pub record SaysAbsent (e : Encoding) (source : List ℕ) (keys : List (List ℕ)
 
 -- What refusing such a key returns. Otherwise, in a sound source, memory ran out.
 abbrev pub RefusesIfAbsent : Encoding → List ℕ → List (List ℕ) → Result Unit Failure → Type 0
-RefusesIfAbsent e source keys (Ok done) = HasKeys e source keys
-RefusesIfAbsent e source keys (Err failure) = SaysAbsent e source keys failure ⊎ (IsSound e source → LacksMemory failure)
+RefusesIfAbsent e source keys (Ok done) = HoldsKeys e source keys
+RefusesIfAbsent e source keys (Err failure) = SaysAbsent e source keys failure ⊎ (IsSound e source → IsMemoryFailure failure)
 
 -- ---- edits
 
@@ -46,7 +46,7 @@ with_values edits values = []
 
 -- What making these of the edits of a source with sound bytes returns.
 abbrev pub MakesList : Encoding → List ℕ → Edits → List Edit → Result (Vec ℕ) Failure → Type 0
-MakesList e source edits list (Ok bytes) = IsSound e source × ArePairsMade (put_in e edits) source list bytes.items
+MakesList e source edits list (Ok bytes) = IsSound e source × ArePairsMade (edits_repertoire e edits) source list bytes.items
 MakesList e source edits list (Err failure) = IsUnsound e source failure ⊎ RefusesEdits e source edits failure
 
 -- What looking for those of keys that a pair has returns.
@@ -56,6 +56,6 @@ FindsKnown e source edits (Err failure) = IsUnsound e source failure
 
 -- What looking for the first key that no pair has returns. In a sound source it fails only if memory runs out.
 abbrev pub FindsAbsent : Encoding → List ℕ → List (List ℕ) → Result (Option (Bor (List ℕ))) Failure → Type 0
-FindsAbsent e source keys (Ok None) = HasKeys e source keys
+FindsAbsent e source keys (Ok None) = HoldsKeys e source keys
 FindsAbsent e source keys (Ok (Some key)) = IsFirstAbsent e source keys (chars key.now)
-FindsAbsent e source keys (Err failure) = IsSound e source → LacksMemory failure
+FindsAbsent e source keys (Err failure) = IsSound e source → IsMemoryFailure failure

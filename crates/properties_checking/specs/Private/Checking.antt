@@ -9,8 +9,8 @@ use Rattle.properties_items.specs.Errors.{IsBareError}
 use Rattle.properties_items.specs.declared.error.ErrorKind.TheVariants as kind
 use Rattle.properties_items.specs.declared.error.PropertiesError.{PropertiesError}
 use Rattle.properties_items.specs.declared.findings.MalformedEscape.{MalformedEscape}
-use Rattle.properties_tables.specs.Private.Table.{places_of, HasPlaces, IsKeyTable}
-use Rattle.properties_checking.specs.Check.{has_replacement, holds_zero, is_ill_formed, is_malformed, is_misread, is_non_ascii, is_read_otherwise, looks_like_utf_8, repeats_key, IsReport, Said, What, AreOtherBytes, AreOtherwise, AreRefused, AreWithBytes}
+use Rattle.properties_tables.specs.Private.Table.{table_places, HasPlaces, IsKeyTable}
+use Rattle.properties_checking.specs.Check.{has_replacement, holds_zero, is_ill_formed, is_malformed, is_misread, is_non_ascii, is_read_otherwise, looks_like_utf_8, repeats_key, IsReport, SaidFinding, What, AreOtherBytes, AreOtherwise, AreRefused, AreWithBytes}
 use Rattle.properties_tables.specs.Lines.{AreFlawedLines}
 use Rattle.properties_checking.specs.Misread.{AreMisread}
 use Rattle.properties_checking.specs.declared.check.Reported.{Reported}
@@ -68,7 +68,7 @@ what_of places (Misread m) = is_misread m
 what_of places (Escape escape) = is_malformed escape.kind escape.in_comment
 what_of places (Repeats row) = repeats_key (place_at places row).key (place_at places row).number
 
-abbrev pub said_of : List KeyPlace → Finding → Said
+abbrev pub said_of : List KeyPlace → Finding → SaidFinding
 said_of places f = record { line = f.line_number; what = what_of places f.kind }
 
 -- Findings are arranged as what they say is to be.
@@ -86,7 +86,7 @@ FindsMisread e source (Err error) = IsBareError kind.Memory error
 pub record IsChecked (name : List ℕ) (e : Encoding) (check : Check) (source : List ℕ) (c : Reported) : Type 0 where
   pub report : IsReport name e check source (string_bytes c.text)
   pub table : IsKeyTable c.keys
-  pub places : HasPlaces e source (places_of c.keys)
+  pub places : HasPlaces e source (table_places c.keys)
   pub ill_formed : List ℕ
   pub are_ill_formed : AreFlawedLines flaw.IllFormed e source ill_formed
   pub well_formed : c.is_well_formed ≡ (length ill_formed == 0)

@@ -7,8 +7,8 @@ use Rattle.properties_format.specs.Encoding.{Encoding, ascii_bytes}
 use Rattle.properties_format.specs.Computed.Body.{held_lines_of}
 use Rattle.properties_format.specs.Computed.Cut.{decoded_line}
 use Rattle.properties_lines.specs.LineSearch.{unit_size}
-use Rattle.properties_lines.specs.Private.HeldLines.{lines_left}
-use Rattle.properties_lines.specs.Scanner.{GivesLine}
+use Rattle.properties_lines.specs.Private.HeldLines.{held_lines_left}
+use Rattle.properties_lines.specs.Scanner.{GivesScannedLine}
 use Rattle.properties_lines.specs.declared.scanner.Scanner.{Scanner}
 use Rattle.properties_tables.specs.Lines.{holds_byte}
 use Rattle.properties_checking.specs.Misread.{misread_at, misread_end, AreMisreadEnds}
@@ -46,7 +46,7 @@ module _ {X : Type 0} (of : Misread → ℕ → X) where
 
 -- of those to come
 abbrev pub ends_left : Bool → List ℕ → Scanner → List Finding
-ends_left is_joined body s = ends_from misread_finding is_joined s.passed (lines_left body s)
+ends_left is_joined body s = ends_from misread_finding is_joined s.passed (held_lines_left body s)
 
 -- What is said of the ends of lines comes after the findings.
 abbrev pub AddsEnds : Encoding → List ℕ → List Finding → List Finding → Type 0
@@ -54,13 +54,13 @@ AddsEnds e source old new = (ends : List Finding) × AreMisreadEnds misread_find
 
 -- The next line is found, if there is one.
 pub record FindsNumber (body : List ℕ) (old : Scanner) (number : ℕ) (new : Scanner) : Type 0 where
-  pub gives : GivesLine old body true new
+  pub gives : GivesScannedLine old body true new
   pub scanning : IsScanning body new
   pub is : number ≡ new.passed
 
-abbrev pub FindsLine : List ℕ → Scanner → Option ℕ → Scanner → Type 0
-FindsLine body old None new = lines_left body old ≡ []
-FindsLine body old (Some number) new = FindsNumber body old number new
+abbrev pub FindsOpenLine : List ℕ → Scanner → Option ℕ → Scanner → Type 0
+FindsOpenLine body old None new = held_lines_left body old ≡ []
+FindsOpenLine body old (Some number) new = FindsNumber body old number new
 
 -- ---- a body that has none
 
@@ -75,8 +75,8 @@ holds_pair byte [] = false
 holds_pair byte (b ∷ bs) = (b == backslash && begins (λ c. c == byte) bs) || holds_pair byte bs
 
 -- whether a blank does, or one of the last three bytes is a backslash
-abbrev pub may_end : List ℕ → Bool
-may_end bytes =
+abbrev pub may_end_line : List ℕ → Bool
+may_end_line bytes =
     holds_byte backslash (drop (length bytes - 3) bytes)
     || (holds_pair space bytes || (holds_pair tab bytes || holds_pair form_feed bytes))
 

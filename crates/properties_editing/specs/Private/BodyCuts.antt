@@ -28,8 +28,8 @@ pub record Cut : Type 0 where
   pub head : ℕ
 
 -- the cut, with one more line before it
-abbrev pub past : HeldLine → Cut → Cut
-past h cut = record { line = suc cut.line; before = length h.bytes + (length (ending_bytes h.ending) + cut.before); head = cut.head }
+abbrev pub cut_past_line : HeldLine → Cut → Cut
+cut_past_line h cut = record { line = suc cut.line; before = length h.bytes + (length (ending_bytes h.ending) + cut.before); head = cut.head }
 
 -- the cut after the first n characters that these lines add; the flag says whether the first of them is the first of
 -- its group
@@ -38,7 +38,7 @@ cut_at e first n [] = record { line = 0; before = 0; head = 0 }
 cut_at e first n (h ∷ hs) =
     elim (nat_le n (length (adds first h.text))) [
       | true ↦ record { line = 1; before = 0; head = length (head_of e (indent_size first h.text + n) h.bytes) }
-      | false ↦ past h (cut_at e false (n - length (adds first h.text)) hs)
+      | false ↦ cut_past_line h (cut_at e false (n - length (adds first h.text)) hs)
     ]
 
 -- what lines add; the flag says whether the first of them is the first of its group

@@ -11,27 +11,27 @@ use Rattle.properties_editing.specs.Private.SourceParts.{source_bytes}
 use Rattle.properties_editing.specs.declared.document.Document.TheInside.{Inside}
 
 -- the groups of the body of these bytes
-abbrev pub groups_in : Encoding → List ℕ → List (List HeldLine)
-groups_in e bytes = let w : InForce = byte_order_mark e bytes in held_groups_of w.encoding w.body
+abbrev pub document_groups : Encoding → List ℕ → List (List HeldLine)
+document_groups e bytes = let w : InForce = byte_order_mark e bytes in held_groups_of w.encoding w.body
 
 -- every key is named
 abbrev pub every : List ℕ → Bool
 every key = true
 
 -- what was requested, and the bytes after the edits
-abbrev pub repertoire_of : Inside → Repertoire
-repertoire_of d =
+abbrev pub document_repertoire : Inside → Repertoire
+document_repertoire d =
     let opened = d.edited.opened in record { encoding = encoding_of d.encoding; characters = characters_for opened.ascii_only opened.latin_1 }
 
-abbrev pub bytes_of : Inside → List ℕ
-bytes_of d = source_bytes d.source.items d.edited
+abbrev pub document_bytes : Inside → List ℕ
+document_bytes d = source_bytes d.source.items d.edited
 
 abbrev pub open_document : Inside → OpenDocument
-open_document d = record { repertoire = repertoire_of d; comments = d.comments; bytes = bytes_of d }
+open_document d = record { repertoire = document_repertoire d; comments = d.comments; bytes = document_bytes d }
 
 -- The parts stand for its bytes, the values of all keys are stored, and nothing in it is malformed but in comments that
 -- are passed over.
 pub record IsDocument (d : Inside) : Type 0 where
-  pub parts : AreParts (repertoire_of d) d.source.items (bytes_of d) every d.edited
+  pub parts : AreParts (document_repertoire d) d.source.items (document_bytes d) every d.edited
   pub all : d.edited.parts.keys.all ≡ true
-  pub sound : AreSoundFor d.comments (groups_in (encoding_of d.encoding) (bytes_of d))
+  pub sound : AreSoundFor d.comments (document_groups (encoding_of d.encoding) (document_bytes d))

@@ -45,15 +45,15 @@ use Rattle.properties_editing.specs.declared.parts.read.Gap.{Gap}
 abbrev pub span_bytes : List ℕ → BodySpan → List ℕ
 span_bytes d s = take (s.end - s.start) (drop s.start d)
 
-abbrev pub text_bytes : List ℕ → PartText → List ℕ
-text_bytes d (text.Span s) = span_bytes d s
-text_bytes d (text.Own v) = v.items
+abbrev pub part_text_bytes : List ℕ → PartText → List ℕ
+part_text_bytes d (text.Span s) = span_bytes d s
+part_text_bytes d (text.Own v) = v.items
 
 abbrev pub ended_bytes : Option LineEnding → List ℕ
 ended_bytes ending = body.ending_bytes (option_map ending_of ending)
 
 abbrev pub part_bytes : List ℕ → Part → List ℕ
-part_bytes d p = text_bytes d p.text ++ ended_bytes p.ending
+part_bytes d p = part_text_bytes d p.text ++ ended_bytes p.ending
 
 -- the bytes of parts, in order
 abbrev pub parts_bytes : List ℕ → List Part → List ℕ
@@ -66,9 +66,9 @@ IsTextWithin d (text.Span s) = (s.start ≤ s.end) × (s.end ≤ length d)
 IsTextWithin d (text.Own v) = Unit {0}
 
 -- the bytes of a span where a text is: in the body, or in own bytes
-abbrev pub bytes_in : List ℕ → PartText → BodySpan → List ℕ
-bytes_in d (text.Span t) s = span_bytes d s
-bytes_in d (text.Own v) s = span_bytes v.items s
+abbrev pub part_span_bytes : List ℕ → PartText → BodySpan → List ℕ
+part_span_bytes d (text.Span t) s = span_bytes d s
+part_span_bytes d (text.Own v) s = span_bytes v.items s
 
 -- If there is a span, it is there.
 abbrev pub IsSpanWithin : List ℕ → Option BodySpan → Type 0
@@ -141,12 +141,12 @@ abbrev pub listed : Option Places → List ℕ
 listed None = []
 listed (Some p) = all_places p
 
-abbrev pub places_in : KeyPlaces → List ℕ
-places_in p = listed p.places
+abbrev pub listed_places : KeyPlaces → List ℕ
+listed_places p = listed p.places
 
 abbrev pub places_of : Option KeyPlaces → List ℕ
 places_of None = []
-places_of (Some p) = places_in p
+places_of (Some p) = listed_places p
 
 -- the value of the last pair with a key
 abbrev pub value_of : Option KeyPlaces → Option (List ℕ)
@@ -185,7 +185,7 @@ pub record NamesKey (key : List ℕ) (old new : NamedKeys) : Type 0 where
 pub record HasPlaceAdded (key value : List ℕ) (place : ℕ) (old new : NamedKeys) : Type 0 where
   pub pair : KeyPlaces
   pub stored : (k : List ℕ) → stored_of new.places.entries k ≡ update bytes_eq (stored_of old.places.entries) key (Some pair) k
-  pub places : places_in pair ≡ places_of (stored_of old.places.entries key) ++ place ∷ []
+  pub places : listed_places pair ≡ places_of (stored_of old.places.entries key) ++ place ∷ []
   pub has_value : old.all ≡ true → characters pair.value ≡ value
   pub ordered : IsOrdered string_cmp new.places
   pub all : new.all ≡ old.all
@@ -226,7 +226,7 @@ abbrev pub span_of_group : Group → BodySpan
 span_of_group group = record { start = group.start; end = group.end }
 
 -- a gap, and a pair behind it, became parts
-pub record AddsPair (d : List ℕ) (group : Group) (next : ℕ) (key value : List ℕ) (gap : Gap) (old : Parts) (after : Gap) (new : Parts) : Type 0 where
+pub record AddsReadPair (d : List ℕ) (group : Group) (next : ℕ) (key value : List ℕ) (gap : Gap) (old : Parts) (after : Gap) (new : Parts) : Type 0 where
   pub front : List Part
   pub is_front : front ≡ old.parts.items ++ others_part gap.start group.start (option_or gap.last gap.before)
   pub parts : new.parts.items ≡ front ++ pair_part (span_of_group group) (ending_read (take (next - group.end) (drop group.end d))) ∷ []
@@ -243,14 +243,14 @@ pub record AddsOther (group : Group) (pair : Option BodySpan) (gap : Gap) (old :
 abbrev pub AddsTold : List ℕ → Group → ℕ → Option (List ℕ × List ℕ) → Gap → Parts → Gap → Parts → Type 0
 AddsTold d group next None gap old after new = AddsOther group None gap old after new
 AddsTold d group next (Some (key, value)) gap old after new =
-    AddsPair d group next key value gap old after new
+    AddsReadPair d group next key value gap old after new
     ⊎ (is_named old.keys key ≡ false) × AddsOther group (Some (span_of_group group)) gap old after new
 
 -- The group with this logical line was read and stored; or there is an error in it, or memory ran out.
-abbrev pub ReadsGroup : Comments → List ℕ → List ℕ → Group → ℕ → Gap → Parts → Result Gap PropertiesError → Parts → Type 0
-ReadsGroup comments d line group next gap old (Ok after) new =
+abbrev pub ReadsGroupParts : Comments → List ℕ → List ℕ → Group → ℕ → Gap → Parts → Result Gap PropertiesError → Parts → Type 0
+ReadsGroupParts comments d line group next gap old (Ok after) new =
     IsSoundFor comments (chars line) × AddsTold d group next (outcome_pair (outcome_of (chars line))) gap old after new
-ReadsGroup comments d line group next gap old (Err e) new = IsFault comments group.number (chars line) e ⊎ IsBareError error.Memory e
+ReadsGroupParts comments d line group next gap old (Err e) new = IsFault comments group.number (chars line) e ⊎ IsBareError error.Memory e
 
 -- The last gap became parts.
 pub record ClosesGap (gap : Gap) (end : ℕ) (old new : Parts) : Type 0 where
@@ -324,7 +324,7 @@ IsOthersText (text.Own v) = begins_with_lf v.items ≡ false
 pub record IsPairPart (d : List ℕ) (named : List ℕ → Bool) (p : Part) (g : List HeldLine) : Type 0 where
   pub kind : p.kind ≡ kind.Pair
   pub within : IsTextWithin d p.text
-  pub bytes : text_bytes d p.text ≡ unended_bytes g
+  pub bytes : part_text_bytes d p.text ≡ unended_bytes g
   pub some : unended_bytes g ≢ []
   pub ending : option_map ending_of p.ending ≡ last_ending g
   pub is_named_pair : names_group named g ≡ true
@@ -334,14 +334,14 @@ pub record IsOthersPart (d : List ℕ) (named : List ℕ → Bool) (p : Part) (g
   pub last : Option BodySpan
   pub kind : p.kind ≡ kind.Others last
   pub within : IsTextWithin d p.text
-  pub bytes : text_bytes d p.text ≡ groups_bytes gs
+  pub bytes : part_text_bytes d p.text ≡ groups_bytes gs
   pub ending : p.ending ≡ None
   pub empty : gs ≡ [] → is_empty_part p ≡ true
   pub have : HaveBytes gs
   pub others_text : IsOthersText p.text
   pub unnamed : NoneNamed named gs
   pub last_within : IsLastWithin d p.text last
-  pub last_pair : option_map (bytes_in d p.text) last ≡ last_pair_bytes gs
+  pub last_pair : option_map (part_span_bytes d p.text) last ≡ last_pair_bytes gs
 
 abbrev pub IsPartOf : List ℕ → (List ℕ → Bool) → Part → Piece → Type 0
 IsPartOf d named p (own g) = IsPairPart d named p g
@@ -371,17 +371,17 @@ abbrev pub value_if : List ℕ → Said → Option (List ℕ)
 value_if key None = None
 value_if key (Some (k, v)) = if bytes_eq k key then Some v else None
 
-abbrev pub value_in : List ℕ → List Said → Option (List ℕ)
-value_in key [] = None
-value_in key (s ∷ ss) = option_or (value_in key ss) (value_if key s)
+abbrev pub value_said : List ℕ → List Said → Option (List ℕ)
+value_said key [] = None
+value_said key (s ∷ ss) = option_or (value_said key ss) (value_if key s)
 
 abbrev pub value_among : List ℕ → List (List HeldLine) → Option (List ℕ)
-value_among key gs = value_in key (map group_said gs)
+value_among key gs = value_said key (map group_said gs)
 
 -- The keys have the places of their pairs, and, if all are named, their values.
 pub record ArePlaced (said : List Said) (keys : NamedKeys) : Type 0 where
   pub places : (key : List ℕ) → places_of (stored_of keys.places.entries key) ≡ places_with key 0 said
-  pub values : keys.all ≡ true → (key : List ℕ) → value_of (stored_of keys.places.entries key) ≡ value_in key said
+  pub values : keys.all ≡ true → (key : List ℕ) → value_of (stored_of keys.places.entries key) ≡ value_said key said
   pub ordered : IsOrdered string_cmp keys.places
 
 -- The last piece is one group.

@@ -15,7 +15,7 @@ use Rattle.properties_format.specs.Body.{HeldLine, as_lines, held_in, AreGroupsO
 use Rattle.properties_format.specs.Edited.{is_editable}
 use Rattle.properties_format.specs.Valued.{value_text, ending_among}
 use Rattle.properties_format.specs.Computed.Body.{held_groups_of}
-use Rattle.properties_format.specs.Computed.Valued.{before_value, between_if_pair, between_of, front_of, has_value}
+use Rattle.properties_format.specs.Computed.Valued.{before_value, between_if_pair, between_of, value_front, has_value}
 use Rattle.properties_text.specs.Parsing.{bytes_in, IsSpan}
 use Rattle.properties_text.specs.declared.parse.Span.{Span}
 use Rattle.properties_items.specs.Line.{ending_of}
@@ -49,7 +49,7 @@ pub record IsBeforeValue (e : Encoding) (bytes before : List ℕ) : Type 0 where
 pub record IsFrontSize (e : Encoding) (bytes : List ℕ) (size : ℕ) : Type 0 where
   pub group : List HeldLine
   pub is_group : held_groups_of e bytes ≡ group ∷ []
-  pub is_size : size ≡ length (front_of e group)
+  pub is_size : size ≡ length (value_front e group)
 
 -- ---- a pair with another value
 
@@ -68,7 +68,7 @@ pub record IsNewValue (r : Repertoire) (bytes value : List ℕ) (new : NewValue)
   pub is_group : held_groups_of r.encoding bytes ≡ group ∷ []
   pub other : has_value value group ≡ false
   pub within : new.front_size ≤ length bytes
-  pub front : take new.front_size bytes ≡ front_of r.encoding group
+  pub front : take new.front_size bytes ≡ value_front r.encoding group
   pub bytes_are : new.bytes ≡ encoded_text r.encoding (value_text r (between_of group) value)
 
 -- How a pair by itself gets a value, or `None` if it has the value.

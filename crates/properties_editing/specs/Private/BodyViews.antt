@@ -14,15 +14,15 @@ use Rattle.properties_format.specs.Split.{Logical, blank, comment, pair}
 use Rattle.properties_format.specs.Computed.Split.{split_of}
 use Rattle.properties_format.specs.Body.{HeldLine, as_lines}
 use Rattle.properties_format.specs.Computed.Body.{held_groups_of}
-use Rattle.properties_format.specs.Computed.Valued.{after_key, written_value}
+use Rattle.properties_format.specs.Computed.Valued.{after_key, value_as_written}
 use Rattle.properties_text.specs.Encoding.{encoding_of}
 use Rattle.properties_text.specs.Parsing.{bytes_in, IsSpan}
 use Rattle.properties_text.specs.Escaping.{malformed_in}
 use Rattle.properties_text.specs.declared.escape.Malformed.{Malformed}
 use Rattle.properties_text.specs.declared.parse.Span.{Span}
 use Rattle.properties_lines.specs.LogicalLine.{IsLineIn, is_natural}
-use Rattle.properties_editing.specs.Views.{IsWhole, kind_of, with_bytes}
-use Rattle.properties_editing.specs.Private.BodyGroups.{IsWithin, TakesGroup, groups_left, text_of}
+use Rattle.properties_editing.specs.Views.{IsMeaningful, group_kind, with_bytes}
+use Rattle.properties_editing.specs.Private.BodyGroups.{IsWithin, TakesHeldGroup, groups_left, group_text}
 use Rattle.properties_editing.specs.Private.BodyCuts.{Cut, IsCutOf, cut_at, cut_size}
 use Rattle.properties_editing.specs.declared.groups.GroupReader.{GroupReader}
 use Rattle.properties_editing.specs.declared.walk.FoundFlaw.{FoundFlaw}
@@ -60,7 +60,7 @@ counts_by (pair key value) x =
     record {
       key_start = length x - length (without_leading_blanks x);
       key_end = length x - length (after_key x);
-      value_start = length x - length (written_value x);
+      value_start = length x - length (value_as_written x);
       value_end = length x;
     }
 
@@ -82,7 +82,7 @@ AreTextsOf (pair key value) line parts = (chars (bytes_in line parts.key) ≡ ke
 
 -- The parts of a line that is this.
 pub record ArePartsBy (what : Logical) (line : List ℕ) (parts : Parts) : Type 0 where
-  pub kind_is : parts.kind ≡ kind_of what
+  pub kind_is : parts.kind ≡ group_kind what
   pub key_start : IsCountAt line parts.key.start (counts_by what (chars line)).key_start
   pub key_end : IsCountAt line parts.key.end (counts_by what (chars line)).key_end
   pub value_start : IsCountAt line parts.value.start (counts_by what (chars line)).value_start
@@ -91,8 +91,8 @@ pub record ArePartsBy (what : Logical) (line : List ℕ) (parts : Parts) : Type 
   pub value_span : IsSpan line parts.value
   pub texts : AreTextsOf what line parts
 
-abbrev pub ArePartsOf : List ℕ → Parts → Type 0
-ArePartsOf line parts = ArePartsBy (split_of (chars line)) line parts
+abbrev pub ArePartsOfLine : List ℕ → Parts → Type 0
+ArePartsOfLine line parts = ArePartsBy (split_of (chars line)) line parts
 
 -- ---- the view
 
@@ -103,8 +103,8 @@ reader_before view = record view.reader { scanner = view.before }
 abbrev pub IsOpened : Walk → Type 0
 IsOpened view = IsWithin view.source.now view.reader
 
-abbrev pub line_of : Walk → WalkedGroup → List ℕ
-line_of view group = text_of view.source.now view.reader group.group
+abbrev pub walked_line : Walk → WalkedGroup → List ℕ
+walked_line view group = group_text view.source.now view.reader group.group
 
 -- the groups to come
 abbrev pub groups_to_come : Walk → List (List HeldLine)
@@ -130,8 +130,8 @@ pub record IsViewed (view : Walk) (group : WalkedGroup) : Type 0 where
   pub old : GroupReader
   pub before : old.scanner ≡ view.before
   pub within_old : IsWithin view.source.now old
-  pub takes : TakesGroup view.source.now old group.group view.reader
-  pub parts : ArePartsOf (line_of view group) group.parts
+  pub takes : TakesHeldGroup view.source.now old group.group view.reader
+  pub parts : ArePartsOfLine (walked_line view group) group.parts
   pub next : group.next ≡ view.reader.scanner.at
 
 -- Its logical line is its bytes as they are: it is one line, which isn't left open.
@@ -165,18 +165,18 @@ first_of [] = []
 first_of (g ∷ gs) = g
 
 -- the lines of the group that was returned last, and its logical line
-abbrev pub lines_of : Walk → List HeldLine
-lines_of view = first_of (groups_left view.source.now (reader_before view))
+abbrev pub walked_lines : Walk → List HeldLine
+walked_lines view = first_of (groups_left view.source.now (reader_before view))
 
-abbrev pub text_in : Walk → List ℕ
-text_in view = joined (as_lines (lines_of view))
+abbrev pub walked_text : Walk → List ℕ
+walked_text view = joined (as_lines (walked_lines view))
 
 -- where so many characters of the logical line of that group end
 abbrev pub cut_in : Walk → ℕ → Cut
-cut_in view count = cut_at (encoding_of view.before.encoding) true count (lines_of view)
+cut_in view count = cut_at (encoding_of view.before.encoding) true count (walked_lines view)
 
 abbrev pub place_in : Walk → ℕ → ℕ
-place_in view count = view.before.at + cut_size (cut_at (encoding_of view.before.encoding) true count (lines_of view))
+place_in view count = view.before.at + cut_size (cut_at (encoding_of view.before.encoding) true count (walked_lines view))
 
 -- the places of its parts, by what it is
 abbrev pub places_by : GroupKind → Walk → WalkedGroup → Counts → PartPlaces
@@ -197,15 +197,15 @@ places_by kind.Pair view group counts =
       value_end = group.group.end;
     }
 
-abbrev pub places_in : Walk → WalkedGroup → PartPlaces
-places_in view group = places_by (kind_of (split_of (text_in view))) view group (counts_of (text_in view))
+abbrev pub walked_places : Walk → WalkedGroup → PartPlaces
+walked_places view group = places_by (group_kind (split_of (walked_text view))) view group (counts_of (walked_text view))
 
 -- What the cuts at these places mean: the lines up to there add the first characters of the logical line.
 abbrev pub IsMeant : Walk → ℕ → Type 0
-IsMeant view count = IsCutOf (encoding_of view.before.encoding) true (lines_of view) (take count (text_in view)) (cut_in view count)
+IsMeant view count = IsCutOf (encoding_of view.before.encoding) true (walked_lines view) (take count (walked_text view)) (cut_in view count)
 
 -- They don't descend.
-pub record AreOrdered (group : WalkedGroup) (places : PartPlaces) : Type 0 where
+pub record ArePlacedInOrder (group : WalkedGroup) (places : PartPlaces) : Type 0 where
   pub indent : group.group.start ≤ places.key_start
   pub key : places.key_start ≤ places.key_end
   pub between : places.key_end ≤ places.value_start
@@ -230,13 +230,13 @@ pub record BreaksPart (before : ℕ) (text : List ℕ) (kind : format.Malformed)
 abbrev pub HasFlaw : Logical → Counts → format.Malformed → ℕ → Type 0
 HasFlaw blank counts how count = ⊥
 HasFlaw (comment text) counts how count = BreaksPart counts.value_start text how count
-HasFlaw (pair key value) counts how count = BreaksPart counts.key_start key how count ⊎ IsWhole key × BreaksPart counts.value_start value how count
+HasFlaw (pair key value) counts how count = BreaksPart counts.key_start key how count ⊎ IsMeaningful key × BreaksPart counts.value_start value how count
 
 -- or there is none.
 abbrev pub HasNoFlaw : Logical → Type 0
 HasNoFlaw blank = Unit {0}
-HasNoFlaw (comment text) = IsWhole text
-HasNoFlaw (pair key value) = IsWhole key × IsWhole value
+HasNoFlaw (comment text) = IsMeaningful text
+HasNoFlaw (pair key value) = IsMeaningful key × IsMeaningful value
 
 -- The first malformed escape of a part is at this position of the line.
 pub record IsPartFlaw (line : List ℕ) (span : Span) (at : ℕ) (how : Malformed) : Type 0 where
@@ -245,7 +245,7 @@ pub record IsPartFlaw (line : List ℕ) (span : Span) (at : ℕ) (how : Malforme
   pub breaks : BreaksPart (length (chars (take span.start line))) (chars (bytes_in line span)) (malformed_in how) (length (chars (take at line)))
 
 abbrev pub FindsPartFlaw : List ℕ → Span → Option (ℕ × Malformed) → Type 0
-FindsPartFlaw line span None = IsWhole (chars (bytes_in line span))
+FindsPartFlaw line span None = IsMeaningful (chars (bytes_in line span))
 FindsPartFlaw line span (Some (at, how)) = IsPartFlaw line span at how
 
 -- So it is of the key of a pair.
@@ -265,35 +265,35 @@ FindsFlaw line (Some (at, how)) = IsLineFlaw line at how
 -- The first malformed escape of that group, whose backslash comes before the cut.
 pub record IsFlawOf (view : Walk) (flaw : FoundFlaw) : Type 0 where
   pub count : ℕ
-  pub has_flaw : HasFlaw (split_of (text_in view)) (counts_of (text_in view)) (malformed_in flaw.how) count
+  pub has_flaw : HasFlaw (split_of (walked_text view)) (counts_of (walked_text view)) (malformed_in flaw.how) count
   pub place : flaw.place + 1 ≡ view.before.at + cut_size (cut_in view (count + 1))
   pub number : flaw.number ≡ view.before.passed + (cut_in view (count + 1)).line
   pub column : flaw.column ≡ (cut_in view (count + 1)).head
   pub from_one : 1 ≤ flaw.column
   pub meant : IsMeant view (count + 1)
 
-abbrev pub TellsFlaw : Walk → Option FoundFlaw → Type 0
-TellsFlaw view None = HasNoFlaw (split_of (text_in view))
-TellsFlaw view (Some flaw) = IsFlawOf view flaw
+abbrev pub TellsFoundFlaw : Walk → Option FoundFlaw → Type 0
+TellsFoundFlaw view None = HasNoFlaw (split_of (walked_text view))
+TellsFoundFlaw view (Some flaw) = IsFlawOf view flaw
 
 -- ---- ill-formed lines
 
 -- All of the lines are text of the encoding,
-abbrev pub AreTexts : Encoding → List HeldLine → Type 0
-AreTexts e [] = Unit {0}
-AreTexts e (h ∷ hs) = IsLineIn e h.bytes × AreTexts e hs
+abbrev pub AreLinesIn : Encoding → List HeldLine → Type 0
+AreLinesIn e [] = Unit {0}
+AreLinesIn e (h ∷ hs) = IsLineIn e h.bytes × AreLinesIn e hs
 
 -- or the first that isn't is the one with this number, counted from 1.
-pub record IsFirstIllFormed (e : Encoding) (lines : List HeldLine) (number : ℕ) : Type 0 where
+pub record IsFirstIllFormedLine (e : Encoding) (lines : List HeldLine) (number : ℕ) : Type 0 where
   pub kept : List HeldLine
   pub line : HeldLine
   pub more : List HeldLine
   pub division : lines ≡ kept ++ line ∷ more
-  pub texts : AreTexts e kept
+  pub texts : AreLinesIn e kept
   pub ill_formed : ¬ (IsLineIn e line.bytes)
   pub is_number : number ≡ length kept + 1
 
-abbrev pub TellsIllFormed : Walk → Option ℕ → Type 0
-TellsIllFormed view None = AreTexts (encoding_of view.before.encoding) (lines_of view)
-TellsIllFormed view (Some number) =
-    (n : ℕ) × (number ≡ view.before.passed + n) × IsFirstIllFormed (encoding_of view.before.encoding) (lines_of view) n
+abbrev pub TellsIllFormedLine : Walk → Option ℕ → Type 0
+TellsIllFormedLine view None = AreLinesIn (encoding_of view.before.encoding) (walked_lines view)
+TellsIllFormedLine view (Some number) =
+    (n : ℕ) × (number ≡ view.before.passed + n) × IsFirstIllFormedLine (encoding_of view.before.encoding) (walked_lines view) n

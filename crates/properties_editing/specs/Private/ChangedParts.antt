@@ -16,7 +16,7 @@ use Rattle.properties_editing.specs.declared.parts.Part.{Part}
 use Rattle.properties_editing.specs.declared.parts.KeyPlaces.{KeyPlaces}
 use Rattle.properties_editing.specs.declared.parts.NamedKeys.{NamedKeys}
 use Rattle.properties_editing.specs.declared.parts.Parts.{Parts}
-use Rattle.properties_editing.specs.Private.BodyParts.{HasPlaceAdded, ended_bytes, is_named, no_part, places_of, stored_of, text_bytes, value_of}
+use Rattle.properties_editing.specs.Private.BodyParts.{HasPlaceAdded, ended_bytes, is_named, no_part, places_of, stored_of, part_text_bytes, value_of}
 
 -- the last of some places
 abbrev pub last_place : List ℕ → Option ℕ
@@ -30,8 +30,8 @@ key_place keys key = last_place (places_of (stored_of keys.places.entries key))
 -- ---- a part gets other bytes
 
 -- a part with these bytes
-abbrev pub with_bytes : Vec ℕ → Part → Part
-with_bytes bytes p = record { text = text.Own bytes; ending = p.ending; kind = p.kind }
+abbrev pub part_with_bytes : Vec ℕ → Part → Part
+part_with_bytes bytes p = record { text = text.Own bytes; ending = p.ending; kind = p.kind }
 
 abbrev pub with_value : String Global → KeyPlaces → KeyPlaces
 with_value value p = record { places = p.places; value = value }
@@ -43,7 +43,7 @@ closing_after_new None old = closing.OneEnding
 closing_after_new (Some ending) old = old
 
 -- The last pair with a key has another value.
-pub record HasValue (key : List ℕ) (value : String Global) (old new : NamedKeys) : Type 0 where
+pub record HasNewValue (key : List ℕ) (value : String Global) (old new : NamedKeys) : Type 0 where
   pub stored : (k : List ℕ) → stored_of new.places.entries k
       ≡ update bytes_eq (stored_of old.places.entries) key (option_map (with_value value) (stored_of old.places.entries key)) k
   pub ordered : IsOrdered string_cmp new.places
@@ -52,8 +52,8 @@ pub record HasValue (key : List ℕ) (value : String Global) (old new : NamedKey
 -- The part in a place has other bytes, and the key another value.
 pub record HasBytes (place : ℕ) (key : List ℕ) (bytes : Vec ℕ) (value : String Global) (old new : Parts) : Type 0 where
   pub parts : new.parts.items
-      ≡ take place old.parts.items ++ with_bytes bytes (get_or old.parts.items place no_part) ∷ drop (place + 1) old.parts.items
-  pub keys : HasValue key value old.keys new.keys
+      ≡ take place old.parts.items ++ part_with_bytes bytes (get_or old.parts.items place no_part) ∷ drop (place + 1) old.parts.items
+  pub keys : HasNewValue key value old.keys new.keys
   pub closing : new.closing ≡ closing_after_new (get_or old.parts.items place no_part).ending old.closing
 
 -- ---- a pair is added behind the parts
@@ -73,7 +73,7 @@ is_pair (kind.Others last) = false
 
 -- its bytes, where `opened` ends a line that is left open
 abbrev pub closed_bytes : List ℕ → List ℕ → LineEnding → Part → List ℕ
-closed_bytes d opened by p = text_bytes d p.text ++ (opened ++ (ended_bytes (if is_pair p.kind then None else Some by)))
+closed_bytes d opened by p = part_text_bytes d p.text ++ (opened ++ (ended_bytes (if is_pair p.kind then None else Some by)))
 
 pub record ClosesPart (d opened : List ℕ) (by : LineEnding) (old new : Part) : Type 0 where
   pub bytes : Vec ℕ
@@ -103,7 +103,7 @@ with_last (Some p) (q ∷ r ∷ qs) = q ∷ with_last (Some p) (r ∷ qs)
 with_last p qs = qs
 
 -- The keys have the same places and values.
-pub record AreKept (old new : NamedKeys) : Type 0 where
+pub record AreKeysKept (old new : NamedKeys) : Type 0 where
   pub places : (k : List ℕ) → places_of (stored_of new.places.entries k) ≡ places_of (stored_of old.places.entries k)
   pub values : (k : List ℕ) → value_of (stored_of new.places.entries k) ≡ value_of (stored_of old.places.entries k)
   pub named : (k : List ℕ) → is_named new k ≡ is_named old k
@@ -121,7 +121,7 @@ pub record HasAdded (d : List ℕ) (key value : List ℕ) (by : LineEnding) (byt
 -- Nothing changed.
 pub record IsAsBefore (old new : Parts) : Type 0 where
   pub parts : new.parts.items ≡ old.parts.items
-  pub keys : AreKept old.keys new.keys
+  pub keys : AreKeysKept old.keys new.keys
   pub closing : new.closing ≡ old.closing
 
 -- A pair was added; or memory ran out, and nothing changed if the key is new.

@@ -13,13 +13,13 @@ use Rattle.properties_editing.specs.Private.BodyValues.{IsGroupAlone}
 use Rattle.properties_editing.specs.Private.PartBounds.{AreBounds}
 use Rattle.properties_editing.specs.Private.SourceParts.{empty_front, lf_if}
 use Rattle.properties_editing.specs.Private.Sound.{AreSound}
-use Rattle.properties_editing.specs.Private.Sources.{IsInForce}
+use Rattle.properties_editing.specs.Private.Sources.{IsBodyStartOf}
 use Rattle.properties_editing.specs.declared.parts.source_parts.SourceParts.{SourceParts}
 
 -- A source has these bytes. It was read as the other, and the parts stand for the groups behind its mark, and behind
 -- the LF that guards them, if there is one.
 pub record StandForSource (r : Repertoire) (read now : List ℕ) (named : List ℕ → Bool) (gs : List (List HeldLine)) (p : SourceParts) : Type 0 where
-  pub in_force : IsInForce now r p.opened
+  pub in_force : IsBodyStartOf now r p.opened
   pub within : p.opened.start ≤ length read
   pub mark : take p.opened.start now ≡ take p.opened.start read
   pub body : drop p.opened.start now ≡ lf_if p.guarded ++ groups_bytes gs

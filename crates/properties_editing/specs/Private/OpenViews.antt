@@ -4,7 +4,7 @@ use Rattle.properties_format.specs.Body.{HeldLine}
 use Rattle.properties_text.specs.Encoding.{encoding_of}
 use Rattle.properties_lines.specs.declared.scanner.Scanner.{Scanner}
 use Rattle.properties_editing.specs.Views.{OpenView, with_bytes}
-use Rattle.properties_editing.specs.Private.BodyViews.{IsOpened, IsViewed, groups_to_come, lines_of}
+use Rattle.properties_editing.specs.Private.BodyViews.{IsOpened, IsViewed, groups_to_come, walked_lines}
 use Rattle.properties_editing.specs.declared.view.View.TheInside.{Inside}
 use Rattle.properties_editing.specs.declared.walk.WalkedGroup.{WalkedGroup}
 use Rattle.properties_editing.specs.declared.walk.Walk.{Walk}
@@ -16,7 +16,7 @@ state_of (Some group) walk = walk.before
 
 abbrev pub group_of : Option WalkedGroup → Walk → List HeldLine
 group_of None walk = []
-group_of (Some group) walk = lines_of walk
+group_of (Some group) walk = walked_lines walk
 
 abbrev pub open_view : Inside → OpenView
 open_view v =

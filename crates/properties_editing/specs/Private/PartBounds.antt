@@ -6,20 +6,20 @@ use Rattle.properties_editing.specs.declared.parts.Bounds.{Bounds}
 use Rattle.properties_editing.specs.Private.BodyParts.{is_empty_part, no_part, without_lf}
 
 -- The part has no LF at its front that could go.
-abbrev pub IsPlain : List ℕ → Part → Type 0
-IsPlain d p = without_lf d p ≡ p
+abbrev pub IsWithoutLf : List ℕ → Part → Type 0
+IsWithoutLf d p = without_lf d p ≡ p
 
 -- No part from this place on has.
 abbrev pub ArePlainFrom : List ℕ → ℕ → List Part → Type 0
-ArePlainFrom d n ps = (i : ℕ) → n ≤ i → IsPlain d (get_or ps i no_part)
+ArePlainFrom d n ps = (i : ℕ) → n ≤ i → IsWithoutLf d (get_or ps i no_part)
 
 -- The part has no pair.
-abbrev pub HasNoPair : Part → Type 0
-HasNoPair p = p.kind ≡ kind.Others None
+abbrev pub IsPairless : Part → Type 0
+IsPairless p = p.kind ≡ kind.Others None
 
 -- No part from one place up to another has.
 abbrev pub HaveNoPair : ℕ → ℕ → List Part → Type 0
-HaveNoPair n end ps = (i : ℕ) → n ≤ i → i < end → HasNoPair (get_or ps i no_part)
+HaveNoPair n end ps = (i : ℕ) → n ≤ i → i < end → IsPairless (get_or ps i no_part)
 
 -- No part from this place on has a pair.
 abbrev pub AreBehindPairs : ℕ → List Part → Type 0

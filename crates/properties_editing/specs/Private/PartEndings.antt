@@ -11,7 +11,7 @@ use Rattle.properties_editing.specs.declared.parts.PartKind.{PartKind}
 use Rattle.properties_editing.specs.declared.parts.PartKind.TheVariants as kind
 use Rattle.properties_editing.specs.declared.parts.Part.{Part}
 use Rattle.properties_editing.specs.declared.parts.endings.FoundEnding.{FoundEnding}
-use Rattle.properties_editing.specs.Private.BodyParts.{IsLastWithin, IsTextWithin, bytes_in, no_part, part_bytes, text_bytes}
+use Rattle.properties_editing.specs.Private.BodyParts.{IsLastWithin, IsTextWithin, part_span_bytes, no_part, part_bytes, part_text_bytes}
 
 -- what the last part has of which this is something
 abbrev pub last_some : {X : Type 0} → (Part → Option X) → List Part → Option X
@@ -21,20 +21,20 @@ last_some f (p ∷ ps) = option_or (last_some f ps) (f p)
 -- ---- the last pair
 
 abbrev pub kind_pair : List ℕ → Part → PartKind → Option (List ℕ)
-kind_pair d p kind.Pair = Some (text_bytes d p.text)
-kind_pair d p (kind.Others last) = option_map (bytes_in d p.text) last
+kind_pair d p kind.Pair = Some (part_text_bytes d p.text)
+kind_pair d p (kind.Others last) = option_map (part_span_bytes d p.text) last
 
 -- the last pair of a part, whatever its key
 abbrev pub part_pair : List ℕ → Part → Option (List ℕ)
 part_pair d p = kind_pair d p p.kind
 
-abbrev pub last_of : PartKind → Option BodySpan
-last_of kind.Pair = None
-last_of (kind.Others last) = last
+abbrev pub last_span : PartKind → Option BodySpan
+last_span kind.Pair = None
+last_span (kind.Others last) = last
 
 -- The spans of a part are in the bytes.
 abbrev pub IsPartWithin : List ℕ → Part → Type 0
-IsPartWithin d p = IsTextWithin d p.text × IsLastWithin d p.text (last_of p.kind)
+IsPartWithin d p = IsTextWithin d p.text × IsLastWithin d p.text (last_span p.kind)
 
 abbrev pub ArePartsWithin : List ℕ → List Part → Type 0
 ArePartsWithin d [] = Unit {0}

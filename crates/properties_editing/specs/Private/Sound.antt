@@ -6,7 +6,7 @@ use Rattle.properties_format.specs.Lines.{joined}
 use Rattle.properties_format.specs.Body.{HeldLine, as_lines, held_in}
 use Rattle.properties_format.specs.Edited.{EditResult, edited, unsupported, is_editable, IsEditResult}
 use Rattle.properties_format.specs.Edits.{IsPairsResult}
-use Rattle.properties_format.specs.Computed.Edited.{IsSound}
+use Rattle.properties_format.specs.Computed.Edited.{IsSoundOutcome}
 use Rattle.properties_format.specs.Computed.Items.{outcome_of}
 pub use Rattle.properties_editing.specs.Comments.{passes_over}
 use Rattle.properties_editing.specs.Editing.{IsRefusal}
@@ -19,7 +19,7 @@ use Rattle.properties_items.specs.declared.error.ErrorKind.TheVariants as kind
 
 -- Nothing in the logical line is malformed, or it is passed over.
 abbrev pub IsSoundFor : Comments → List ℕ → Type 0
-IsSoundFor comments x = IsSound (outcome_of x) ⊎ (passes_over comments x ≡ true)
+IsSoundFor comments x = IsSoundOutcome (outcome_of x) ⊎ (passes_over comments x ≡ true)
 
 -- All groups make such lines,
 abbrev pub AreSoundFor : Comments → List (List HeldLine) → Type 0

@@ -20,8 +20,8 @@ use Rattle.properties_format.specs.Edits.{Edit, put, remove, set_value}
 abbrev pub used_in : BodyStart → Repertoire
 used_in opened = record { encoding = encoding_of opened.encoding; characters = characters_for opened.ascii_only opened.latin_1 }
 
-abbrev pub printed_in : BodyStart → Repertoire
-printed_in opened = in_encoding (used_in opened) (format.output_encoding (encoding_of opened.encoding))
+abbrev pub printed_repertoire : BodyStart → Repertoire
+printed_repertoire opened = in_encoding (used_in opened) (format.output_encoding (encoding_of opened.encoding))
 
 -- an edit by texts that its caller keeps
 abbrev pub borrowed_edit_in : BorrowedEdit → Edit
@@ -31,7 +31,7 @@ borrowed_edit_in (SetValue key value) = set_value (chars key.now) (chars value.n
 
 -- A source is opened for texts of this repertoire. Its body starts at this position and has this encoding, which can be
 -- edited: that of the byte order mark, or else that of the repertoire.
-pub record IsInForce (source : List ℕ) (r : Repertoire) (opened : BodyStart) : Type 0 where
+pub record IsBodyStartOf (source : List ℕ) (r : Repertoire) (opened : BodyStart) : Type 0 where
   pub in_force : format.byte_order_mark r.encoding source ≡ record { encoding = encoding_of opened.encoding; body = drop opened.start source }
   pub within : opened.start ≤ length source
   pub characters : characters_for opened.ascii_only opened.latin_1 ≡ r.characters
@@ -39,7 +39,7 @@ pub record IsInForce (source : List ℕ) (r : Repertoire) (opened : BodyStart) :
 
 -- A source was opened so; or its encoding can't be edited.
 abbrev pub OpensSource : List ℕ → Repertoire → Result BodyStart PropertiesError → Type 0
-OpensSource source r (Ok opened) = IsInForce source r opened
+OpensSource source r (Ok opened) = IsBodyStartOf source r opened
 OpensSource source r (Err error) = (is_editable (format.byte_order_mark r.encoding source).encoding ≡ false) × IsBareError kind.Unsupported error
 
 -- Keys and values are printed in the first repertoire as in the second.

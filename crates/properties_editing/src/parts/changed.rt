@@ -4,7 +4,7 @@ ghost use Rattle.std.specs.Prelude.{◌≡◌, ◌<◌, get_or, length, vec_capa
 ghost use Rattle.std.specs.BTreeMap.{IsOrdered};
 ghost use Rattle.std.specs.String.{string_cmp};
 ghost use Rattle.std.specs.Str.{chars};
-ghost use Rattle.properties_editing.specs.Private.BodyParts.{AreTextsWithin, IsTextWithin, no_part, text_bytes};
+ghost use Rattle.properties_editing.specs.Private.BodyParts.{AreTextsWithin, IsTextWithin, no_part, part_text_bytes};
 ghost use Rattle.properties_editing.specs.Private.ChangedParts.{AddsPair, ClosesLast, ClosesPart, HasBytes, closing_after_new, key_place, last_place, with_last};
 
 use super::{Part, PartKind, PartText, Parts, bytes_of};
@@ -26,7 +26,7 @@ impl Parts {
     pub fn text<'a>(&'a self, body: &'a [u8], place: usize) -> &'a [u8]
         requires place { place < length self.now.parts.items }
         requires within { AreTextsWithin body.now self.now.parts.items }
-        ensures { result.now ≡ text_bytes body.now (get_or self.now.parts.items place no_part).text }
+        ensures { result.now ≡ part_text_bytes body.now (get_or self.now.parts.items place no_part).text }
     {
         bytes_of(body, &self.parts[place].text)
     }

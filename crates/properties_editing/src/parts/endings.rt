@@ -3,7 +3,7 @@
 ghost use Rattle.std.specs.Prelude.{◌≡◌, false, ◌≤◌, ◌-◌, ◌++◌, ◌∷◌, [], length, take, None, Some};
 ghost use Rattle.std.specs.Option.{option_map};
 ghost use Rattle.properties_format.specs.Text.{is_empty, line_ending_text, line_feed};
-ghost use Rattle.properties_editing.specs.Private.BodyParts.{AreTextsWithin, IsTextWithin, bytes_in, part_bytes, parts_bytes};
+ghost use Rattle.properties_editing.specs.Private.BodyParts.{AreTextsWithin, IsTextWithin, part_span_bytes, part_bytes, parts_bytes};
 ghost use Rattle.properties_editing.specs.Private.PartBounds.{AreBehindPairs};
 ghost use Rattle.properties_editing.specs.Private.PartEndings.{ArePartsWithin, FindsEnding, HaveNoBytes, IsEndingIn, IsPartWithin, cr_end, last_some, part_cr_end, part_pair};
 ghost use Rattle.properties_editing.specs.Private.BodyValues.{IsLastEnding};

@@ -1,7 +1,7 @@
 // The keys of parts, in order.
 
 ghost use Rattle.std.specs.Prelude.{◌≡◌, IfOk, slice_get};
-ghost use Rattle.properties_editing.specs.Private.BodyParts.{places_in};
+ghost use Rattle.properties_editing.specs.Private.BodyParts.{listed_places};
 ghost use Rattle.properties_editing.specs.Private.KeyOrder.{AreKeysAt, HasKeysOf, HavePlaces};
 
 use super::{KeyPlaces, Parts};
@@ -41,7 +41,7 @@ impl Parts {
 impl KeyPlaces {
     // Returns the place of the first pair.
     fn first_place(&self) -> Option<usize>
-        ensures { result ≡ slice_get (places_in self.now) 0 }
+        ensures { result ≡ slice_get (listed_places self.now) 0 }
     {
         match &self.places {
             Some(places) => match places.earlier.first() {

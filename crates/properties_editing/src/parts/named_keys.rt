@@ -4,8 +4,8 @@ ghost use Rattle.std.specs.Prelude.{◌≡◌, ℕ, List, ◌^◌, ◌%◌, fals
 ghost use Rattle.std.specs.BTreeMap.{IsOrdered};
 ghost use Rattle.std.specs.String.{string_cmp};
 ghost use Rattle.std.specs.Str.{chars};
-ghost use Rattle.properties_editing.specs.Private.BodyParts.{AddsPlace, AreMasked, AreUnplaced, HasPlaceAdded, NamesKey, MayHave, is_named, places_in};
-ghost use Rattle.properties_editing.specs.Private.ChangedParts.{AreKept, HasValue, key_place, last_place};
+ghost use Rattle.properties_editing.specs.Private.BodyParts.{AddsPlace, AreMasked, AreUnplaced, HasPlaceAdded, NamesKey, MayHave, is_named, listed_places};
+ghost use Rattle.properties_editing.specs.Private.ChangedParts.{AreKeysKept, HasNewValue, key_place, last_place};
 
 use super::{KeyPlaces, NamedKeys, Places};
 use std::alloc::{AllocError, Global};
@@ -15,7 +15,7 @@ use std::collections::btree_map::Entry;
 impl KeyPlaces {
     // Adds a place behind the others.
     fn add(&mut self, alloc: Global, place: usize) -> Result<(), AllocError>
-        ensures places { OnOk result (places_in self.new ≡ places_in self.old ++ place ∷ []) }
+        ensures places { OnOk result (listed_places self.new ≡ listed_places self.old ++ place ∷ []) }
         ensures first { self.old.places ≡ None → IsOk result }
         ensures value { self.new.value ≡ self.old.value }
     {
@@ -34,7 +34,7 @@ impl KeyPlaces {
     /// Returns the place of the last pair.
     #[tactic(auto, using(crate::proofs::PartLists::last_pushed))]
     pub fn last_place(&self) -> Option<usize>
-        ensures { result ≡ last_place (places_in self.now) }
+        ensures { result ≡ last_place (listed_places self.now) }
     {
         match &self.places {
             Some(places) => Some(places.last),
@@ -125,7 +125,7 @@ impl NamedKeys {
     ) -> Result<(), AllocError>
         requires { IsOrdered string_cmp self.old.places }
         ensures added { OnOk result (HasPlaceAdded (chars key.now) (chars value.now) place self.old self.new) }
-        ensures kept { OnErr result (key_place self.old (chars key.now) ≡ None → AreKept self.old self.new) }
+        ensures kept { OnErr result (key_place self.old (chars key.now) ≡ None → AreKeysKept self.old self.new) }
     {
         let key = String::from_str(alloc, key)?;
         let value = String::from_str(alloc, value)?;
@@ -151,7 +151,7 @@ impl NamedKeys {
     /// Gives the last pair with a key another value.
     pub fn set_value(&mut self, key: &str, value: String)
         requires { IsOrdered string_cmp self.old.places }
-        ensures { HasValue (chars key.now) value self.old self.new }
+        ensures { HasNewValue (chars key.now) value self.old self.new }
     {
         if let Some(places) = self.places.get_mut(key) {
             places.value = value;

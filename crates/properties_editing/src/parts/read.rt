@@ -5,7 +5,7 @@ ghost use Rattle.std.specs.Option.{option_or};
 ghost use Rattle.std.specs.BTreeMap.{IsOrdered};
 ghost use Rattle.std.specs.String.{string_cmp};
 ghost use Rattle.std.specs.Str.{chars};
-ghost use Rattle.properties_editing.specs.Private.BodyParts.{AddsTold, AreMasked, AreUnplaced, ClosesGap, ReadsGroup, ReadsParts, ending_read, gap_with, no_gap, others_part};
+ghost use Rattle.properties_editing.specs.Private.BodyParts.{AddsTold, AreMasked, AreUnplaced, ClosesGap, ReadsGroupParts, ReadsParts, ending_read, gap_with, no_gap, others_part};
 ghost use Rattle.properties_text.specs.Encoding.{encoding_of};
 ghost use Rattle.properties_lines.specs.LineSearch.{unit_size};
 
@@ -116,7 +116,7 @@ impl Parts {
         requires masked { AreMasked self.old.keys }
         requires within { group.end ≤ next }
         requires within_body { next ≤ length body.now }
-        ensures { ReadsGroup comments body.now line.now group next gap self.old result self.new }
+        ensures { ReadsGroupParts comments body.now line.now group next gap self.old result self.new }
     {
         if comments.are_passed_over(line) {
             return Ok(gap.with_group(group.start, None));

@@ -7,10 +7,10 @@ ghost use Rattle.std.specs.Str.{chars};
 ghost use Rattle.properties_format.specs.Encoding.{begins_like_bom};
 ghost use Rattle.properties_text.specs.Encoding.{encoding_of};
 ghost use Rattle.properties_lines.specs.LineSearch.{unit_size};
-ghost use Rattle.properties_editing.specs.Private.BodyParts.{AreTextsWithin, AreUnplaced, IsTextWithin, part_bytes, parts_bytes, text_bytes};
-ghost use Rattle.properties_editing.specs.Private.PartBounds.{AreBehindPairs, AreBounds, AreBoundsIn, AreEmpty, ArePlainFrom, HasNoPair, HaveNoPair, IsPlain};
+ghost use Rattle.properties_editing.specs.Private.BodyParts.{AreTextsWithin, AreUnplaced, IsTextWithin, part_bytes, parts_bytes, part_text_bytes};
+ghost use Rattle.properties_editing.specs.Private.PartBounds.{AreBehindPairs, AreBounds, AreBoundsIn, AreEmpty, ArePlainFrom, IsPairless, HaveNoPair, IsWithoutLf};
 ghost use Rattle.properties_editing.specs.Private.RemovedParts.{AreBelow, key_places};
-ghost use Rattle.properties_editing.specs.Private.SourceParts.{GuardsParts, ReadsSource, RemovesKey, empty_front, first_text, source_bytes};
+ghost use Rattle.properties_editing.specs.Private.SourceParts.{GuardsParts, ReadsSourceParts, RemovesKeyFromParts, empty_front, first_text, source_bytes};
 
 use super::{Bounds, EmptyRun, NamedKeys, Part, PartKind, PartText, Parts, bytes_of, is_empty};
 use crate::source::{BodyStart, Comments};
@@ -46,7 +46,7 @@ impl SourceParts {
     ) -> Result<SourceParts, PropertiesError>
         requires bytes { unit_size (encoding_of opened.encoding) ≡ 1 }
         requires unplaced { AreUnplaced keys }
-        ensures { ReadsSource comments opened body.now keys result }
+        ensures { ReadsSourceParts comments opened body.now keys result }
     {
         let parts = Parts::read(alloc, opened.encoding, comments, body, keys)?;
         let empty = first_some(&parts.parts, 0);
@@ -80,7 +80,7 @@ impl SourceParts {
         requires places { AreBelow (length self.old.parts.parts.items) (key_places self.old.parts (chars key.now)) }
         requires front { self.old.empty ≡ empty_front self.old.parts.parts.items }
         requires bounds { AreBounds body.now self.old.bounds self.old.parts.parts.items }
-        ensures { RemovesKey body.now (chars key.now) self.old result self.new }
+        ensures { RemovesKeyFromParts body.now (chars key.now) self.old result self.new }
     {
         self.bounds.feeds = feeds_end(body, &self.parts.parts, self.bounds.feeds);
         let feeds = self.bounds.feeds;
@@ -190,7 +190,7 @@ fn feeds_end(body: &[u8], parts: &Vec<Part>, end: usize) -> usize
 // Returns whether a part begins with an LF that could go.
 fn begins_with_line_feed(body: &[u8], part: &Part) -> bool
     requires { IsTextWithin body.now part.now.text }
-    ensures { result ≡ false → IsPlain body.now part.now }
+    ensures { result ≡ false → IsWithoutLf body.now part.now }
 {
     match &part.text {
         PartText::Span(span) => span.start < span.end && body[span.start] == b'\n',
@@ -238,7 +238,7 @@ fn empty_before(parts: &Vec<Part>, start: usize, end: usize) -> usize
 
 // Returns whether a part has no pair.
 fn has_no_pair(part: &Part) -> bool
-    ensures { result ≡ true → HasNoPair part.now }
+    ensures { result ≡ true → IsPairless part.now }
 {
     match part.kind {
         PartKind::Others(None) => true,

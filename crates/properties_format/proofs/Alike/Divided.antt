@@ -4,7 +4,7 @@ use Rattle.std.specs.Prelude.{if◌then◌else◌}
 use Rattle.std.proofs.lemmas.Bool.{cases_Bool}
 use Rattle.properties_format.specs.Text.{backslash, is_blank, is_comment_sign, is_separator}
 use Rattle.properties_format.specs.Split.{Logical, blank, comment, pair}
-use Rattle.properties_format.specs.Computed.Split.{without_trailing_blanks, unless_last_blank, Cut, with_front, ends_key, cut_key, past_separator, pair_of, split_full, split_of}
+use Rattle.properties_format.specs.Computed.Split.{without_trailing_blanks, unless_last_blank, KeyCut, with_front, ends_key, cut_key, past_separator, pair_of, split_full, split_of}
 use Rattle.properties_format.specs.Escapes.{letter_u, Spelling, itself, escaped, unicode, surrogates, last, spelling_text, spelling_character, Four, are_hexadecimal, four_text}
 use Rattle.properties_format.proofs.Escapes.Laws.{IsWhole}
 use Rattle.properties_format.proofs.Escapes.Digits.{digits}
@@ -66,7 +66,7 @@ pub record CutParts : Type 0 where
   pub key : List Part
   pub rest : List Part
 
-abbrev pub cut_on : Bool → CutParts → Cut
+abbrev pub cut_on : Bool → CutParts → KeyCut
 cut_on side cut = record { key = text side cut.key; rest = text side cut.rest }
 
 abbrev pub part_in_front : Part → CutParts → CutParts
@@ -80,7 +80,7 @@ cut_parts (past p q ∷ ps) = part_in_front (past p q) (cut_parts ps)
 cut_parts (lone ∷ ps) = part_in_front lone (cut_parts ps)
 
 -- the key with a text at its front
-abbrev with_text : List ℕ → Cut → Cut
+abbrev with_text : List ℕ → KeyCut → KeyCut
 with_text x cut = record { key = x ++ cut.key; rest = cut.rest }
 
 plain-key : (c : ℕ) (y : List ℕ) → (c == backslash) ≡ false → ends_key c ≡ false → cut_key (c ∷ y) false ≡ with_front c (cut_key y false)

@@ -1,7 +1,7 @@
 -- In an encoding that can be edited, a CR or an LF is one byte, so the lines of undecoded bytes are those of a text
 -- with these numbers.
 use Rattle.std.proofs.Common.{◌≡◌, ℕ, true, List, [], ap, arith}
-use Rattle.properties_format.specs.Text.{characters}
+use Rattle.properties_format.specs.Text.{piece_characters}
 use Rattle.properties_format.specs.Encoding.{Encoding}
 use Rattle.properties_format.specs.Lines.{Lines, HoldsNoLineEnding, IsLines}
 use Rattle.properties_format.specs.Computed.Lines.{lines_of}
@@ -15,7 +15,7 @@ use Rattle.properties_format.proofs.Cut.Byline.{no_end-undecoded}
 
 -- No bytes decode to an empty text.
 pub decoded-nil : (e : Encoding) → decoded_line e [] ≡ []
-decoded-nil e = ap characters (pieces_of-nil e)
+decoded-nil e = ap piece_characters (pieces_of-nil e)
 
 -- If a text contains no line ending, its bytes contain none.
 pub plain-bytes : (e : Encoding) (d : List ℕ) → is_editable e ≡ true → HoldsNoLineEnding (decoded_line e d) → HoldsNoLineEnding d

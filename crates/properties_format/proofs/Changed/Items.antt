@@ -7,7 +7,7 @@ use Rattle.properties_format.specs.Computed.Items.{outcome_of, items_of}
 use Rattle.properties_format.specs.Body.{HeldLine, as_groups}
 use Rattle.properties_format.specs.Changed.{contents}
 use Rattle.properties_format.specs.Computed.Body.{held_groups_of}
-use Rattle.properties_format.specs.Computed.Edited.{IsSound}
+use Rattle.properties_format.specs.Computed.Edited.{IsSoundOutcome}
 use Rattle.properties_format.proofs.Body.Numbers.{items_of-groups, entries_in}
 use Rattle.properties_format.proofs.Changed.Contents.{contents_among}
 use Rattle.properties_format.proofs.Edited.Fronts.{logical_lines}
@@ -15,7 +15,7 @@ use Rattle.properties_format.proofs.Edits.Lines.{OfEach, logical_lines_of}
 
 -- Nothing in the line is malformed.
 abbrev pub IsSoundLine : List ℕ → Type 0
-IsSoundLine x = IsSound (outcome_of x)
+IsSoundLine x = IsSoundOutcome (outcome_of x)
 
 -- ---- groups
 

@@ -4,7 +4,7 @@ use Rattle.properties_format.specs.Encoding.{Encoding, byte_order_mark, Repertoi
 use Rattle.properties_format.specs.Lines.{end}
 use Rattle.properties_format.specs.Items.{Content, pair, AreItems, given}
 use Rattle.properties_format.specs.Computed.Items.{items_of}
-use Rattle.properties_format.specs.Computed.Edited.{IsSound}
+use Rattle.properties_format.specs.Computed.Edited.{IsSoundOutcome}
 use Rattle.properties_format.specs.Edited.{is_editable}
 use Rattle.properties_format.specs.Edits.{Edit, IsEdited, IsScalarEdit}
 use Rattle.properties_format.specs.Changed.{contents, IsEditedIn}
@@ -40,7 +40,7 @@ edit-contents t source edit result r k h =
     let new = logical_lines_of t.encoding result in
     let changed = edit-lines t source edit result r.editable k h in
     let was = source-sound t.encoding source r.no_fault in
-    let sound = edit-each IsSoundLine (λ x key value s. subst IsSound (outcome_of-only x (given (pair key value)) s) tt) edit old new changed was.0 in
+    let sound = edit-each IsSoundLine (λ x key value s. subst IsSoundOutcome (outcome_of-only x (given (pair key value)) s) tt) edit old new changed was.0 in
     let items = sound-source t.encoding result sound in
     record {
       readable = record { editable = edit-editable t source edit result r.editable h; no_fault = items };

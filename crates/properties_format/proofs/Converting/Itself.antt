@@ -5,12 +5,12 @@ use Rattle.std.specs.List.{AllByRecursion}
 use Rattle.std.proofs.lemmas.Bool.{cases_Bool}
 use Rattle.std.proofs.lemmas.List.{length-append, get_or-append-add}
 use Rattle.std.proofs.lemmas.List.Elements.{recursion_from_All}
-use Rattle.properties_format.specs.Text.{backslash, byte, characters}
+use Rattle.properties_format.specs.Text.{backslash, byte, piece_characters}
 use Rattle.properties_format.specs.Encoding.{Encoding, windows_1252, utf_8, one_byte, begins_like_bom, Repertoire, all_of}
 use Rattle.properties_format.specs.Printing.{may_be_unescaped, encoded_text}
 use Rattle.properties_format.specs.Escapes.{letter_u, is_hexadecimal, Four, four_text, are_hexadecimal, escaped_character, Spelling, itself, escaped, unicode, surrogates, last, spelling_text, spelling_character, NoSpelling}
 use Rattle.properties_format.specs.Computed.Encoding.{pieces_of, decoded_of}
-use Rattle.properties_format.specs.Computed.Cut.{characters_of}
+use Rattle.properties_format.specs.Computed.Cut.{windows_1252_characters}
 use Rattle.properties_format.proofs.AsciiOnly.{ascii-unmarked, ascii-of}
 use Rattle.properties_format.proofs.Encodings.ByteOrderMarks.{decoded_of-unmarked}
 use Rattle.properties_format.proofs.Encodings.Pieces.{decoded_of-meets, decoded_of-only}
@@ -82,7 +82,7 @@ utf_8-has : (x : List ℕ) → AllMay (all_of utf_8) x
 utf_8-has [] = tt
 utf_8-has (c ∷ x) = (refl, utf_8-has x)
 
-windows-has : (d : List ℕ) → AllByRecursion byte d → AllMay (all_of windows_1252) (characters_of d)
+windows-has : (d : List ℕ) → AllByRecursion byte d → AllMay (all_of windows_1252) (windows_1252_characters d)
 windows-has [] h = tt
 windows-has (b ∷ d) h = (ap (λ o. is_some (one_byte o)) (windows_1252_byte-character b h.0), windows-has d h.1)
 
@@ -101,8 +101,8 @@ ascii-is-itself e to source h own =
     let f : begins_like_bom source ≡ false = ap begins_like_bom (sym (encoded_text-ascii e source a)) ∙ ascii-unmarked e source a in
     let d : decoded_of e source ≡ source =
     decoded_of-unmarked e source f
-    ∙ ap (λ v. characters (pieces_of e v)) (sym (encoded_text-ascii e source a))
-    ∙ subst (λ v. characters (pieces_of v (encoded_text e source)) ≡ source) own (text-decoded e source (ascii-scalars source a) (AreEncodable-ascii e source a)) in
+    ∙ ap (λ v. piece_characters (pieces_of e v)) (sym (encoded_text-ascii e source a))
+    ∙ subst (λ v. piece_characters (pieces_of v (encoded_text e source)) ≡ source) own (text-decoded e source (ascii-scalars source a) (AreEncodable-ascii e source a)) in
     itself-converted e to source (subst (AllMay to) (sym d) (ascii-may to source a)) (sym (ap (encoded_text to.encoding) d ∙ encoded_text-ascii to.encoding source a)) f
 
 -- ---- texts
@@ -114,14 +114,14 @@ text-stays r x h = grind (arith, units_of-meets, converted_of-is, units-stay)
 pub utf_8-stays : (x : List ℕ) → converted_of (all_of utf_8) false x ≡ x
 utf_8-stays x = text-stays (all_of utf_8) x (utf_8-has x)
 
-pub windows-stays : (d : List ℕ) → All byte d → converted_of (all_of windows_1252) false (characters_of d) ≡ characters_of d
-windows-stays d h = text-stays (all_of windows_1252) (characters_of d) (windows-has d (recursion_from_All byte d h))
+pub windows-stays : (d : List ℕ) → All byte d → converted_of (all_of windows_1252) false (windows_1252_characters d) ≡ windows_1252_characters d
+windows-stays d h = text-stays (all_of windows_1252) (windows_1252_characters d) (windows-has d (recursion_from_All byte d h))
 
 -- The bytes of the characters of bytes.
-pub windows-bytes : (d : List ℕ) → All byte d → encoded_text windows_1252 (characters_of d) ≡ d
+pub windows-bytes : (d : List ℕ) → All byte d → encoded_text windows_1252 (windows_1252_characters d) ≡ d
 windows-bytes d h = bytes d (recursion_from_All byte d h)
   where
-    bytes : (d : List ℕ) → AllByRecursion byte d → encoded_text windows_1252 (characters_of d) ≡ d
+    bytes : (d : List ℕ) → AllByRecursion byte d → encoded_text windows_1252 (windows_1252_characters d) ≡ d
     bytes [] h = refl
     bytes (b ∷ d) h = ap₂ (λ o x. unwrap_or (one_byte o) [] ++ x) (windows_1252_byte-character b h.0) (bytes d h.1)
 

@@ -2,7 +2,7 @@
 -- the decoded text.
 use Rattle.std.proofs.Common.{◌≡◌, ℕ, ◌<◌, ◌⊎◌, true, List, [], ◌∷◌, ◌++◌, refl, ap, ap₂, sym, ◌∙◌, subst, inl, inr, append_assoc, arith}
 use Rattle.std.proofs.lemmas.Bool.{cases_Bool}
-use Rattle.properties_format.specs.Text.{is_line_ending, LineEnding, line_ending_text, characters}
+use Rattle.properties_format.specs.Text.{is_line_ending, LineEnding, line_ending_text, piece_characters}
 use Rattle.properties_format.specs.Lines.{Ended, Lines, put_together, HoldsNoLineEnding, BeginsWithNoLoneLf, AreLines, IsLines}
 use Rattle.properties_format.specs.Encoding.{Encoding, IsAligned, IsDecoded, byte_order_mark}
 use Rattle.properties_format.specs.Cut.{HoldsNoLineEndingUnit, line_ending_bytes, bytes_together, AreCut, IsCut, IsDecodedLine, AreDecodedLines, IsByline}
@@ -67,7 +67,7 @@ no_end-decoded e d h = grind (arith, first-end, cut-at_ascii, no_end_unit-at)
 -- Only an empty list of bytes decodes to an empty text.
 pub nothing-decoded : (e : Encoding) (d : List ℕ) → decoded_line e d ≡ [] → d ≡ []
 nothing-decoded e [] h = refl
-nothing-decoded e (b ∷ d) h = let k = ap characters (pieces_of-step e b d) in absurd (cc)
+nothing-decoded e (b ∷ d) h = let k = ap piece_characters (pieces_of-step e b d) in absurd (cc)
 
 -- If the first line of bytes isn't an empty one that an LF ends, neither is the first decoded line.
 no_lone-decoded : (e : Encoding) (ls : List Ended) → BeginsWithNoLoneLf ls → BeginsWithNoLoneLf (decoded_ended e ls)
@@ -112,7 +112,7 @@ decoded_line-meets e d = (pieces_of e d, pieces_of-meets e d, refl)
 
 -- They decode to no other text.
 pub decoded_line-only : (e : Encoding) (d x : List ℕ) → IsDecodedLine e d x → x ≡ decoded_line e d
-decoded_line-only e d x (ps, h, s) = s ∙ ap characters (pieces_of-only e d ps h)
+decoded_line-only e d x (ps, h, s) = s ∙ ap piece_characters (pieces_of-only e d ps h)
 
 -- Ended lines of bytes decode, one by one, to the computed lines.
 decoded_ended-meets : (e : Encoding) (ls : List Ended) → AreDecodedLines e ls (decoded_ended e ls)

@@ -6,7 +6,7 @@ use Rattle.properties_format.specs.Items.{pair, given}
 use Rattle.properties_format.specs.Computed.Items.{outcome_of}
 use Rattle.properties_format.specs.Body.{HeldLine, as_lines, as_groups, HasKey, NoneHasKey}
 use Rattle.properties_format.specs.Edited.{is_last_open, is_left_open}
-use Rattle.properties_format.specs.Valued.{HasPair}
+use Rattle.properties_format.specs.Valued.{HoldsPair}
 use Rattle.properties_format.specs.Changed.{NoneIsPair, AreLinesSet}
 use Rattle.properties_format.proofs.Lines.Plain.{ends_in_cr-append}
 use Rattle.properties_format.proofs.Groups.Steps.{closes-closed}
@@ -75,7 +75,7 @@ none-lines key (g ∷ gs) h = grind (arith, none-lines key gs h.1)
 
 -- If the last pair with a key has a value, or gets it, the other logical lines are unchanged.
 pub pair-lines : (before : List (List HeldLine)) (g h : List HeldLine) (after : List (List HeldLine)) (key value : List ℕ) → HasKey key g → NoneHasKey key after
-    → HasPair key value h → AreLinesSet key value (logical_lines (as_groups (before ++ g ∷ after))) (logical_lines (as_groups (before ++ h ∷ after)))
+    → HoldsPair key value h → AreLinesSet key value (logical_lines (as_groups (before ++ g ∷ after))) (logical_lines (as_groups (before ++ h ∷ after)))
 pair-lines before g h after key value k n p = inl (record {
   before = logical_lines (as_groups before);
   line = joined (as_lines g);

@@ -3,7 +3,7 @@ use Rattle.std.proofs.Common.{◌≡◌, ◌⊎◌, ℕ, true, cond, List, [], �
 use Rattle.std.specs.Prelude.{Option}
 use Rattle.std.proofs.lemmas.Bool.{cond_both}
 use Rattle.properties_format.specs.Text.{LineEnding, lf, line_feed}
-use Rattle.properties_format.specs.Encoding.{Encoding, windows_1252, utf_8, byte_order_mark, begins_like_bom, characters, ascii_in}
+use Rattle.properties_format.specs.Encoding.{Encoding, windows_1252, utf_8, byte_order_mark, begins_like_bom, piece_characters, ascii_in}
 use Rattle.properties_format.specs.Lines.{end}
 use Rattle.properties_format.specs.Computed.Encoding.{pieces_of, decoded_of}
 use Rattle.properties_format.specs.Computed.Items.{items_of}
@@ -188,8 +188,8 @@ puts-ascii_bytes source result h k = bytes-ascii result (ascii-beyond result (rw
 ascii-decoded : (e : Encoding) (x : List ℕ) → is_editable e ≡ true → AreAscii x → decoded_of e x ≡ x
 ascii-decoded e x ok h =
     decoded_of-unmarked e x (ap begins_like_bom (sym (encoded_text-ascii e x h)) ∙ ascii-unmarked e x h)
-    ∙ ap (λ v. characters (pieces_of e v)) (sym (encoded_text-ascii e x h))
-    ∙ subst (λ a. characters (pieces_of a (encoded_text e x)) ≡ x) (editable-own e ok) (text-decoded e x (ascii-scalars x h) (AreEncodable-ascii e x h))
+    ∙ ap (λ v. piece_characters (pieces_of e v)) (sym (encoded_text-ascii e x h))
+    ∙ subst (λ a. piece_characters (pieces_of a (encoded_text e x)) ≡ x) (editable-own e ok) (text-decoded e x (ascii-scalars x h) (AreEncodable-ascii e x h))
 
 -- So they have the same items in windows-1252 and in UTF-8.
 pub ascii-alike : (x : List ℕ) → AreAsciiBytes x → AreItemsInBoth x (items_of utf_8 x end)

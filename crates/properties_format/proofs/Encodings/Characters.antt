@@ -4,7 +4,7 @@ use Rattle.std.proofs.Common.{rules, ◌≡◌, ℕ, ◌<◌, true, false, List,
 use Rattle.std.specs.List.{AllByRecursion}
 use Rattle.std.proofs.lemmas.List.Elements.{recursion_from_All, All-nil, All-cons}
 use Rattle.std.proofs.lemmas.Option.{none-some, same_Some}
-use Rattle.properties_format.specs.Text.{byte, scalar, Piece, piece, characters}
+use Rattle.properties_format.specs.Text.{byte, scalar, Piece, piece, piece_characters}
 use Rattle.properties_format.specs.Windows1252.{windows_1252_byte}
 use Rattle.properties_format.specs.Utf16.{is_high, is_low, pair_character, low_first, high_first, plain}
 use Rattle.properties_format.specs.Encoding.{Encoding, windows_1252, utf_8, utf_16le, utf_16be, output_encoding, one_byte, encoded, IsPiece, IsPieces, ascii_bytes}
@@ -69,12 +69,12 @@ back-bytes [] ys h = h
 back-bytes (x ∷ xs) ys h = back-bytes xs ys h.1
 
 -- The characters of all pieces of bytes are scalar values.
-pieces-scalar : (e : Encoding) (d : List ℕ) (ps : List Piece) → IsPieces e d ps → AllByRecursion byte d → All scalar (characters ps)
+pieces-scalar : (e : Encoding) (d : List ℕ) (ps : List Piece) → IsPieces e d ps → AllByRecursion byte d → All scalar (piece_characters ps)
 pieces-scalar e d [] h l = All-nil scalar
 pieces-scalar e d (p ∷ ps) (rest, s, h, k) l =
     let m : AllByRecursion byte (p.bytes ++ rest) = rw s at l in
-    All-cons scalar p.character (characters ps) (search (rules, windows_1252-scalar)) (pieces-scalar e rest ps k (back-bytes p.bytes rest m))
+    All-cons scalar p.character (piece_characters ps) (search (rules, windows_1252-scalar)) (pieces-scalar e rest ps k (back-bytes p.bytes rest m))
 
 -- The characters of the computed pieces are scalar values.
-pub pieces_of-scalar : (e : Encoding) (d : List ℕ) → All byte d → All scalar (characters (pieces_of e d))
+pub pieces_of-scalar : (e : Encoding) (d : List ℕ) → All byte d → All scalar (piece_characters (pieces_of e d))
 pieces_of-scalar e d h = pieces-scalar e d (pieces_of e d) (pieces_of-meets e d) (recursion_from_All byte d h)

@@ -1,6 +1,6 @@
 -- Where bytes may be cut so that their pieces are the pieces of the parts.
 use Rattle.std.proofs.Common.{rules, ◌≡◌, ℕ, ◌<◌, List, [], ◌∷◌, ◌++◌, length, refl, sym, ap, ap₂, ◌∙◌, subst, arith, append_assoc, append-nil}
-use Rattle.properties_format.specs.Text.{Piece, piece, characters}
+use Rattle.properties_format.specs.Text.{Piece, piece, piece_characters}
 use Rattle.properties_format.specs.Encoding.{Encoding, IsPiece, IsPieces, IsAligned, ascii_bytes}
 use Rattle.properties_format.specs.Computed.Encoding.{pieces_of}
 use Rattle.properties_format.proofs.Encodings.Pieces.{pieces_of-meets, pieces_of-only}
@@ -66,7 +66,7 @@ pieces-cut e d (p ∷ ps) q qs (rest, s, h, k) =
 -- ---- A cut at an ASCII character, such as a line ending.
 
 -- The characters of two lists of pieces.
-pub characters-append : (ps qs : List Piece) → characters (ps ++ qs) ≡ characters ps ++ characters qs
+pub characters-append : (ps qs : List Piece) → piece_characters (ps ++ qs) ≡ piece_characters ps ++ piece_characters qs
 characters-append [] qs = refl
 characters-append (p ∷ ps) qs = ap (λ v. p.character ∷ v) (characters-append ps qs)
 
@@ -77,24 +77,24 @@ pieces_of-cut_ascii e c x y h a = simp (pieces_of-anew, ascii-anew, pieces_of-as
 
 -- They separate the characters before them from those after them.
 pub characters-cut_ascii : (e : Encoding) (c : ℕ) (x y : List ℕ) → c < 0x80 → IsAligned e x
-    → characters (pieces_of e (x ++ (ascii_bytes e c ++ y))) ≡ characters (pieces_of e x) ++ c ∷ characters (pieces_of e y)
+    → piece_characters (pieces_of e (x ++ (ascii_bytes e c ++ y))) ≡ piece_characters (pieces_of e x) ++ c ∷ piece_characters (pieces_of e y)
 characters-cut_ascii e c x y h a = simp (pieces_of-cut_ascii, characters-append)
 
 -- the position of a character among the pieces
 abbrev Place : List Piece → List ℕ → ℕ → List ℕ → Type 0
-Place ps t c s = (qs : List Piece) × (p : Piece) × (rs : List Piece) × (ps ≡ qs ++ p ∷ rs) × (characters qs ≡ t) × (p.character ≡ c) × (characters rs ≡ s)
+Place ps t c s = (qs : List Piece) × (p : Piece) × (rs : List Piece) × (ps ≡ qs ++ p ∷ rs) × (piece_characters qs ≡ t) × (p.character ≡ c) × (piece_characters rs ≡ s)
 
 -- A character among those of pieces is the character of one of them.
-place-of : (ps : List Piece) (t : List ℕ) (c : ℕ) (s : List ℕ) → characters ps ≡ t ++ c ∷ s → Place ps t c s
+place-of : (ps : List Piece) (t : List ℕ) (c : ℕ) (s : List ℕ) → piece_characters ps ≡ t ++ c ∷ s → Place ps t c s
 place-of [] [] c s h = absurd (cc)
 place-of [] (b ∷ t) c s h = absurd (cc)
 place-of (p ∷ ps) [] c s h =
     let k : p.character ≡ c = cc in
-    let l : characters ps ≡ s = cc in
+    let l : piece_characters ps ≡ s = cc in
     ([], p, ps, refl, refl, k, l)
 place-of (p ∷ ps) (b ∷ t) c s h =
     let k : p.character ≡ b = cc in
-    let l : characters ps ≡ t ++ c ∷ s = cc in
+    let l : piece_characters ps ≡ t ++ c ∷ s = cc in
     let m = place-of ps t c s l in
     (p ∷ m.0, m.1, m.2, ap (λ v. p ∷ v) {y = m.0 ++ m.1 ∷ m.2} m.3, ap₂ (λ v w. v ∷ w) k m.4, m.5, m.6)
 
@@ -102,15 +102,15 @@ place-of (p ∷ ps) (b ∷ t) c s h =
 pub record IsCutAt (e : Encoding) (d : List ℕ) (t : List ℕ) (c : ℕ) (s : List ℕ) (x y : List ℕ) : Type 0 where
   pub joins : d ≡ x ++ (ascii_bytes e c ++ y)
   pub aligned : IsAligned e x
-  pub front : characters (pieces_of e x) ≡ t
-  pub back : characters (pieces_of e y) ≡ s
+  pub front : piece_characters (pieces_of e x) ≡ t
+  pub back : piece_characters (pieces_of e y) ≡ s
 
 -- A decoded ASCII character was decoded from its own bytes, at a unit's boundary, and from nothing else.
-pub cut-at_ascii : (e : Encoding) (d t : List ℕ) (c : ℕ) (s : List ℕ) → c < 0x80 → characters (pieces_of e d) ≡ t ++ c ∷ s
+pub cut-at_ascii : (e : Encoding) (d t : List ℕ) (c : ℕ) (s : List ℕ) → c < 0x80 → piece_characters (pieces_of e d) ≡ t ++ c ∷ s
     → (x : List ℕ) × (y : List ℕ) × IsCutAt e d t c s x y
 cut-at_ascii e d t c s l h = found (place-of (pieces_of e d) t c s h)
   where
-    at-cut : (x y : List ℕ) (qs : List Piece) (p : Piece) (rs : List Piece) → characters qs ≡ t → p.character ≡ c → characters rs ≡ s
+    at-cut : (x y : List ℕ) (qs : List Piece) (p : Piece) (rs : List Piece) → piece_characters qs ≡ t → p.character ≡ c → piece_characters rs ≡ s
         → IsCut e d x y qs (p ∷ rs) → (x : List ℕ) × (y : List ℕ) × IsCutAt e d t c s x y
     at-cut x y qs p rs ht hc hs cut = grind (arith, piece-ascii, pieces_of-only)
 

@@ -1,7 +1,7 @@
 -- The pieces of some bytes are the computed ones, and no others.
 use Rattle.std.proofs.Common.{rules, ◌≡◌, ℕ, zero, suc, ◌<◌, ◌≤◌, List, [], ◌∷◌, ◌++◌, length, refl, sym, ap, ◌∙◌, arith, length-append}
 use Rattle.std.proofs.Math.Seq.{drop-append_seam}
-use Rattle.properties_format.specs.Text.{Piece, characters}
+use Rattle.properties_format.specs.Text.{Piece, piece_characters}
 use Rattle.properties_format.specs.Utf16.{low_first, high_first}
 use Rattle.properties_format.specs.Encoding.{Encoding, windows_1252, utf_8, utf_16le, utf_16be, IsPiece, IsPieces, IsDecoded, byte_order_mark}
 use Rattle.properties_format.specs.Computed.Encoding.{first_piece, pieces_within, pieces_of, decoded_of}
@@ -68,7 +68,7 @@ decoded_of-meets e b = grind (arith, pieces_of-meets)
 
 -- A text that some bytes decode to is the computed one.
 pub decoded_of-only : (e : Encoding) (b x : List ℕ) → IsDecoded e b x → x ≡ decoded_of e b
-decoded_of-only e b x (ps, h, s) = s ∙ ap characters (pieces_of-only (byte_order_mark e b).encoding (byte_order_mark e b).body ps h)
+decoded_of-only e b x (ps, h, s) = s ∙ ap piece_characters (pieces_of-only (byte_order_mark e b).encoding (byte_order_mark e b).body ps h)
 
 -- ---- Pieces at the front.
 

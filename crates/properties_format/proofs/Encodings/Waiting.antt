@@ -1,7 +1,7 @@
 -- Bytes that don't wait for more determine their first piece.
 use Rattle.std.proofs.Common.{rules, arith, ◌≡◌, ℕ, false, List, ◌∷◌, ◌++◌, length, drop, ap, ◌∙◌, append_assoc}
 use Rattle.std.proofs.Math.Seq.{drop-append_seam}
-use Rattle.properties_format.specs.Text.{Piece, characters}
+use Rattle.properties_format.specs.Text.{Piece, piece_characters}
 use Rattle.properties_format.specs.Computed.Encoding.{first_utf_16_piece, first_piece, pieces_of, awaits_unit, awaits_more}
 use Rattle.properties_format.specs.Encoding.{Encoding}
 use Rattle.properties_format.proofs.Encodings.Pieces.{first-meets, pieces_of-piece}
@@ -26,8 +26,8 @@ pieces_of-step e b d =
 
 -- The characters of some bytes are that of the first piece followed by those of what comes after it.
 pub characters-step : (e : Encoding) (b : ℕ) (d : List ℕ)
-    → characters (pieces_of e (b ∷ d)) ≡ (first_piece e b d).character ∷ characters (pieces_of e (drop (length (first_piece e b d).bytes) (b ∷ d)))
-characters-step e b d = ap characters (pieces_of-step e b d)
+    → piece_characters (pieces_of e (b ∷ d)) ≡ (first_piece e b d).character ∷ piece_characters (pieces_of e (drop (length (first_piece e b d).bytes) (b ∷ d)))
+characters-step e b d = ap piece_characters (pieces_of-step e b d)
 
 -- The first piece of bytes that don't wait can be taken, whatever follows.
 pub pieces_of-decided : (e : Encoding) (b : ℕ) (d y : List ℕ) → awaits_more e b d ≡ false

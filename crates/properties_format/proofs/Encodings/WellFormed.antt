@@ -8,7 +8,7 @@ use Rattle.std.proofs.lemmas.Str.{chars-encodes, chars-IsAscii}
 use Rattle.std.proofs.lemmas.Str.Ascii.{All-from_ascii}
 use Rattle.std.proofs.lemmas.List.Elements.{recursion_from_All}
 use Rattle.std.specs.List.{AllByRecursion}
-use Rattle.properties_format.specs.Text.{scalar, characters}
+use Rattle.properties_format.specs.Text.{scalar, piece_characters}
 use Rattle.properties_format.specs.Utf8.{AreSequences, IsWellFormedText, sequence_character}
 use Rattle.properties_format.specs.Encoding.{windows_1252, utf_8}
 use Rattle.properties_format.specs.Computed.Encoding.{pieces_of}
@@ -51,25 +51,25 @@ pub well_formed-from_IsUtf8 : (d : List ℕ) → IsUtf8 d → IsWellFormedText d
 well_formed-from_IsUtf8 d (cs, h) = utf8-sequences d cs h.0 h.1
 
 -- Encoded characters at the front decode to themselves, whatever follows.
-encoded-front : (cs y : List ℕ) → all_scalars cs ≡ true → characters (pieces_of utf_8 (encode_utf8_all cs ++ y)) ≡ cs ++ characters (pieces_of utf_8 y)
+encoded-front : (cs y : List ℕ) → all_scalars cs ≡ true → piece_characters (pieces_of utf_8 (encode_utf8_all cs ++ y)) ≡ cs ++ piece_characters (pieces_of utf_8 y)
 encoded-front [] y h = refl
 encoded-front (c ∷ cs) y h =
     let p = and_parts (std_utf8.scalar c) (all_scalars cs) h in
-    ap (λ v. characters (pieces_of utf_8 v)) (append_assoc (encode_utf8 c) (encode_utf8_all cs) y)
-    ∙ ap characters (pieces_of-encoded utf_8 c (encode_utf8 c) (encode_utf8_all cs ++ y) (scalar-from_char c p.0) refl)
+    ap (λ v. piece_characters (pieces_of utf_8 v)) (append_assoc (encode_utf8 c) (encode_utf8_all cs) y)
+    ∙ ap piece_characters (pieces_of-encoded utf_8 c (encode_utf8 c) (encode_utf8_all cs ++ y) (scalar-from_char c p.0) refl)
     ∙ ap (λ v. c ∷ v) (encoded-front cs y p.1)
 
 -- A text at the front decodes to its characters, whatever follows.
-pub characters-text : (x y : List ℕ) → IsUtf8 x → characters (pieces_of utf_8 (x ++ y)) ≡ chars x ++ characters (pieces_of utf_8 y)
+pub characters-text : (x y : List ℕ) → IsUtf8 x → piece_characters (pieces_of utf_8 (x ++ y)) ≡ chars x ++ piece_characters (pieces_of utf_8 y)
 characters-text x y (cs, h) = cc (encoded-front cs y h.0, chars-encodes cs h.0)
 
 -- ---- ASCII, which is the same in windows-1252 and UTF-8.
 
 -- ASCII bytes at the front decode to themselves, whatever follows.
-ascii-front : (x y : List ℕ) → AllByRecursion (λ b. b < 0x80) x → characters (pieces_of windows_1252 (x ++ y)) ≡ x ++ characters (pieces_of windows_1252 y)
+ascii-front : (x y : List ℕ) → AllByRecursion (λ b. b < 0x80) x → piece_characters (pieces_of windows_1252 (x ++ y)) ≡ x ++ piece_characters (pieces_of windows_1252 y)
 ascii-front [] y h = refl
-ascii-front (b ∷ x) y h = ap characters (pieces_of-ascii windows_1252 b (x ++ y) h.0) ∙ ap (λ v. b ∷ v) (ascii-front x y h.1)
+ascii-front (b ∷ x) y h = ap piece_characters (pieces_of-ascii windows_1252 b (x ++ y) h.0) ∙ ap (λ v. b ∷ v) (ascii-front x y h.1)
 
 -- ASCII at the front decodes to itself, whatever follows.
-pub characters-ascii : (x y : List ℕ) → IsAscii x → characters (pieces_of windows_1252 (x ++ y)) ≡ chars x ++ characters (pieces_of windows_1252 y)
+pub characters-ascii : (x y : List ℕ) → IsAscii x → piece_characters (pieces_of windows_1252 (x ++ y)) ≡ chars x ++ piece_characters (pieces_of windows_1252 y)
 characters-ascii x y h = simp (ascii-front, recursion_from_All, All-from_ascii, chars-IsAscii)

@@ -1,7 +1,7 @@
 -- What comes as defined by divisions, and as computed, is the same.
 use Rattle.std.proofs.Common.{arith, ◌≡◌, ℕ, ◌+◌, false, List, ◌∷◌, ◌++◌, refl, ap, sym, ◌∙◌, inl, inr}
 use Rattle.std.proofs.lemmas.Bool.{cases_Bool}
-use Rattle.properties_format.specs.Text.{characters}
+use Rattle.properties_format.specs.Text.{piece_characters}
 use Rattle.properties_format.specs.Computed.Encoding.{pieces_of}
 use Rattle.properties_format.specs.Lines.{InputEnd, Line, line_endings, numbered}
 use Rattle.properties_format.specs.Computed.Lines.{lines_of}
@@ -56,7 +56,7 @@ natural_to_come-meets s d ending = elim (cases_Bool s.is_done) [
       text = text_to_come s d;
       all = lines_of (text_to_come s d);
       are_pieces = pieces_of-meets (in_force s d).encoding (in_force s d).body;
-      after_end = rest_of_end-meets s.after_cr (characters (pieces_of (in_force s d).encoding (in_force s d).body));
+      after_end = rest_of_end-meets s.after_cr (piece_characters (pieces_of (in_force s d).encoding (in_force s d).body));
       divided = lines_of-meets (text_to_come s d);
       are_lines = (natural-going s d ending h).0;
       are_last = (natural-going s d ending h).1;

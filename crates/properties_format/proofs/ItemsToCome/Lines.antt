@@ -2,7 +2,7 @@
 -- is taken, the input ends.
 use Rattle.std.proofs.Common.{rules, arith, ◌≡◌, ◌==◌, ℕ, ◌+◌, ◌<◌, Bool, true, false, List, [], ◌∷◌, ◌++◌, length, refl, ap, ap₂, sym, ◌∙◌, inl, inr, append_assoc, append-nil, eqb-true, add-zero}
 use Rattle.std.proofs.lemmas.Bool.{or_cases}
-use Rattle.properties_format.specs.Text.{line_feed, carriage_return, is_line_ending, LineEnding, lf, characters}
+use Rattle.properties_format.specs.Text.{line_feed, carriage_return, is_line_ending, LineEnding, lf, piece_characters}
 use Rattle.properties_format.specs.Encoding.{InForce, ascii_bytes, byte_order_mark, IsAligned}
 use Rattle.properties_format.specs.Computed.Encoding.{pieces_of, awaits_bom}
 use Rattle.properties_format.specs.Computed.Cut.{decoded_line}
@@ -49,7 +49,7 @@ gives-text s t x y ending h k m = grind (arith)
 
 -- the text of some bytes in an encoding, after a line ending
 abbrev text_of : Bool → InForce → List ℕ
-text_of after_cr m = rest_of_end after_cr (characters (pieces_of m.encoding m.body))
+text_of after_cr m = rest_of_end after_cr (piece_characters (pieces_of m.encoding m.body))
 
 -- The text to come once the encoding is determined.
 text-decided : (s : ReaderState) (d : List ℕ) → s.is_decided ≡ true → text_to_come s d ≡ rest_of_end s.after_cr (decoded_line s.encoding (s.held ++ d))

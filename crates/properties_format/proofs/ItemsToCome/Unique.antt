@@ -2,7 +2,7 @@
 use Rattle.std.proofs.Common.{arith, ◌≡◌, ℕ, ◌+◌, Bool, true, false, List, [], refl, ap, sym, ◌∙◌, inl, inr, zero-add}
 use Rattle.std.proofs.lemmas.Bool.{cases_Bool}
 use Rattle.std.proofs.lemmas.Bool.Decides.{eqb_tells}
-use Rattle.properties_format.specs.Text.{Piece, characters}
+use Rattle.properties_format.specs.Text.{Piece, piece_characters}
 use Rattle.properties_format.specs.Encoding.{Encoding}
 use Rattle.properties_format.specs.Computed.Encoding.{pieces_of}
 use Rattle.properties_format.specs.Lines.{InputEnd, line_endings, numbered}
@@ -43,7 +43,7 @@ further-meets s d ending =
       lines = lines;
       groups = groups_of numbers ending;
       are_pieces = pieces_of-meets (in_force s d).encoding (in_force s d).body;
-      after_end = rest_of_end-meets s.after_cr (characters pieces);
+      after_end = rest_of_end-meets s.after_cr (piece_characters pieces);
       divided = lines_of-meets (text_to_come s d);
       grouped = groups_of-meets numbers ending;
       are_entries = entries_of-meets (s.passed + line_endings lines) ending (groups_of numbers ending);
@@ -54,11 +54,11 @@ further-only : (s : ReaderState) (d : List ℕ) (ending : InputEnd) (entries : L
     → entries ≡ further_entries s.passed (lines_of (text_to_come s d)) ending
 further-only s d ending entries h =
     let f = in_force s d in
-    let text : List Piece → List ℕ = λ v. rest_of_end s.after_cr (characters v) in
+    let text : List Piece → List ℕ = λ v. rest_of_end s.after_cr (piece_characters v) in
     entries_of-only (s.passed + line_endings h.lines) ending h.groups entries h.are_entries
     ∙ ap (entries_of (s.passed + line_endings h.lines) ending) (groups_of-only (numbered s.passed h.lines.ended h.lines.last ending) ending h.groups h.grouped)
     ∙ ap (λ v. further_entries s.passed v ending) (lines_of-only h.text h.lines h.divided)
-    ∙ ap (λ v. further_entries s.passed (lines_of v) ending) (rest_of_end-only s.after_cr (characters h.pieces) h.text h.after_end)
+    ∙ ap (λ v. further_entries s.passed (lines_of v) ending) (rest_of_end-only s.after_cr (piece_characters h.pieces) h.text h.after_end)
     ∙ ap (λ v. further_entries s.passed (lines_of (text v)) ending) (pieces_of-only f.encoding f.body h.pieces h.are_pieces)
 
 -- If the reader is permanently at its end, there are no items to come.

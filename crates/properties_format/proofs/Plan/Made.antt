@@ -6,7 +6,7 @@ use Rattle.properties_format.specs.Body.{HeldLine, groups_bytes}
 use Rattle.properties_format.specs.Edited.{bom_of, IsReplaced, IsAppended, IsKeySet, IsWithout, IsKeyRemoved, is_editable}
 use Rattle.properties_format.specs.Valued.{IsBodyValued, IsValueSet}
 use Rattle.properties_format.specs.Computed.Body.{held_groups_of, has_key}
-use Rattle.properties_format.specs.Computed.Valued.{has_value, front_of, between_of, last_between, separator_by}
+use Rattle.properties_format.specs.Computed.Valued.{has_value, value_front, between_of, last_between, separator_by}
 use Rattle.properties_format.specs.Plan.{Change, planned, planned_or, removal, at_last, put_change, put_added, put_in, value_change, value_added, value_in, with_key_set, with_value_set, with_key_removed}
 use Rattle.properties_format.proofs.Body.Groups.{groups_bytes-append, held_groups_of-meets, held_groups_of-only}
 use Rattle.properties_format.proofs.Edited.Made.{has_key-true, has_key-false, HasKey-test, no_key-test}
@@ -143,11 +143,11 @@ module _ (r : Repertoire) (key value : List ℕ) (gs : List (List HeldLine)) (ok
           other_value = λ h. let t = HasPair-test key value m.group h in absurd (cc);
           no_later = m.no_later;
           between = between_of m.group;
-          front = front_of r.encoding m.group;
+          front = value_front r.encoding m.group;
           is_front = front_of-meets r.encoding m.group q.0 q.1 ok (decoded m.before m.group m.after m.division) q.2;
           bytes =
               rw (m.plan, m.division, k)
-              (planned-at _ m.before m.group m.after ∙ ap (λ v. groups_bytes m.before ++ v) (append_assoc (front_of r.encoding m.group) _ _));
+              (planned-at _ m.before m.group m.after ∙ ap (λ v. groups_bytes m.before ++ v) (append_assoc (value_front r.encoding m.group) _ _));
         }))
   ]
 
@@ -161,7 +161,7 @@ module _ (r : Repertoire) (key value : List ℕ) (gs : List (List HeldLine)) (ok
       let other = false_from_ne_true (has_value value h.group) (λ k. h.other_value (has_value-true key value h.group h.has_key k)) in
       let f = front_of-only r.encoding h.group h.between h.front ok (decoded h.before h.group h.after h.division) h.is_front in
       rw (h.bytes, h.division, plan, planned-at, other, f.0, f.1)
-      (ap (λ v. groups_bytes h.before ++ v) (sym (append_assoc (front_of r.encoding h.group) _ _)))
+      (ap (λ v. groups_bytes h.before ++ v) (sym (append_assoc (value_front r.encoding h.group) _ _)))
   valued-only body (inr (inr h)) =
       rw (h.bytes, at_last-none key (value_change r value) true gs h.no_pair, new_separator-only gs key h.separator h.is_separator) refl
 

@@ -9,7 +9,7 @@ use Rattle.properties_format.specs.Encoding.{Encoding}
 use Rattle.properties_format.specs.Lines.{IsWhole, joined}
 use Rattle.properties_format.specs.Body.{HeldLine, HasKey, NoneHasKey, as_lines, AreGroupsOf, ending_bytes, group_bytes, groups_bytes, last_ending}
 use Rattle.properties_format.specs.Edited.{is_editable, final_group}
-use Rattle.properties_format.specs.Valued.{HasPair}
+use Rattle.properties_format.specs.Valued.{HoldsPair}
 use Rattle.properties_format.specs.Plan.{Change, stay, go, become, planned, removal, at_last, planned_or, this_or_later, all_stay}
 use Rattle.properties_format.specs.Items.{ignored}
 use Rattle.properties_format.specs.Computed.Items.{outcome_of}
@@ -55,16 +55,16 @@ pub record IsGroupText (e : Encoding) (x : List ℕ) : Type 0 where
 
 -- The bytes are a pair with this key and this value.
 abbrev pub SayPair : Encoding → List ℕ → List ℕ → List ℕ → Type 0
-SayPair e key value x = HasPair key value (held_lines_of e x)
+SayPair e key value x = HoldsPair key value (held_lines_of e x)
 
 -- The group is a pair with this key and this value after the change.
 abbrev pub IsPairAfter : Encoding → List ℕ → List ℕ → List HeldLine → Change → Type 0
-IsPairAfter e key value g stay = HasPair key value g
+IsPairAfter e key value g stay = HoldsPair key value g
 IsPairAfter e key value g go = ⊥
 IsPairAfter e key value g (become x) = SayPair e key value x
 
 -- The group of such bytes is such a pair, whatever its line ending.
-pub said-group : (e : Encoding) (key value x : List ℕ) (o : Option LineEnding) → SayPair e key value x → HasPair key value (group_of e x o)
+pub said-group : (e : Encoding) (key value x : List ℕ) (o : Option LineEnding) → SayPair e key value x → HoldsPair key value (group_of e x o)
 said-group e key value x o h = rw (texts-with o (held_lines_of e x)) h
 
 abbrev pub IsFitChange : Encoding → Change → Type 0

@@ -12,7 +12,7 @@ use Rattle.properties_format.specs.Plan.{become, value_change}
 use Rattle.properties_format.specs.Computed.Lines.{begins_with_lf, ends_in_cr}
 use Rattle.properties_format.specs.Computed.Cut.{decoded_line}
 use Rattle.properties_format.specs.Computed.Body.{held_lines_of, has_key}
-use Rattle.properties_format.specs.Computed.Valued.{front_of, between_of, has_value}
+use Rattle.properties_format.specs.Computed.Valued.{value_front, between_of, has_value}
 use Rattle.properties_format.proofs.Lines.Plain.{plain-no_cr, plain-no_lf, ends_in_cr-append}
 use Rattle.properties_format.proofs.Body.Groups.{IsLastFit, group_bytes-append}
 use Rattle.properties_format.proofs.Edited.Made.{has_key-true}
@@ -80,7 +80,7 @@ last-no_cr kept (c ∷ x) p n = rw (ends_in_cr-append (group_bytes kept) c x) (p
 
 -- the bytes of a pair with another value, up to its last line ending
 abbrev pub new_text : Repertoire → List HeldLine → List ℕ → List ℕ
-new_text r g value = front_of r.encoding g ++ encoded_text r.encoding (value_text r (between_of g) value)
+new_text r g value = value_front r.encoding g ++ encoded_text r.encoding (value_text r (between_of g) value)
 
 -- They are one whole group, which is the pair. Its front is the old one, with what is missing.
 module _ (r : Repertoire) (key value : List ℕ) (p : Option LineEnding) (g : List HeldLine) (ok : is_editable r.encoding ≡ true) (v : All scalar value)
@@ -88,7 +88,7 @@ module _ (r : Repertoire) (key value : List ℕ) (p : Option LineEnding) (g : Li
   abbrev between : List ℕ
   between = between_of g
 
-  front : IsFrontOf r.encoding g between (front_of r.encoding g)
+  front : IsFrontOf r.encoding g between (value_front r.encoding g)
   front = let m = raw-pair key g has in front_of-meets r.encoding g m.0 m.1 ok (decoded-by r.encoding p g a) m.2
 
   abbrev lines : List HeldLine
@@ -97,9 +97,9 @@ module _ (r : Repertoire) (key value : List ℕ) (p : Option LineEnding) (g : Li
   whole : AreLinesBy r.encoding p (front.kept ++ front.line ∷ front.more)
   whole = subst (AreLinesBy r.encoding p) front.division a
 
-  changed : IsChangedPair r key between (front_of r.encoding g) value front.kept front.head None
+  changed : IsChangedPair r key between (value_front r.encoding g) value front.kept front.head None
   changed =
-      changed-pair r g key between (front_of r.encoding g) value None front ok v w
+      changed-pair r g key between (value_front r.encoding g) value None front ok v w
       (plain-line r.encoding p front.kept front.line front.more whole) has
 
   are : AreLinesBy r.encoding None lines
@@ -144,7 +144,7 @@ module _ (r : Repertoire) (key value : List ℕ) (p : Option LineEnding) (g : Li
             let after = after-bytes r between second in
             rw k (inl (ap become
             (rw (held, front-with r.encoding o lines m.0 m.1 m.2, between-with o lines, ← f.0, ← f.1, after-missing r between second, after)
-            (append_assoc (front_of r.encoding g) _ _))))
+            (append_assoc (value_front r.encoding g) _ _))))
       ]
     where
       after-missing : (r : Repertoire) (between value : List ℕ) → value_text r (between_after between) value ≡ value_after r between value

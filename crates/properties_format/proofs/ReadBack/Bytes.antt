@@ -5,7 +5,7 @@ use Rattle.std.specs.List.{AllByRecursion}
 use Rattle.std.proofs.lemmas.List.Elements.{recursion_from_All}
 use Rattle.std.proofs.lemmas.Bool.{cond_both}
 use Rattle.properties_format.specs.Text.{scalar, line_ending_text}
-use Rattle.properties_format.specs.Encoding.{Encoding, output_encoding, characters, Repertoire}
+use Rattle.properties_format.specs.Encoding.{Encoding, output_encoding, piece_characters, Repertoire}
 use Rattle.properties_format.specs.Settings.{repertoire_of, Settings}
 use Rattle.properties_format.specs.Computed.Encoding.{pieces_of}
 use Rattle.properties_format.specs.Items.{Content, comment, pair}
@@ -19,8 +19,8 @@ use Rattle.properties_format.proofs.ReadBack.Lines.{line_text, wrote_text, setti
 -- ---- what can be encoded decodes to itself
 
 -- a text that can be encoded is decoded from its bytes
-pub text-decoded : (e : Encoding) (x : List ℕ) → AllByRecursion scalar x → AreEncodable e x → characters (pieces_of (output_encoding e) (encoded_text e x)) ≡ x
-text-decoded e [] h k = ap characters (pieces_of-nil (output_encoding e))
+pub text-decoded : (e : Encoding) (x : List ℕ) → AllByRecursion scalar x → AreEncodable e x → piece_characters (pieces_of (output_encoding e) (encoded_text e x)) ≡ x
+text-decoded e [] h k = ap piece_characters (pieces_of-nil (output_encoding e))
 text-decoded e (c ∷ x) h k = search (rules, pieces_of-encoded) ∙ ap (λ v. c ∷ v) (text-decoded e x h.1 k.1)
 
 -- ---- what is printed consists of scalar values

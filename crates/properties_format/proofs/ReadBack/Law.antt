@@ -2,7 +2,7 @@
 use Rattle.std.proofs.Common.{◌≡◌, List, [], ◌∷◌, refl, ap, ◌∙◌, lit<, inl, subst}
 use Rattle.std.proofs.lemmas.List.Elements.{All-from_recursion}
 use Rattle.properties_format.specs.Text.{scalar, number_sign, space}
-use Rattle.properties_format.specs.Encoding.{Encoding, windows_1252, output_encoding, characters}
+use Rattle.properties_format.specs.Encoding.{Encoding, windows_1252, output_encoding, piece_characters}
 use Rattle.properties_format.specs.Computed.Encoding.{pieces_of, decoded_of}
 use Rattle.properties_format.specs.Lines.{end, line_endings}
 use Rattle.properties_format.specs.Computed.Lines.{lines_of}
@@ -40,7 +40,7 @@ wrote-decoded e s calls own g h =
     let w = wrote_text-writable e s 0 calls g h in
     ap (decoded_of e) (wrote-text e s 0 calls)
     ∙ decoded_of-unmarked e (encoded_text e x) (wrote_text-unmarked e s calls g h)
-    ∙ subst (λ a. characters (pieces_of a (encoded_text e x)) ≡ x) own (text-decoded e x w.scalars w.encodable)
+    ∙ subst (λ a. piece_characters (pieces_of a (encoded_text e x)) ≡ x) own (text-decoded e x w.scalars w.encodable)
 
 -- Starting with good settings and no lines, what a writer's calls wrote has the items that they wrote.
 pub items_of-wrote : (e : Encoding) (s : Settings) (calls : List Call) → output_encoding e ≡ e → AreGoodSettings s → ArePrefixesClean s calls

@@ -2,16 +2,16 @@
 use Rattle.std.proofs.Common.{rules, ◌≡◌, ℕ, ◌==◌, Bool, true, false, List, [], ◌∷◌, ◌++◌, refl, ap, sym, ◌∙◌, inl, inr, append_assoc, append-nil, arith}
 use Rattle.std.proofs.lemmas.Bool.{cases_Bool, eqb-true}
 use Rattle.properties_format.specs.Text.{backslash, is_blank, is_separator}
-use Rattle.properties_format.specs.Split.{KeyUnit, plain, escaped, last, unit_text, units_before, IsUnit, AreUnits, IsKey}
-use Rattle.properties_format.specs.Computed.Split.{Cut, with_front, ends_key, cut_key}
+use Rattle.properties_format.specs.Split.{KeyUnit, plain, escaped, last, key_unit_text, key_units_before, IsKeyUnit, AreKeyUnits, IsKey}
+use Rattle.properties_format.specs.Computed.Split.{KeyCut, with_front, ends_key, cut_key}
 
 -- The units before a rest are their text followed by the rest.
-pub units_before-append : (us : List KeyUnit) (rest : List ℕ) → units_before us rest ≡ units_before us [] ++ rest
+pub units_before-append : (us : List KeyUnit) (rest : List ℕ) → key_units_before us rest ≡ key_units_before us [] ++ rest
 units_before-append [] rest = refl
-units_before-append (u ∷ us) rest = ap (λ v. unit_text u ++ v) (units_before-append us rest) ∙ sym (append_assoc (unit_text u) (units_before us []) rest)
+units_before-append (u ∷ us) rest = ap (λ v. key_unit_text u ++ v) (units_before-append us rest) ∙ sym (append_assoc (key_unit_text u) (key_units_before us []) rest)
 
 -- the key with a text at its front
-abbrev pub with_text : List ℕ → Cut → Cut
+abbrev pub with_text : List ℕ → KeyCut → KeyCut
 with_text x cut = record { key = x ++ cut.key; rest = cut.rest }
 
 -- whether a key ends before this text: it is empty, or begins with a blank or a separator
@@ -24,8 +24,8 @@ plain-parts : (c : ℕ) → ends_key c ≡ false → (is_blank c ≡ false) × (
 plain-parts c e = (grind (arith), grind (arith))
 
 -- Units at the front.
-pub cut_key-units : (us : List KeyUnit) (rest : List ℕ) → AreUnits us rest
-    → cut_key (units_before us rest) false ≡ with_text (units_before us []) (cut_key rest false)
+pub cut_key-units : (us : List KeyUnit) (rest : List ℕ) → AreKeyUnits us rest
+    → cut_key (key_units_before us rest) false ≡ with_text (key_units_before us []) (cut_key rest false)
 cut_key-units [] rest h = refl
 cut_key-units (u ∷ us) rest h = grind (arith, cut_key-units us rest h.1)
 
@@ -34,12 +34,12 @@ pub cut_key-only : (key rest : List ℕ) → IsKey key rest → ends_here rest �
 cut_key-only key rest k e =
     ap (λ v. cut_key v false) (ap (λ v. v ++ rest) k.whole ∙ sym (units_before-append k.units rest))
     ∙ cut_key-units k.units rest k.each
-    ∙ ap (with_text (units_before k.units [])) (search (rules))
-    ∙ ap (λ v. let cut : Cut = record { key = v; rest = rest } in cut) (append-nil (units_before k.units []) ∙ sym k.whole)
+    ∙ ap (with_text (key_units_before k.units [])) (search (rules))
+    ∙ ap (λ v. let cut : KeyCut = record { key = v; rest = rest } in cut) (append-nil (key_units_before k.units []) ∙ sym k.whole)
 
 -- ---- each text is a key followed by what ends it
 
-pub record IsCut (x : List ℕ) (cut : Cut) : Type 0 where
+pub record IsCut (x : List ℕ) (cut : KeyCut) : Type 0 where
   pub whole : x ≡ cut.key ++ cut.rest
   pub is_key : IsKey cut.key cut.rest
   pub ends_it : ends_here cut.rest ≡ true
@@ -49,12 +49,12 @@ nothing-cut : (rest : List ℕ) → ends_here rest ≡ true → IsCut rest (reco
 nothing-cut rest e = record { whole = refl; is_key = record { units = []; whole = refl; each = tt }; ends_it = e }
 
 -- A unit before a key that has been divided off.
-unit-cut : (u : KeyUnit) (x : List ℕ) (cut : Cut) → IsUnit u x → IsCut x cut → IsCut (unit_text u ++ x) (with_text (unit_text u) cut)
+unit-cut : (u : KeyUnit) (x : List ℕ) (cut : KeyCut) → IsKeyUnit u x → IsCut x cut → IsCut (key_unit_text u ++ x) (with_text (key_unit_text u) cut)
 unit-cut u x cut h k = record {
-  whole = ap (λ v. unit_text u ++ v) k.whole ∙ sym (append_assoc (unit_text u) cut.key cut.rest);
+  whole = ap (λ v. key_unit_text u ++ v) k.whole ∙ sym (append_assoc (key_unit_text u) cut.key cut.rest);
   is_key = record {
     units = u ∷ k.is_key.units;
-    whole = ap (λ v. unit_text u ++ v) k.is_key.whole;
+    whole = ap (λ v. key_unit_text u ++ v) k.is_key.whole;
     each = (rw (units_before-append k.is_key.units cut.rest) (rw (← k.is_key.whole) (rw (← k.whole) h)), k.is_key.each);
   };
   ends_it = k.ends_it;

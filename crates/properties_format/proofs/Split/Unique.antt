@@ -3,7 +3,7 @@ use Rattle.std.proofs.Common.{rules, ◌≡◌, ◌≢◌, ℕ, true, false, Lis
 use Rattle.std.proofs.lemmas.Bool.{cases_Bool}
 use Rattle.properties_format.specs.Text.{is_blank, is_comment_sign, is_separator, without_leading_blanks, begins}
 use Rattle.properties_format.specs.Split.{Logical, blank, comment, pair, AreBlanks, IsKey, IsBetween, nothing, blanks, separator, IsSplit}
-use Rattle.properties_format.specs.Computed.Split.{Cut, trimmed, cut_key, past_separator, pair_of, split_full, split_of}
+use Rattle.properties_format.specs.Computed.Split.{KeyCut, trimmed, cut_key, past_separator, pair_of, split_full, split_of}
 use Rattle.properties_format.proofs.Split.Blanks.{without_leading_blanks-only, without_leading_blanks-blanks, IsPast, without_leading_blanks-meets, trimmed-meets, trimmed-only}
 use Rattle.properties_format.proofs.Split.Keys.{ends_here, cut_key-only, IsCut, cut_key-meets}
 
@@ -58,7 +58,7 @@ full-pair : (line indent x : List ℕ) → line ≡ indent ++ x → AreBlanks in
     → IsSplit line (pair_of (cut_key x false))
 full-pair line indent x e b h f m = whole (cut_key x false) (cut_key-meets x)
   where
-    whole : (cut : Cut) → IsCut x cut → IsSplit line (pair_of cut)
+    whole : (cut : KeyCut) → IsCut x cut → IsSplit line (pair_of cut)
     whole cut k =
         let r : IsBehind cut.rest (past_separator (without_leading_blanks cut.rest)) = after-meets cut.rest k.ends_it in
         let w : x ≡ cut.key ++ (r.between ++ past_separator (without_leading_blanks cut.rest)) = k.whole ∙ ap (λ v. cut.key ++ v) r.whole in

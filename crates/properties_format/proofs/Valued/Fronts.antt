@@ -14,7 +14,7 @@ use Rattle.properties_format.specs.Computed.Cut.{decoded_line}
 use Rattle.properties_format.specs.Body.{HeldLine, as_lines, ending_bytes, group_bytes}
 use Rattle.properties_format.specs.Edited.{is_editable}
 use Rattle.properties_format.specs.Valued.{IsFrontOf}
-use Rattle.properties_format.specs.Computed.Valued.{without_indent, added_by, head_of, head_size, front_in, front_of, between_of}
+use Rattle.properties_format.specs.Computed.Valued.{without_indent, added_by, head_of, head_size, front_in, value_front, between_of}
 use Rattle.properties_format.proofs.Groups.Open.{is_open-backslash, is_open-other, is_open-after, blank-other, open-ends, without_open_backslash-closed}
 use Rattle.properties_format.proofs.Groups.Joined.{joined-comment_line, joined-unmarked, joined-closed}
 use Rattle.properties_format.proofs.Split.Blanks.{begins-front, without_leading_blanks-only, without_leading_blanks-meets}
@@ -452,7 +452,7 @@ no_lines-no_pair key value h = h.not_empty (none-right h.indent (key ++ (h.betwe
 
 -- The computed front is the front of a group that is a pair.
 pub front_of-meets : (e : Encoding) (group : List HeldLine) (key value : List ℕ) → is_editable e ≡ true → AreDecoded e group
-    → IsPair (joined (as_lines group)) key value → IsFrontOf e group (between_of group) (front_of e group)
+    → IsPair (joined (as_lines group)) key value → IsFrontOf e group (between_of group) (value_front e group)
 front_of-meets e [] key value ok d h = absurd (no_lines-no_pair key value h)
 front_of-meets e (i ∷ is) key value ok d h =
     let line = joined (as_lines (i ∷ is)) in
@@ -523,7 +523,7 @@ front-text e group between front f =
 
 -- A front of a group is the computed one.
 pub front_of-only : (e : Encoding) (group : List HeldLine) (between front : List ℕ) → is_editable e ≡ true → AreDecoded e group
-    → IsFrontOf e group between front → (between ≡ between_of group) × (front ≡ front_of e group)
+    → IsFrontOf e group between front → (between ≡ between_of group) × (front ≡ value_front e group)
 front_of-only e [] between front ok d f = absurd (no_lines-no_pair f.key f.value f.is_pair)
 front_of-only e (i ∷ is) between front ok d f =
     let line = joined (as_lines (i ∷ is)) in

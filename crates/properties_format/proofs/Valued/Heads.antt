@@ -1,7 +1,7 @@
 -- The head of a line: the bytes of the characters up to a position in its text. There is only one such head.
 use Rattle.std.proofs.Common.{◌≡◌, ◌⊎◌, ◌<◌, ℕ, true, List, [], ◌∷◌, ◌++◌, length, take, refl, ap, sym, ◌∙◌, inl, inr, arith, append_assoc, append-nil, length-append, lit<}
 use Rattle.std.proofs.lemmas.List.{append_cancel_right}
-use Rattle.properties_format.specs.Text.{backslash, Piece, characters}
+use Rattle.properties_format.specs.Text.{backslash, Piece, piece_characters}
 use Rattle.properties_format.specs.Encoding.{Encoding, IsPieces, IsAligned, ascii_bytes}
 use Rattle.properties_format.specs.Computed.Encoding.{pieces_of}
 use Rattle.properties_format.specs.Computed.Cut.{decoded_line}
@@ -23,19 +23,19 @@ record IsCutAfter (e : Encoding) (d : List ℕ) (ps : List Piece) (x y : List �
   tail : List ℕ
   joins : d ≡ pieces_bytes ps ++ tail
   front : IsPieces e (pieces_bytes ps) ps
-  front_text : characters ps ≡ x
+  front_text : piece_characters ps ≡ x
   back : List Piece
   are_back : IsPieces e tail back
-  back_text : characters back ≡ y
+  back_text : piece_characters back ≡ y
 
 -- If the characters of pieces are two texts, one after the other, the pieces may be cut between the two.
-cut-pieces : (e : Encoding) (d : List ℕ) (ps : List Piece) (x y : List ℕ) → is_editable e ≡ true → IsPieces e d ps → characters ps ≡ x ++ y
+cut-pieces : (e : Encoding) (d : List ℕ) (ps : List Piece) (x y : List ℕ) → is_editable e ≡ true → IsPieces e d ps → piece_characters ps ≡ x ++ y
     → IsCutAfter e d (take (length x) ps) x y
 cut-pieces e d ps [] y ok h s = record { tail = d; joins = refl; front = refl; front_text = refl; back = ps; are_back = h; back_text = s }
 cut-pieces e d [] (c ∷ x) y ok h s = absurd (cc)
 cut-pieces e d (p ∷ ps) (c ∷ x) y ok (rest, t, h, k) s =
     let a : p.character ≡ c = cc in
-    let b : characters ps ≡ x ++ y = cc in
+    let b : piece_characters ps ≡ x ++ y = cc in
     grind (arith, cut-pieces e rest ps x y ok k b, append_assoc, piece-less, aligned-editable)
 
 -- The bytes of a line, cut where its text is cut: the head decodes to the first text, the rest to the second.

@@ -10,7 +10,7 @@ use Rattle.properties_format.specs.Body.{HeldLine, HasKey, as_lines, NoneHasKey,
 use Rattle.properties_format.specs.Edited.{bom_of, edited}
 use Rattle.properties_format.specs.Edits.{put, set_value}
 use Rattle.properties_format.specs.EditLaws.{SettingItsOwnValueChangesNothing, SettingAValueTwiceIsSettingItOnce, SettingAValueAgainChangesNothing, SettingAValueGivesIt}
-use Rattle.properties_format.specs.Valued.{HasPair, IsSetValueResult}
+use Rattle.properties_format.specs.Valued.{HoldsPair, IsSetValueResult}
 use Rattle.properties_format.specs.Plan.{Change, at_last, planned_or, value_change, value_added, with_value_set}
 use Rattle.properties_format.specs.Computed.Body.{held_groups_of}
 use Rattle.properties_format.specs.Computed.Valued.{has_value}
@@ -55,7 +55,7 @@ followed-last key value n (given content) entries a k =
 followed-last key value n (broken kind) entries a k = absurd a
 
 -- If the last group with the key has the value, so does the last item with the key.
-groups-last : (key value : List ℕ) (n : ℕ) (before : List (List HeldLine)) (g : List HeldLine) (after : List (List HeldLine)) → HasPair key value g
+groups-last : (key value : List ℕ) (n : ℕ) (before : List (List HeldLine)) (g : List HeldLine) (after : List (List HeldLine)) → HoldsPair key value g
     → NoneHasKey key after → AreItems (entries_in n (before ++ g ∷ after)) → IsLastValue (entries_in n (before ++ g ∷ after)) key value
 groups-last key value n [] g after h k a =
     let o = outcome_of-only (joined (as_lines g)) (given (pair key value)) h in
@@ -73,7 +73,7 @@ module _ (e : Encoding) (source key : List ℕ) (r : IsReadable e source) where
 
   -- The last pair with the key has the source's value for it.
   place-value : (before : List (List HeldLine)) (g : List HeldLine) (after : List (List HeldLine)) → groups ≡ before ++ g ∷ after → HasKey key g
-      → NoneHasKey key after → (value : List ℕ) × HasPair key value g × IsLastValue (items_of e source end) key value
+      → NoneHasKey key after → (value : List ℕ) × HoldsPair key value g × IsLastValue (items_of e source end) key value
   place-value before g after s (value, h) n =
       let all = entries-are ∙ ap (entries_in 1) s in
       (value, h, rw all (groups-last key value 1 before g after h n (rw all at r.no_fault)))

@@ -8,7 +8,7 @@ use Rattle.properties_format.specs.Computed.Split.{split_of}
 use Rattle.properties_format.specs.Items.{pair, given}
 use Rattle.properties_format.specs.Computed.Items.{outcome_of}
 use Rattle.properties_format.specs.Body.{HeldLine, AreHeld, AreGroupsOf, as_lines, held_in, HasKey}
-use Rattle.properties_format.specs.Valued.{HasPair, NoPairs, IsNewSeparator}
+use Rattle.properties_format.specs.Valued.{HoldsPair, NoPairs, IsNewSeparator}
 use Rattle.properties_format.specs.Computed.Valued.{between_if_pair, or_else, last_between, separator_by, is_pair_to, has_value}
 use Rattle.properties_format.proofs.Items.Unique.{outcome_of-meets, outcome_of-only}
 use Rattle.properties_format.proofs.Split.Unique.{split_of-meets, split_of-only}
@@ -42,19 +42,19 @@ group-decoded e body groups before g after h s = grind (arith, decoded-group, he
 -- ---- whether a pair has the value
 
 -- A group with the key that passes the test is the pair.
-pub has_value-true : (key value : List ℕ) (g : List HeldLine) → HasKey key g → has_value value g ≡ true → HasPair key value g
+pub has_value-true : (key value : List ℕ) (g : List HeldLine) → HasKey key g → has_value value g ≡ true → HoldsPair key value g
 has_value-true key value g (old, k) h =
     let line = joined (as_lines g) in
     let s : outcome_of line ≡ given (pair key old) = sym (outcome_of-only line (given (pair key old)) k) in
     search (rules, outcome_of-meets)
 
 -- The pair passes the test.
-pub HasPair-test : (key value : List ℕ) (g : List HeldLine) → HasPair key value g → has_value value g ≡ true
+pub HasPair-test : (key value : List ℕ) (g : List HeldLine) → HoldsPair key value g → has_value value g ≡ true
 HasPair-test key value g h =
     ap (is_pair_to value) (sym (outcome_of-only (joined (as_lines g)) (given (pair key value)) h)) ∙ (bytes_eq-Decides value value).1 refl
 
 -- A group that is a pair has exactly one value.
-pub one-value : (key value second : List ℕ) (g : List HeldLine) → HasPair key value g → has_value second g ≡ true → value ≡ second
+pub one-value : (key value second : List ℕ) (g : List HeldLine) → HoldsPair key value g → has_value second g ≡ true → value ≡ second
 one-value key value second g h k =
     let s = sym (outcome_of-only (joined (as_lines g)) (given (pair key value)) h) in
     let t = sym (outcome_of-only (joined (as_lines g)) (given (pair key second)) (has_value-true key second g (value, h) k)) in

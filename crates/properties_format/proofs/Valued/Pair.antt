@@ -13,7 +13,7 @@ use Rattle.properties_format.specs.Escapes.{Means}
 use Rattle.properties_format.specs.Printing.{encoded_text}
 use Rattle.properties_format.specs.Body.{HeldLine, as_lines, group_bytes, HasKey}
 use Rattle.properties_format.specs.Edited.{is_editable}
-use Rattle.properties_format.specs.Valued.{value_text, IsFrontOf, HasPair}
+use Rattle.properties_format.specs.Valued.{value_text, IsFrontOf, HoldsPair}
 use Rattle.properties_format.specs.Computed.Valued.{without_indent}
 use Rattle.properties_format.proofs.Lines.Plain.{plain-append, plain-left}
 use Rattle.properties_format.proofs.Groups.Open.{is_open-other}
@@ -65,7 +65,7 @@ pub record IsChangedPair (r : Repertoire) (key between front value : List ℕ) (
   pub plain : HoldsNoLineEnding (new_bytes r head between value)
   pub some : new_bytes r head between value ≢ []
   pub whole : IsWhole (as_lines (kept ++ new_line r head between value ending ∷ []))
-  pub has_pair : HasPair key value (kept ++ new_line r head between value ending ∷ [])
+  pub has_pair : HoldsPair key value (kept ++ new_line r head between value ending ∷ [])
   pub is_front : IsFrontOf r.encoding (kept ++ new_line r head between value ending ∷ []) (between_after between) (front ++ missing between)
 
 -- A head isn't empty.

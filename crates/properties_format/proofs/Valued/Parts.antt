@@ -5,8 +5,8 @@ use Rattle.std.proofs.Math.Seq.{take-append_seam}
 use Rattle.properties_format.specs.Text.{is_comment_sign, without_leading_blanks, begins}
 use Rattle.properties_format.specs.Lines.{is_comment_line}
 use Rattle.properties_format.specs.Split.{IsPair}
-use Rattle.properties_format.specs.Computed.Split.{Cut, cut_key}
-use Rattle.properties_format.specs.Computed.Valued.{without_end, after_key, written_value, between_in, before_value}
+use Rattle.properties_format.specs.Computed.Split.{KeyCut, cut_key}
+use Rattle.properties_format.specs.Computed.Valued.{without_end, after_key, value_as_written, between_in, before_value}
 use Rattle.properties_format.proofs.Split.Blanks.{without_leading_blanks-only}
 use Rattle.properties_format.proofs.Split.Keys.{cut_key-only}
 use Rattle.properties_format.proofs.Split.Unique.{between-ends, between-value}
@@ -21,12 +21,12 @@ without_end-append x y =
 -- What follows the key of a pair.
 pub after_key-pair : (line key value : List ℕ) (h : IsPair line key value) → after_key line ≡ h.between ++ value
 after_key-pair line key value h =
-    ap (λ v. let c : Cut = cut_key v false in c.rest)
+    ap (λ v. let c : KeyCut = cut_key v false in c.rest)
     (ap without_leading_blanks h.whole ∙ without_leading_blanks-only h.indent (key ++ (h.between ++ value)) h.indent_blank h.begins_full)
-    ∙ ap (λ v. let c : Cut = v in c.rest) (cut_key-only key (h.between ++ value) h.is_key (between-ends h.between value h.is_between))
+    ∙ ap (λ v. let c : KeyCut = v in c.rest) (cut_key-only key (h.between ++ value) h.is_key (between-ends h.between value h.is_between))
 
 -- The value of a pair.
-pub written_value-pair : (line key value : List ℕ) (h : IsPair line key value) → written_value line ≡ value
+pub written_value-pair : (line key value : List ℕ) (h : IsPair line key value) → value_as_written line ≡ value
 written_value-pair line key value h = rw (after_key-pair line key value h, between-value h.between value h.is_between)
 
 -- What separates the key of a pair from its value.

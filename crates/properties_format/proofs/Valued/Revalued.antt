@@ -7,7 +7,7 @@ use Rattle.properties_format.specs.Text.{backslash, equals_sign, LineEnding, is_
 use Rattle.properties_format.specs.Encoding.{Encoding, Repertoire}
 use Rattle.properties_format.specs.Computed.Cut.{decoded_line}
 use Rattle.properties_format.specs.Lines.{is_open, is_comment_line, EndsClosed, AreOpen, IsWhole, joined}
-use Rattle.properties_format.specs.Split.{AreBlanks, ends, KeyUnit, plain, escaped, last, units_before, AreUnits, IsBetween, nothing, blanks, separator, IsPair}
+use Rattle.properties_format.specs.Split.{AreBlanks, ends, KeyUnit, plain, escaped, last, key_units_before, AreKeyUnits, IsBetween, nothing, blanks, separator, IsPair}
 use Rattle.properties_format.specs.Computed.Split.{ends_key}
 use Rattle.properties_format.specs.Printing.{encoded_text, printed_value}
 use Rattle.properties_format.specs.Body.{HeldLine, as_lines}
@@ -52,18 +52,18 @@ added-closed first (h ∷ hs) = simp (open-closed, joined_by, shut-closed, added
 -- ---- a key before another text
 
 -- The units of a key that doesn't end in a single backslash may come before any text.
-units-anew : (us : List KeyUnit) (rest other : List ℕ) → AreUnits us rest → (rest ≢ []) ⊎ (is_open (units_before us []) ≡ false) → AreUnits us other
+units-anew : (us : List KeyUnit) (rest other : List ℕ) → AreKeyUnits us rest → (rest ≢ []) ⊎ (is_open (key_units_before us []) ≡ false) → AreKeyUnits us other
 units-anew [] rest other h k = tt
 units-anew (plain c ∷ us) rest other h (inl k) = (h.0, units-anew us rest other h.1 (inl k))
-units-anew (plain c ∷ us) rest other h (inr k) = (h.0, units-anew us rest other h.1 (inr (sym (is_open-after [] c (units_before us []) h.0.0) ∙ k)))
+units-anew (plain c ∷ us) rest other h (inr k) = (h.0, units-anew us rest other h.1 (inr (sym (is_open-after [] c (key_units_before us []) h.0.0) ∙ k)))
 units-anew (escaped c ∷ us) rest other h (inl k) = (tt, units-anew us rest other h.1 (inl k))
 units-anew (escaped c ∷ us) rest other h (inr k) =
-    (tt, units-anew us rest other h.1 (inr (sym (open-closed (backslash ∷ c ∷ []) (units_before us []) (two (cases_Bool (c == backslash)))) ∙ k)))
+    (tt, units-anew us rest other h.1 (inr (sym (open-closed (backslash ∷ c ∷ []) (key_units_before us []) (two (cases_Bool (c == backslash)))) ∙ k)))
   where
     two : ((c == backslash) ≡ true) ⊎ ((c == backslash) ≡ false) → is_open (backslash ∷ c ∷ []) ≡ false
     two (inl m) = rw (eqb-true c backslash m) refl
     two (inr m) = is_open-other (backslash ∷ []) c m
-units-anew (last ∷ us) rest other h (inl k) = absurd (k (none-right (units_before us []) rest (sym (units_before-append us rest) ∙ h.0)))
+units-anew (last ∷ us) rest other h (inl k) = absurd (k (none-right (key_units_before us []) rest (sym (units_before-append us rest) ∙ h.0)))
 units-anew (last ∷ us) rest other h (inr k) = grind (arith, no-front, units_before-append)
 
 -- ---- what separates the key from the value, and the value

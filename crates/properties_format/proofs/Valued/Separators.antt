@@ -15,7 +15,7 @@ use Rattle.properties_format.specs.Printing.{printed_key, encoded_text, printed_
 use Rattle.properties_format.proofs.ReadBack.Values.{BeginsAfter, value-loose, loose-means, loosely-plain, loosely-closed, value-begins}
 use Rattle.properties_format.specs.Body.{HeldLine, as_lines}
 use Rattle.properties_format.specs.Edited.{is_editable}
-use Rattle.properties_format.specs.Valued.{value_text, shortened_after, separator_after, IsNewSeparator, IsFrontOf, HasPair}
+use Rattle.properties_format.specs.Valued.{value_text, shortened_after, separator_after, IsNewSeparator, IsFrontOf, HoldsPair}
 use Rattle.properties_format.proofs.Lines.Plain.{plain-append}
 use Rattle.properties_format.proofs.Groups.Joined.{joined-closed}
 use Rattle.properties_format.proofs.Split.Unique.{separator-full}
@@ -171,7 +171,7 @@ pub record IsAddedPair (r : Repertoire) (first : Bool) (key sep value : List ℕ
   pub plain : HoldsNoLineEnding (added_bytes r first key sep value)
   pub some : added_bytes r first key sep value ≢ []
   pub whole : IsWhole (as_lines (added_line r first key sep value by ∷ []))
-  pub has_pair : HasPair key value (added_line r first key sep value by ∷ [])
+  pub has_pair : HoldsPair key value (added_line r first key sep value by ∷ [])
   pub between : List ℕ
   pub is_front : IsFrontOf r.encoding (added_line r first key sep value by ∷ []) between (encoded_text r.encoding (printed_key r first key ++ sep))
   pub between_some : between ≢ []

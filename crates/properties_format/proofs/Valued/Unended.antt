@@ -8,7 +8,7 @@ use Rattle.properties_format.specs.Lines.{joined}
 use Rattle.properties_format.specs.Split.{IsPair}
 use Rattle.properties_format.specs.Body.{HeldLine, as_lines, ending_bytes, group_bytes}
 use Rattle.properties_format.specs.Computed.Body.{unended_bytes}
-use Rattle.properties_format.specs.Computed.Valued.{added_by, before_value, between_in, front_in, front_of, between_of, is_pair_to, has_value}
+use Rattle.properties_format.specs.Computed.Valued.{added_by, before_value, between_in, front_in, value_front, between_of, is_pair_to, has_value}
 use Rattle.properties_format.specs.Computed.Items.{outcome_of}
 use Rattle.properties_format.proofs.InTurn.Lines.{texts-with, with_ending}
 use Rattle.properties_format.proofs.Valued.Fronts.{joined_by, joined-by, pair-unmarked, front-here, front-later}
@@ -56,7 +56,7 @@ front_in-with e o first p (h ∷ i ∷ hs) n = elim (cases_Bool (nat_le (length 
 ]
 
 pub front-with : (e : Encoding) (o : Option LineEnding) (g : List HeldLine) (key value : List ℕ) → IsPair (joined (as_lines g)) key value
-    → front_of e (with_ending o g) ≡ front_of e g
+    → value_front e (with_ending o g) ≡ value_front e g
 front-with e o [] key value h = refl
 front-with e o (i ∷ is) key value h =
     let line = joined (as_lines (i ∷ is)) in

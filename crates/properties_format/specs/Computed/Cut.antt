@@ -1,6 +1,6 @@
 -- The lines of undecoded bytes, computed from the end of the bytes.
 use Rattle.std.specs.Prelude.{ℕ, if◌then◌else◌, List, [], ◌∷◌, map}
-use Rattle.properties_format.specs.Text.{is_line_ending, characters}
+use Rattle.properties_format.specs.Text.{is_line_ending, piece_characters}
 use Rattle.properties_format.specs.Lines.{Lines}
 use Rattle.properties_format.specs.Utf16.{low_first, high_first}
 use Rattle.properties_format.specs.Encoding.{Encoding, utf_16le, utf_16be}
@@ -30,11 +30,11 @@ cut_of e d = lines_of d
 
 -- the text of a line's bytes
 abbrev pub decoded_line : Encoding → List ℕ → List ℕ
-decoded_line e d = characters (pieces_of e d)
+decoded_line e d = piece_characters (pieces_of e d)
 
 -- ---- Lines of windows-1252 that aren't decoded yet. Each byte is one character there, so that lines may be joined and
 -- split before they are decoded.
 
 -- the characters of bytes, each of which is one
-abbrev pub characters_of : List ℕ → List ℕ
-characters_of bytes = map windows_1252_character bytes
+abbrev pub windows_1252_characters : List ℕ → List ℕ
+windows_1252_characters bytes = map windows_1252_character bytes

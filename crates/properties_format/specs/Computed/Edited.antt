@@ -2,6 +2,6 @@
 use Rattle.properties_format.specs.Items.{Outcome, broken}
 
 -- The outcome isn't malformed.
-abbrev pub IsSound : Outcome → Type 0
-IsSound (broken kind) = ⊥
-IsSound outcome = Unit {0}
+abbrev pub IsSoundOutcome : Outcome → Type 0
+IsSoundOutcome (broken kind) = ⊥
+IsSoundOutcome outcome = Unit {0}

@@ -1,6 +1,6 @@
 -- How bytes are decoded: piece by piece, from the first byte on.
 use Rattle.std.specs.Prelude.{ℕ, ◌&&◌, Bool, nat_le, if◌then◌else◌, List, [], ◌∷◌, length, ◌==◌, Option, Some, None, true, false, zero, suc, drop, ◌||◌}
-use Rattle.properties_format.specs.Text.{Piece, piece, replacement, characters}
+use Rattle.properties_format.specs.Text.{Piece, piece, replacement, piece_characters}
 use Rattle.properties_format.specs.Utf8.{Range, well_formed_rows, sequence_character}
 use Rattle.properties_format.specs.Utf16.{is_high, is_low, pair_character, low_first, high_first}
 use Rattle.properties_format.specs.Windows1252.{windows_1252_character}
@@ -68,11 +68,11 @@ pieces_of e d = pieces_within e (length d) d
 
 -- the text of an input: its body, decoded in the encoding in force
 abbrev pub decoded_of : Encoding → List ℕ → List ℕ
-decoded_of e b = characters (pieces_of (byte_order_mark e b).encoding (byte_order_mark e b).body)
+decoded_of e b = piece_characters (pieces_of (byte_order_mark e b).encoding (byte_order_mark e b).body)
 
 -- the characters of some bytes: in this encoding, or after any byte order mark if the bytes may begin with one
 abbrev pub characters_from : Encoding → Bool → List ℕ → List ℕ
-characters_from e true d = characters (pieces_of e d)
+characters_from e true d = piece_characters (pieces_of e d)
 characters_from e false d = decoded_of e d
 
 -- ---- Incomplete bytes: the next bytes may still change their byte order mark or their first piece.

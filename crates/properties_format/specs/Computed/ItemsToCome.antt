@@ -1,7 +1,7 @@
 -- The items that a reader will still return, computed: the natural lines to come, the logical lines to come, and their
 -- entries.
 use Rattle.std.specs.Prelude.{ℕ, ◌+◌, if◌then◌else◌, List, [], ◌∷◌, Option, Some, None, ◌≡◌, true, false, ◌++◌}
-use Rattle.properties_format.specs.Text.{characters}
+use Rattle.properties_format.specs.Text.{piece_characters}
 use Rattle.properties_format.specs.Computed.Encoding.{pieces_of}
 use Rattle.properties_format.specs.Lines.{InputEnd, Line, Lines, line_endings, numbered}
 use Rattle.properties_format.specs.Computed.Lines.{rest_of_end, lines_of, groups_of, logical_lines, joins_after}
@@ -14,7 +14,7 @@ use Rattle.properties_format.specs.Cut.{HoldsNoLineEndingUnit}
 
 -- the characters to come, without an LF that belongs to the line ending before
 abbrev pub text_to_come : ReaderState → List ℕ → List ℕ
-text_to_come s d = rest_of_end s.after_cr (characters (pieces_of (in_force s d).encoding (in_force s d).body))
+text_to_come s d = rest_of_end s.after_cr (piece_characters (pieces_of (in_force s d).encoding (in_force s d).body))
 
 -- the entries of lines after n line endings
 abbrev pub further_entries : ℕ → Lines → InputEnd → List Entry

@@ -18,12 +18,12 @@ abbrev pub trimmed : List ℕ → List ℕ
 trimmed x = without_trailing_blanks (without_leading_blanks x)
 
 -- a key, and the text after it
-pub record Cut : Type 0 where
+pub record KeyCut : Type 0 where
   pub key : List ℕ
   pub rest : List ℕ
 
 -- the key with one more character at the front
-abbrev pub with_front : ℕ → Cut → Cut
+abbrev pub with_front : ℕ → KeyCut → KeyCut
 with_front c cut = record { key = c ∷ cut.key; rest = cut.rest }
 
 -- whether the character ends a key unless a backslash comes before it
@@ -31,7 +31,7 @@ abbrev pub ends_key : ℕ → Bool
 ends_key c = if is_blank c then true else is_separator c
 
 -- the text, divided where its key ends; the flag says whether an unescaped backslash comes before the text
-abbrev pub cut_key : List ℕ → Bool → Cut
+abbrev pub cut_key : List ℕ → Bool → KeyCut
 cut_key [] is_escaped = record { key = []; rest = [] }
 cut_key (c ∷ cs) true = with_front c (cut_key cs false)
 cut_key (c ∷ cs) false =
@@ -44,7 +44,7 @@ past_separator [] = []
 past_separator (c ∷ cs) = if is_separator c then without_leading_blanks cs else c ∷ cs
 
 -- the pair, given the key and the text after it
-abbrev pub pair_of : Cut → Logical
+abbrev pub pair_of : KeyCut → Logical
 pair_of cut = pair cut.key (past_separator (without_leading_blanks cut.rest))
 
 -- what a line is that doesn't begin with a blank

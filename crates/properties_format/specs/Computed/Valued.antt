@@ -23,16 +23,16 @@ abbrev pub after_key : List ℕ → List ℕ
 after_key x = (cut_key (without_leading_blanks x) false).rest
 
 -- the value as it is written, with its escapes
-abbrev pub written_value : List ℕ → List ℕ
-written_value x = past_separator (without_leading_blanks (after_key x))
+abbrev pub value_as_written : List ℕ → List ℕ
+value_as_written x = past_separator (without_leading_blanks (after_key x))
 
 -- what separates the key from the value
 abbrev pub between_in : List ℕ → List ℕ
-between_in x = without_end (after_key x) (written_value x)
+between_in x = without_end (after_key x) (value_as_written x)
 
 -- what comes before the value
 abbrev pub before_value : List ℕ → List ℕ
-before_value x = without_end x (written_value x)
+before_value x = without_end x (value_as_written x)
 
 -- ---- the front of a pair
 
@@ -70,8 +70,8 @@ front_in e first p (h ∷ hs) =
     ]
 
 -- the front of a group that is a pair
-abbrev pub front_of : Encoding → List HeldLine → List ℕ
-front_of e group = front_in e true (before_value (joined (as_lines group))) group
+abbrev pub value_front : Encoding → List HeldLine → List ℕ
+value_front e group = front_in e true (before_value (joined (as_lines group))) group
 
 -- what separates its key from its value
 abbrev pub between_of : List HeldLine → List ℕ

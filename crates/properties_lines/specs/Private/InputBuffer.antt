@@ -5,7 +5,7 @@ use Rattle.counted_io.specs.Streams.{Reader, HasRead, HasFailed, has_ended}
 use Rattle.std.specs.Str.{IsUtf8}
 use Rattle.properties_format.specs.Encoding.{utf_8}
 use Rattle.properties_text.specs.Encoding.{encoding_of}
-use Rattle.properties_lines.specs.Scanner.{is_decided, bytes_of}
+use Rattle.properties_lines.specs.Scanner.{is_decided, raw_line_bytes}
 use Rattle.properties_lines.specs.declared.scanner.Scanner.{Scanner}
 
 -- the bytes that are held, and the size of the free space after them
@@ -64,7 +64,7 @@ pub record IsApart (s : Scanner) (held : List ℕ) : Type 0 where
 -- Up to this place, what is held is well-formed, from the line on or from the scanner's place on.
 pub record KnowsText (s : Scanner) (held : List ℕ) (well_formed : ℕ) : Type 0 where
   pub ahead : IsUtf8 (between s.at well_formed held)
-  pub line : s.line.end ≤ well_formed → IsUtf8 (bytes_of held s.line)
+  pub line : s.line.end ≤ well_formed → IsUtf8 (raw_line_bytes held s.line)
   pub around : (s.line.start ≡ s.line.end) ⊎ IsApart s held
 
 pub record IsTested (s : Scanner) (held : List ℕ) (well_formed : ℕ) : Type 0 where

@@ -7,7 +7,7 @@ use Rattle.properties_format.specs.Edited.{bom_of, is_editable}
 use Rattle.properties_items.specs.Errors.{IsBareError}
 use Rattle.properties_items.specs.declared.error.ErrorKind.TheVariants as error
 use Rattle.properties_items.specs.declared.error.PropertiesError.{PropertiesError}
-use Rattle.properties_editing.specs.Views.{IsGroup, OpenView, past}
+use Rattle.properties_editing.specs.Views.{IsGroup, OpenView, past_group}
 use Rattle.properties_renaming.specs.CommentLines.{AreCommentGroups, IsCommentGroup}
 use Rattle.properties_renaming.specs.Commented.{AreOthers}
 use Rattle.properties_renaming.specs.Renaming.{AreIn}
@@ -19,8 +19,8 @@ pub record TakesHeaded (old : OpenView) (headed : Headed) (new : OpenView) : Typ
   pub are_comments : AreCommentGroups run
   pub other : ¬ (IsCommentGroup new.group)
   pub takes : old.to_come ≡ run ++ new.group ∷ new.to_come
-  pub start : headed.start ≡ (past old).start
-  pub group_start : new.start ≡ (past old).start + length (groups_bytes run)
+  pub start : headed.start ≡ (past_group old).start
+  pub group_start : new.start ≡ (past_group old).start + length (groups_bytes run)
   pub is_group : IsGroup new headed.group
 
 -- or comment lines alone were to come.
@@ -29,7 +29,7 @@ GivesHeaded old None new = AreCommentGroups old.to_come
 GivesHeaded old (Some headed) new = TakesHeaded old headed new
 
 -- The bytes are the byte order mark and the other groups.
-pub record AreLeft (e : Encoding) (source key bytes : List ℕ) : Type 0 where
+pub record AreOthersLeft (e : Encoding) (source key bytes : List ℕ) : Type 0 where
   pub groups : List (List HeldLine)
   pub held : AreIn e source groups
   pub rest : List ℕ
@@ -38,6 +38,6 @@ pub record AreLeft (e : Encoding) (source key bytes : List ℕ) : Type 0 where
 
 -- Or the encoding can't be edited, or memory ran out.
 abbrev pub LeavesOthers : Encoding → List ℕ → List ℕ → Result (Vec ℕ) PropertiesError → Type 0
-LeavesOthers e source key (Ok bytes) = AreLeft e source key bytes.items
+LeavesOthers e source key (Ok bytes) = AreOthersLeft e source key bytes.items
 LeavesOthers e source key (Err reason) =
     (is_editable (byte_order_mark e source).encoding ≡ false) × IsBareError error.Unsupported reason ⊎ IsBareError error.Memory reason

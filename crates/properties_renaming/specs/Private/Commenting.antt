@@ -3,7 +3,7 @@ use Rattle.std.specs.Prelude.{◌≡◌, ◌≢◌, ◌⊎◌, ◌++◌, ◌-◌
 use Rattle.std.specs.Global.{Vec}
 use Rattle.std.specs.Option.{unwrap_or}
 use Rattle.properties_format.specs.Text.{crlf, is_empty, lf, line_ending_text}
-use Rattle.properties_format.specs.Encoding.{Encoding, Repertoire, byte_order_mark, in_force}
+use Rattle.properties_format.specs.Encoding.{Encoding, Repertoire, byte_order_mark, repertoire_in_force}
 use Rattle.properties_format.specs.Lines.{HoldsNoLineEnding, is_comment_line, joined}
 use Rattle.properties_format.specs.Body.{AreGroupsOf, HeldLine, HasKey, NoneHasKey, as_lines, ending_bytes, group_bytes, groups_bytes, last_ending}
 use Rattle.properties_format.specs.Edited.{bom_of, final_group, is_editable}
@@ -16,7 +16,7 @@ use Rattle.properties_items.specs.Errors.{IsBareError}
 use Rattle.properties_items.specs.Texts.{characters}
 use Rattle.properties_items.specs.declared.error.ErrorKind.TheVariants as error
 use Rattle.properties_items.specs.declared.error.PropertiesError.{PropertiesError}
-use Rattle.properties_editing.specs.Views.{OpenView, past}
+use Rattle.properties_editing.specs.Views.{OpenView, past_group}
 use Rattle.properties_editing.specs.declared.group.ViewedGroup.{ViewedGroup}
 use Rattle.properties_renaming.specs.CommentLines.{AreCommentGroups, AreCommentTexts, IsCommentGroup, IsCommentLine, IsCommentOf}
 use Rattle.properties_renaming.specs.Commenting.{HasNewLines, HaveNoText, IsCommentSet, IsStyleFor, LineStyle, gap_before, texts_of}
@@ -29,7 +29,7 @@ use Rattle.properties_renaming.specs.declared.commenting.TextLines.{TextLines}
 -- ---- the comment lines above a group
 
 -- The group is at this place.
-pub record IsAt (start : ℕ) (g : List HeldLine) (group : ViewedGroup) : Type 0 where
+pub record IsGroupAt (start : ℕ) (g : List HeldLine) (group : ViewedGroup) : Type 0 where
   pub start_is : group.start ≡ start
   pub end_is : group.end ≡ start + (length (group_bytes g) - length (ending_bytes (last_ending g)))
   pub next_is : group.next ≡ start + length (group_bytes g)
@@ -44,7 +44,7 @@ pub record IsModel (start : ℕ) (run : List (List HeldLine)) (model : ViewedGro
   pub text : List ℕ
   pub is_line : IsCommentLine (joined (as_lines line)) text
   pub some : text ≢ []
-  pub at : IsAt (start + length (groups_bytes before)) line model
+  pub at : IsGroupAt (start + length (groups_bytes before)) line model
 
 -- Or none has one.
 abbrev pub TellsModel : ℕ → List (List HeldLine) → Option ViewedGroup → Type 0
@@ -58,7 +58,7 @@ texts_in comment = map characters comment.texts.items
 -- The next group that isn't a comment line was given, with the comment lines directly above it, and their texts;
 abbrev pub TakesComment : OpenView → Comment → OpenView → Type 0
 TakesComment old comment new =
-    (h : TakesHeaded old comment.headed new) × AreCommentTexts h.run (texts_in comment) × TellsModel (past old).start h.run comment.model
+    (h : TakesHeaded old comment.headed new) × AreCommentTexts h.run (texts_in comment) × TellsModel (past_group old).start h.run comment.model
 
 -- or comment lines alone were to come.
 abbrev pub GivesComment : OpenView → Option Comment → OpenView → Type 0
@@ -72,7 +72,7 @@ first_model model line text = if is_empty text then model else Some (unwrap_or m
 -- ---- the last pair with a key
 
 -- The last of these groups that is a pair with the key, and its comment. The first of them begins here.
-pub record IsFoundIn (groups : List (List HeldLine)) (key : List ℕ) (start : ℕ) (comment : Comment) : Type 0 where
+pub record IsCommentFoundIn (groups : List (List HeldLine)) (key : List ℕ) (start : ℕ) (comment : Comment) : Type 0 where
   pub before : List (List HeldLine)
   pub run : List (List HeldLine)
   pub group : List HeldLine
@@ -84,12 +84,12 @@ pub record IsFoundIn (groups : List (List HeldLine)) (key : List ℕ) (start : �
   pub no_earlier : ¬ (IsCommentGroup (final_group before))
   pub are_texts : AreCommentTexts run (texts_in comment)
   pub start_is : comment.headed.start ≡ start + length (groups_bytes before)
-  pub at : IsAt (comment.headed.start + length (groups_bytes run)) group comment.headed.group
+  pub at : IsGroupAt (comment.headed.start + length (groups_bytes run)) group comment.headed.group
   pub model : TellsModel comment.headed.start run comment.model
 
 abbrev pub TellsFound : List (List HeldLine) → List ℕ → ℕ → Option Comment → Type 0
 TellsFound groups key start None = NoneHasKey key groups
-TellsFound groups key start (Some comment) = IsFoundIn groups key start comment
+TellsFound groups key start (Some comment) = IsCommentFoundIn groups key start comment
 
 -- These are the groups of a source, and this is found in them.
 pub record HasFound (e : Encoding) (source key : List ℕ) (found : Option Comment) : Type 0 where
@@ -109,13 +109,13 @@ FindsComment e source key (Ok found) = HasFound e source key found
 FindsComment e source key (Err reason) = IsUnopened e source reason
 
 -- It was found there for some key.
-abbrev pub IsFound : Encoding → List ℕ → Comment → Type 0
-IsFound e source comment = (key : List ℕ) × HasFound e source key (Some comment)
+abbrev pub IsFoundComment : Encoding → List ℕ → Comment → Type 0
+IsFoundComment e source comment = (key : List ℕ) × HasFound e source key (Some comment)
 
 abbrev pub IsFoundSome : List ℕ → Comment → Type 0
-IsFoundSome source comment = (e : Encoding) × IsFound e source comment
+IsFoundSome source comment = (e : Encoding) × IsFoundComment e source comment
 
-abbrev pub comment_in : {groups : List (List HeldLine)} {key : List ℕ} {start : ℕ} {comment : Comment} → IsFoundIn groups key start comment → IsCommentOf groups key
+abbrev pub comment_in : {groups : List (List HeldLine)} {key : List ℕ} {start : ℕ} {comment : Comment} → IsCommentFoundIn groups key start comment → IsCommentOf groups key
 comment_in h = record {
   before = h.before;
   run = h.run;
@@ -135,7 +135,7 @@ pub record HoldsGroup (source : List ℕ) (g : List HeldLine) (group : ViewedGro
   pub front : List ℕ
   pub rest : List ℕ
   pub whole : source ≡ front ++ (group_bytes g ++ rest)
-  pub at : IsAt (length front) g group
+  pub at : IsGroupAt (length front) g group
 
 -- the same, of a comment line
 abbrev pub HoldsLine : List ℕ → List HeldLine → ViewedGroup → Type 0
@@ -161,14 +161,14 @@ line_feed_after front = line_ending_text (if ends_in_cr front then crlf else lf)
 -- ---- new lines
 
 -- the bytes of a new comment line, as it is printed
-abbrev pub line_bytes : code.Repertoire → Style → List ℕ → List ℕ
-line_bytes r style x = style.indent.now ++ (style.sign ∷ (gap_before style.blank.now x ++ (text_bytes r Prefix x ++ style.ending.now)))
+abbrev pub comment_line_bytes : code.Repertoire → Style → List ℕ → List ℕ
+comment_line_bytes r style x = style.indent.now ++ (style.sign ∷ (gap_before style.blank.now x ++ (text_bytes r Prefix x ++ style.ending.now)))
 
 -- They were put in place of those that were found.
 abbrev pub PutsLines : Repertoire → List ℕ → Comment → List (List ℕ) → List ℕ → Type 0
 PutsLines r source comment lines result =
     (key : List ℕ) (h : HasFound r.encoding source key (Some comment))
-    → HasNewLines (in_force r source) source (comment_in h.found_is) lines result
+    → HasNewLines (repertoire_in_force r source) source (comment_in h.found_is) lines result
 
 -- The source with the comment of a key set, or no pair has the key.
 abbrev pub MakesComment : Repertoire → List ℕ → List ℕ → List ℕ → Result (Option (Vec ℕ)) PropertiesError → Type 0

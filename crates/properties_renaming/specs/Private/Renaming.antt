@@ -2,7 +2,7 @@
 use Rattle.std.specs.Prelude.{◌≡◌, ◌≢◌, ◌≤◌, ◌⊎◌, ◌++◌, ℕ, ◌+◌, ◌==◌, nat_le, ◌&&◌, ◌||◌, not, Bool, true, false, if◌then◌else◌, List, [], ◌∷◌, length, take, drop, Option, Some, None, Result, Ok, Err}
 use Rattle.std.specs.Str.{chars}
 use Rattle.properties_format.specs.Text.{backslash, begins, equals_sign, is_blank, is_blanks, is_line_ending}
-use Rattle.properties_format.specs.Encoding.{Characters, Encoding, Repertoire, byte_order_mark, in_force}
+use Rattle.properties_format.specs.Encoding.{Characters, Encoding, Repertoire, byte_order_mark, repertoire_in_force}
 use Rattle.properties_format.specs.Split.{IsPair}
 use Rattle.properties_format.specs.Printing.{encoded_text, in_prefix, printed_characters, printed_key}
 use Rattle.properties_format.specs.Items.{Outcome}
@@ -127,7 +127,7 @@ pub record AreRenamed (r : Repertoire) (source old new : List ℕ) (renamed : Re
   pub there : TellsThere old groups renamed.is_there
   pub taken : TellsTaken old new groups renamed.taken
   pub body : List ℕ
-  pub rekeyed : AreRekeyed (in_force r source) old new true groups body
+  pub rekeyed : AreRekeyed (repertoire_in_force r source) old new true groups body
   pub whole : renamed.bytes.items ≡ bom_of source ++ body
 
 -- Or the encoding can't be edited, or memory ran out.

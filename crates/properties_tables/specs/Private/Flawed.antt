@@ -5,8 +5,8 @@ use Rattle.properties_format.specs.Body.{HeldLine}
 use Rattle.properties_format.specs.Encoding.{Encoding, windows_1252, utf_8, utf_16le, utf_16be}
 use Rattle.properties_format.specs.Utf16.{is_high, is_low, low_first, high_first}
 use Rattle.properties_text.specs.Encoding.{encoding_of}
-use Rattle.properties_lines.specs.Private.HeldLines.{IsInBody, lines_left}
-use Rattle.properties_lines.specs.Scanner.{HasRightFlags, bytes_of}
+use Rattle.properties_lines.specs.Private.HeldLines.{IsInBody, held_lines_left}
+use Rattle.properties_lines.specs.Scanner.{HasRightFlags, raw_line_bytes}
 use Rattle.properties_lines.specs.declared.scanner.RawLine.{RawLine}
 use Rattle.properties_lines.specs.declared.scanner.Scanner.{Scanner}
 use Rattle.properties_tables.specs.Lines.{holds_byte, holds_mark_in, holds_non_ascii, holds_zero, AreFlawedIn, HasFlawed}
@@ -16,9 +16,9 @@ use Rattle.properties_tables.specs.declared.ill_formed.Flaw.TheVariants.{IllForm
 -- ---- the bytes of a line
 
 -- the unit that two bytes make
-abbrev pub unit_in : Encoding → ℕ → ℕ → ℕ
-unit_in utf_16be = high_first
-unit_in other = low_first
+abbrev pub unit_at : Encoding → ℕ → ℕ → ℕ
+unit_at utf_16be = high_first
+unit_at other = low_first
 
 -- Whether each surrogate is one of a pair, and no byte is left over. A high surrogate may come before the bytes.
 abbrev pub are_paired : (ℕ → ℕ → ℕ) → Bool → List ℕ → Bool
@@ -78,20 +78,20 @@ numbers_from flaw e n (h ∷ hs) = if is_flawed flaw e h.bytes then (n + 1) ∷ 
 
 -- those of the lines to come
 abbrev pub numbers_left : Flaw → List ℕ → Scanner → List ℕ
-numbers_left flaw body s = numbers_from flaw (encoding_of s.encoding) s.passed (lines_left body s)
+numbers_left flaw body s = numbers_from flaw (encoding_of s.encoding) s.passed (held_lines_left body s)
 
 -- A body is scanned. The lines before the scanner's place and those to come are at most one more than the bytes.
 pub record IsScanning (body : List ℕ) (s : Scanner) : Type 0 where
   pub in_body : IsInBody s body
-  pub few : s.passed + length (lines_left body s) ≤ length body + 1
+  pub few : s.passed + length (held_lines_left body s) ≤ length body + 1
 
 -- The next number is found, if there is one.
-abbrev pub FindsNext : Flaw → List ℕ → Scanner → Option ℕ → Scanner → Type 0
-FindsNext flaw body old None new = numbers_left flaw body old ≡ []
-FindsNext flaw body old (Some number) new = IsScanning body new × (numbers_left flaw body old ≡ number ∷ numbers_left flaw body new)
+abbrev pub FindsFlawedLine : Flaw → List ℕ → Scanner → Option ℕ → Scanner → Type 0
+FindsFlawedLine flaw body old None new = numbers_left flaw body old ≡ []
+FindsFlawedLine flaw body old (Some number) new = IsScanning body new × (numbers_left flaw body old ≡ number ∷ numbers_left flaw body new)
 
 -- A line of bytes was found.
-pub record IsFound (e : Encoding) (body : List ℕ) (line : RawLine) : Type 0 where
+pub record IsFoundLine (e : Encoding) (body : List ℕ) (line : RawLine) : Type 0 where
   pub ordered : line.start ≤ line.end
   pub within : line.end ≤ length body
-  pub flags : HasRightFlags e (bytes_of body line) line
+  pub flags : HasRightFlags e (raw_line_bytes body line) line

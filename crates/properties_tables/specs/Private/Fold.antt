@@ -45,10 +45,10 @@ AreFindings e source findings = AreFound findings_from e source end findings
 -- ---- what is among findings
 
 -- the pairs
-abbrev pub pairs_among : List Finding → List Entry
-pairs_among [] = []
-pairs_among (found_pair number key value ∷ rest) = item number (pair key value) ∷ pairs_among rest
-pairs_among (found_escape escape ∷ rest) = pairs_among rest
+abbrev pub found_pairs : List Finding → List Entry
+found_pairs [] = []
+found_pairs (found_pair number key value ∷ rest) = item number (pair key value) ∷ found_pairs rest
+found_pairs (found_escape escape ∷ rest) = found_pairs rest
 
 -- their keys
 abbrev pub keys_among : List Finding → List KeyPlace

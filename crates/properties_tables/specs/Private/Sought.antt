@@ -8,7 +8,7 @@ use Rattle.properties_format.specs.Computed.Maps.{Has}
 use Rattle.properties_format.proofs.Maps.{value_in}
 use Rattle.java_properties.specs.Maps.{characters}
 use Rattle.properties_tables.specs.Sources.{first_in_pair}
-use Rattle.properties_tables.specs.Private.Fold.{escapes_among, pairs_among, Finding}
+use Rattle.properties_tables.specs.Private.Fold.{escapes_among, found_pairs, Finding}
 use Rattle.properties_tables.specs.declared.values.Sought.{Sought}
 
 -- what is held for a key that is sought: its value, if it has one
@@ -48,7 +48,7 @@ SeeksMore key old new = IsSeeking new × ((keys : List (List ℕ)) → Seeks key
 pub record TookSought (first : Sought) (findings : List Finding) (new : Sought) : Type 0 where
   pub malformed : new.malformed ≡ first_in_pair (escapes_among findings)
   pub seeking : IsSeeking new
-  pub values : (key : List ℕ) → held_value new key ≡ option_map (λ none. value_in (pairs_among findings) key) (held_value first key)
+  pub values : (key : List ℕ) → held_value new key ≡ option_map (λ none. value_in (found_pairs findings) key) (held_value first key)
 
 -- the first of two, if there is one, else the second
 abbrev pub or_else : {A : Type 0} → Option A → Option A → Option A

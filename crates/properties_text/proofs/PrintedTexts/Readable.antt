@@ -5,7 +5,7 @@ use Rattle.properties_format.specs.Escapes as format
 use Rattle.properties_format.specs.Escapes.{means, breaks, Means}
 use Rattle.properties_text.specs.Escaping.{malformed_in}
 use Rattle.properties_text.specs.Printing.{puts_of, key_bytes}
-use Rattle.properties_text.specs.PrintedTexts.{meaning_by, meaning_in, bytes_of, key_of, value_of, IsPairPrinted, BreaksPair, PrintsPair, PrintsMeant}
+use Rattle.properties_text.specs.PrintedTexts.{meaning_by, meaning_in, bytes_of, key_meaning, value_meaning, IsPairPrinted, BreaksPair, PrintsPair, PrintsMeant}
 use Rattle.properties_text.specs.declared.encoding.line_encoding.LineEncoding.{LineEncoding}
 use Rattle.properties_text.specs.declared.escape.UnescapeError.{UnescapeError}
 use Rattle.properties_text.specs.declared.escape.UnescapeError.TheVariants as error
@@ -32,11 +32,11 @@ parts-appended old key separator none value ending ended fronted valued new n f 
 pub no-value : (e : LineEncoding) (escaped : Bool) (v : Part) → v.size ≡ 0 → meaning_in e escaped (bytes_of v) ≡ means []
 no-value e escaped v h = ap (λ n. meaning_in e escaped (take n v.bytes.now)) h ∙ ap (meaning_by escaped) (no-text e [] refl) ∙ empty-means escaped
 
-module _ (r : Repertoire) (first : Bool) (puts : List ℕ → List ℕ) (old separator ending : List ℕ) (front p : Pair) (key : key_of front ≡ key_of p)
-    (value : value_of front ≡ means []) where
+module _ (r : Repertoire) (first : Bool) (puts : List ℕ → List ℕ) (old separator ending : List ℕ) (front p : Pair) (key : key_meaning front ≡ key_meaning p)
+    (value : value_meaning front ≡ means []) where
   -- The key and an empty value were printed, and then the value.
   pub pair-appended : (ended fronted valued new : List ℕ) → IsPairPrinted r first (puts_of r) old front separator [] fronted
-      → PrintsMeant (value_of p) puts fronted (Ok tt) valued → new ≡ valued ++ ended → ended ≡ ending → IsPairPrinted r first puts old p separator ending new
+      → PrintsMeant (value_meaning p) puts fronted (Ok tt) valued → new ≡ valued ++ ended → ended ≡ ending → IsPairPrinted r first puts old p separator ending new
   pair-appended ended fronted valued new h m e s =
       let none : means h.value ≡ means [] = sym h.value_means ∙ value in
       let empty : h.value ≡ [] = cc in

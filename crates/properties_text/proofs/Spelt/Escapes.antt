@@ -10,7 +10,7 @@ use Rattle.properties_format.specs.Escapes.{letter_u, escaped, unicode, surrogat
 use Rattle.properties_format.specs.Computed.Escapes.{in_front, with_low, meaning_of}
 use Rattle.properties_format.proofs.Escapes.Laws.{IsMalformedUnit}
 use Rattle.properties_format.proofs.Escapes.Unique.{meaning_of-spelling}
-use Rattle.properties_text.specs.Escaping.{malformed_in, text_in, IsWell, Spells, Reads, digits_in, BeginsUnit, HasDigits, LacksDigits, HasLow, LacksLow, CountsFour, IsFirst, IsRead}
+use Rattle.properties_text.specs.Escaping.{malformed_in, text_in, IsWell, Spells, ReadsSpelt, digits_in, BeginsUnit, HasDigits, LacksDigits, HasLow, LacksLow, CountsFour, IsFirst, IsRead}
 use Rattle.properties_text.specs.declared.encoding.line_encoding.LineEncoding.{LineEncoding}
 use Rattle.properties_text.specs.declared.encoding.line_encoding.LineEncoding.TheVariants.{Windows1252, Utf8}
 use Rattle.properties_text.specs.declared.encoding.line_encoding.ReadCharacter.{ReadCharacter}
@@ -124,12 +124,12 @@ unread e bs NotHex w l h =
 unread e bs InvalidCharacter w l h = absurd h
 
 -- What is malformed after `\u` makes the whole malformed.
-from-u : (e : LineEncoding) (bs x : List ℕ) (m : Malformed) → text_in e bs ≡ backslash ∷ letter_u ∷ x → IsMalformedUnit x (malformed_in m) → Reads e bs (Err m)
+from-u : (e : LineEncoding) (bs x : List ℕ) (m : Malformed) → text_in e bs ≡ backslash ∷ letter_u ∷ x → IsMalformedUnit x (malformed_in m) → ReadsSpelt e bs (Err m)
 from-u e bs x m s h = subst (λ v. NoSpelling v × (meaning_of v ≡ breaks (malformed_in m))) (sym s) h
 
 -- No four digits follow `\u`.
 pub reads-none : (e : LineEncoding) (bs : List ℕ) (m : Malformed) → IsWell e bs → BeginsUnit bs → LacksDigits bs → CountsFour e (drop 2 bs) m
-    → Reads e bs (Err m)
+    → ReadsSpelt e bs (Err m)
 reads-none e bs m w b l h =
     let a = after-u e bs w b in
     from-u e bs (text_in e (drop 2 bs)) m a.characters (malformed-unread (text_in e (drop 2 bs)) m (unread e bs m a.well l h))
@@ -164,7 +164,7 @@ low-back e bs low rest w s h =
 
 -- A surrogate without its other half was read.
 pub reads-unpaired : (e : LineEncoding) (bs : List ℕ) (high : ℕ) → IsWell e bs → BeginsUnit bs → HasDigits bs high → OutOfScalarRange high
-    → LacksLow high (drop 6 bs) → Reads e bs (Err InvalidCharacter)
+    → LacksLow high (drop 6 bs) → ReadsSpelt e bs (Err InvalidCharacter)
 reads-unpaired e bs high w b h out none =
     let a = after-u e bs w b in
     let u = unit-in e bs w b high h in

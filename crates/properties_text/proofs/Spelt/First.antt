@@ -14,7 +14,7 @@ use Rattle.properties_format.specs.Text.{scalar as is_scalar}
 use Rattle.std.proofs.lemmas.Bool.Decides.{nat_tests}
 use Rattle.properties_format.specs.Utf8.{sequence_character}
 use Rattle.properties_format.specs.Windows1252.{windows_1252_character}
-use Rattle.properties_format.specs.Computed.Cut.{characters_of}
+use Rattle.properties_format.specs.Computed.Cut.{windows_1252_characters}
 use Rattle.properties_format.proofs.Encodings.Utf8Characters.{encode-one, encode-two, encode-three, encode-four, encode-is_sequence}
 use Rattle.properties_format.proofs.Encodings.WellFormed.{scalar-from_char}
 use Rattle.properties_format.proofs.Encodings.Windows1252.{windows_1252-ascii, windows_1252_character-ascii}
@@ -95,7 +95,7 @@ pub record IsAfter (e : LineEncoding) (bs front : List ℕ) (n : ℕ) : Type 0 w
 
 -- An ASCII byte is a character.
 pub ascii-first : (e : LineEncoding) (b : ℕ) (rest : List ℕ) → b < 128 → IsWell e (b ∷ rest) → IsAfter e (b ∷ rest) (b ∷ []) 1
-ascii-first Windows1252 b rest h w = record { characters = ap (λ x. x ∷ characters_of rest) (windows_1252_character-ascii b h); well = tt }
+ascii-first Windows1252 b rest h w = record { characters = ap (λ x. x ∷ windows_1252_characters rest) (windows_1252_character-ascii b h); well = tt }
 ascii-first Utf8 b rest h w = let a = first_ascii b rest h w in record { characters = a.characters; well = a.utf8 }
 
 first-byte : (e : LineEncoding) (bs : List ℕ) (c : ℕ) (rest : List ℕ) → IsWell e bs → text_in e bs ≡ c ∷ rest → c < 128 → (more : List ℕ) × (bs ≡ c ∷ more)

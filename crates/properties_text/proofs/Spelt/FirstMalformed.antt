@@ -10,7 +10,7 @@ use Rattle.properties_format.specs.Escapes.{letter_u, Malformed, Spelling, itsel
 use Rattle.properties_format.specs.Windows1252.{windows_1252_character}
 use Rattle.properties_format.specs.Writing.{HoldsNoBackslash}
 use Rattle.properties_format.specs.Computed.Escapes.{first_spelling, text_in_front, meaning_of}
-use Rattle.properties_format.specs.Computed.Cut.{characters_of}
+use Rattle.properties_format.specs.Computed.Cut.{windows_1252_characters}
 use Rattle.properties_format.proofs.Escapes.First.{IsFound, first_spelling-found}
 use Rattle.properties_format.proofs.Escapes.Unique.{meaning_of-empty, meaning_of-fault, meaning_of-spellings, text_in_front-means}
 use Rattle.properties_text.specs.Escaping.{text_in, IsWell, IsRead}
@@ -45,7 +45,7 @@ record IsPlainBefore (e : LineEncoding) (bs : List ℕ) (at : ℕ) : Type 0 wher
 plain-before : (e : LineEncoding) (bs : List ℕ) (at : ℕ) → IsWell e bs → IsFirstByte (is_byte backslash) bs (Some at) → IsPlainBefore e bs at
 plain-before Windows1252 bs at w h = record {
   plain = no-backslash (take at bs) (found_some bs at h).plain;
-  whole = ap characters_of (sym (take-append-drop at bs)) ∙ map-append windows_1252_character (take at bs) (drop at bs);
+  whole = ap windows_1252_characters (sym (take-append-drop at bs)) ∙ map-append windows_1252_character (take at bs) (drop at bs);
 }
 plain-before Utf8 bs at w h =
     let s = split_at bs bs at w refl h in

@@ -10,7 +10,7 @@ use Rattle.properties_format.specs.Escapes.{means}
 use Rattle.properties_format.specs.Windows1252.{windows_1252_character}
 use Rattle.properties_format.specs.Writing.{HoldsNoBackslash}
 use Rattle.properties_format.specs.Computed.Escapes.{text_in_front, meaning_of}
-use Rattle.properties_format.specs.Computed.Cut.{characters_of}
+use Rattle.properties_format.specs.Computed.Cut.{windows_1252_characters}
 use Rattle.properties_format.proofs.Escapes.Laws.{meaning_of-plain_front, meaning_of-plain}
 use Rattle.properties_text.specs.Escaping.{holds_backslash, text_in, IsWell, IsRead}
 use Rattle.properties_text.specs.declared.encoding.line_encoding.LineEncoding.{LineEncoding}
@@ -27,7 +27,7 @@ other-byte : (b : ℕ) → (b == backslash) ≡ false → (windows_1252_characte
 other-byte b h = ne_eqb (windows_1252_character b) backslash (λ is. eqb-false b backslash h (own-byte b backslash is (lit< tt)))
 
 -- Bytes without one are a text without one.
-pub no-backslash : (bs : List ℕ) → holds_backslash bs ≡ false → HoldsNoBackslash (characters_of bs)
+pub no-backslash : (bs : List ℕ) → holds_backslash bs ≡ false → HoldsNoBackslash (windows_1252_characters bs)
 no-backslash [] h = tt
 no-backslash (b ∷ bs) h = let p = or_parts (b == backslash) (holds_backslash bs) h in (other-byte b p.0, no-backslash bs p.1)
 
@@ -49,9 +49,9 @@ split-in Windows1252 bs at w h =
       inside = f.inside;
       byte = f.byte;
       well = tt;
-      front = characters_of (take at bs);
-      meaning = ap meaning_of (ap characters_of (sym (take-append-drop at bs)) ∙ map-append windows_1252_character (take at bs) (drop at bs))
-          ∙ meaning_of-plain_front (characters_of (take at bs)) (characters_of (drop at bs)) (no-backslash (take at bs) f.plain);
+      front = windows_1252_characters (take at bs);
+      meaning = ap meaning_of (ap windows_1252_characters (sym (take-append-drop at bs)) ∙ map-append windows_1252_character (take at bs) (drop at bs))
+          ∙ meaning_of-plain_front (windows_1252_characters (take at bs)) (windows_1252_characters (drop at bs)) (no-backslash (take at bs) f.plain);
     }
 split-in Utf8 bs at w h =
     let f = found_some bs at h in
@@ -60,7 +60,7 @@ split-in Utf8 bs at w h =
 
 -- Without one, bytes mean what they are.
 pub plain-in : (e : LineEncoding) (bs : List ℕ) → IsWell e bs → IsFirstByte (is_byte backslash) bs None → meaning_of (text_in e bs) ≡ means (text_in e bs)
-plain-in Windows1252 bs w h = meaning_of-plain (characters_of bs) (no-backslash bs (found_none bs h))
+plain-in Windows1252 bs w h = meaning_of-plain (windows_1252_characters bs) (no-backslash bs (found_none bs h))
 plain-in Utf8 bs w h = (plain bs bs w refl h).meaning
 
 -- ---- escapes that were read one after another

@@ -6,7 +6,7 @@ use Rattle.std.proofs.lemmas.Str.{chars-encodes, encodes-chars, scalars-chars}
 use Rattle.std.proofs.lemmas.Bool.{cases_Bool, and_parts}
 use Rattle.properties_format.specs.Text.{backslash, is_blank, is_separator, is_comment_sign, without_leading_blanks}
 use Rattle.properties_format.specs.Split.{Logical, comment, IsSplit}
-use Rattle.properties_format.specs.Computed.Split.{without_trailing_blanks, unless_last_blank, trimmed, Cut, with_front, ends_key, cut_key, past_separator, pair_of, split_full, split_of}
+use Rattle.properties_format.specs.Computed.Split.{without_trailing_blanks, unless_last_blank, trimmed, KeyCut, with_front, ends_key, cut_key, past_separator, pair_of, split_full, split_of}
 use Rattle.properties_format.proofs.Split.Blanks.{without_leading_blanks-meets, without_trailing_blanks-meets}
 use Rattle.properties_format.proofs.Split.Keys.{with_text, cut_key-meets}
 use Rattle.properties_format.proofs.Split.Unique.{split_of-meets}
@@ -72,7 +72,7 @@ cut-wide b (d ∷ bs) rest true l w = ap (with_front b) (cut-wide d bs rest fals
 cut-wide b (d ∷ bs) rest false l w = rw (wide-no_backslash b l, wide-no_end b l) (ap (with_front b) (cut-wide d bs rest false w.0 w.1))
 
 -- a key and its rest, in bytes
-abbrev in_bytes : Cut → Cut
+abbrev in_bytes : KeyCut → KeyCut
 in_bytes cut = record { key = encodes cut.key; rest = encodes cut.rest }
 
 cut_key-encodes : (cs : List ℕ) (is_escaped : Bool) → cut_key (encodes cs) is_escaped ≡ in_bytes (cut_key cs is_escaped)

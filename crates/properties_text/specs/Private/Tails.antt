@@ -22,10 +22,10 @@ BeginsBefore (suc (suc (suc zero))) b = (0xf1 ≤ b) × (b ≤ 0xf3)
 BeginsBefore (suc (suc (suc (suc n)))) b = ⊥
 
 -- The bytes are n tails and then such sequences, and m tails complete the last one.
-abbrev pub GoesOn : ℕ → List ℕ → ℕ → Type 0
-GoesOn n [] m = n ≡ m
-GoesOn zero (b ∷ bs) m = (n : ℕ) × BeginsBefore n b × GoesOn n bs m
-GoesOn (suc n) (b ∷ bs) m = IsTail b × GoesOn n bs m
+abbrev pub OwesTails : ℕ → List ℕ → ℕ → Type 0
+OwesTails n [] m = n ≡ m
+OwesTails zero (b ∷ bs) m = (n : ℕ) × BeginsBefore n b × OwesTails n bs m
+OwesTails (suc n) (b ∷ bs) m = IsTail b × OwesTails n bs m
 
 -- the number whose lowest n bits are set, and no others
 abbrev pub ones : ℕ → ℕ

@@ -8,7 +8,7 @@ ghost use Rattle.properties_format.specs.Computed.Encoding.{is_in, ranges_after,
 ghost use Rattle.properties_format.specs.Encoding.{utf_8};
 ghost use Rattle.properties_text.specs.Encoding.{IsFirstPiece, IsLongestText, range_of};
 ghost use Rattle.properties_text.specs.Escaping.{IsFirst, length_by_first};
-ghost use Rattle.properties_text.specs.Private.Tails.{ones, GoesOn};
+ghost use Rattle.properties_text.specs.Private.Tails.{ones, OwesTails};
 ghost use Rattle.properties_text.specs.declared.encoding.line_encoding.LineEncoding.TheVariants.{Utf8};
 
 use super::first_piece::FirstPiece;
@@ -209,7 +209,7 @@ fn tails_after(wanted: u64, block: u8x16) -> Option<u64>
     requires { wanted ≤ 0xffff }
     ensures few { IfSome result (λ after. after ≤ 0xffff) }
     ensures goes_on { IfSome result (λ after.
-        (n : ℕ) → wanted ≡ ones n → (m : ℕ) × (after ≡ ones m) × GoesOn n block m) }
+        (n : ℕ) → wanted ≡ ones n → (m : ℕ) × (after ≡ ones m) × OwesTails n block m) }
 {
     let past = bits_of::<NonAscii>(block);
     if past + wanted == 0 {

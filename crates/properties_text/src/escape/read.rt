@@ -4,7 +4,7 @@ ghost use Rattle.std.specs.Prelude.{◌≡◌, ◌≢◌, ◌<◌, ◌≤◌, �
 ghost use Rattle.std.specs.Char.{IsScalar};
 ghost use Rattle.properties_format.specs.Text.{backslash};
 ghost use Rattle.properties_format.specs.Escapes.{letter_u, is_high, is_low, pair_character, escaped_character};
-ghost use Rattle.properties_text.specs.Escaping.{digit_value, IsWell, IsRead, Reads, BeginsUnit, HasDigits, LacksDigits, HasLow, LacksLow, CountsFour};
+ghost use Rattle.properties_text.specs.Escaping.{digit_value, IsWell, IsRead, ReadsSpelt, BeginsUnit, HasDigits, LacksDigits, HasLow, LacksLow, CountsFour};
 
 use super::Malformed;
 use crate::encoding::{LineEncoding, ReadCharacter, pair_character};
@@ -39,7 +39,7 @@ pub fn read_escape(encoding: LineEncoding, text: &[u8]) -> Result<ReadCharacter,
     requires some { 0 < length text.now }
     requires escape { get_or text.now 0 0 ≡ backslash }
     requires well { IsWell encoding text.now }
-    ensures { Reads encoding text.now result }
+    ensures { ReadsSpelt encoding text.now result }
 {
     if text.len() > 1 {
         if text[1] == b'u' {
@@ -100,7 +100,7 @@ fn escaped_byte(byte: u8) -> u8
 fn read_unicode(encoding: LineEncoding, text: &[u8]) -> Result<ReadCharacter, Malformed>
     requires begins { BeginsUnit text.now }
     requires well { IsWell encoding text.now }
-    ensures { Reads encoding text.now result }
+    ensures { ReadsSpelt encoding text.now result }
 {
     let Some(unit) = digits_after(text) else {
         return Err(what_is_wrong(encoding, &text[2..]));

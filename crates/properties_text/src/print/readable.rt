@@ -4,7 +4,7 @@ ghost use Rattle.std.specs.Prelude.{◌++◌};
 ghost use Rattle.std.specs.Str.{chars};
 ghost use Rattle.properties_format.specs.Text.{is_blanks};
 ghost use Rattle.properties_text.specs.Printing.{AppendsOnOk, key_bytes, puts_of, value_bytes};
-ghost use Rattle.properties_text.specs.PrintedTexts.{IsPair, PrintsPair};
+ghost use Rattle.properties_text.specs.PrintedTexts.{IsWellPair, PrintsPair};
 
 use super::{
     Escaped, EscapedAscii, LineBuffer, Literal, LiteralAscii, Pair, PairLayout, Part, Spelt,
@@ -53,7 +53,7 @@ pub fn print_readable_pair(
     layout: PairLayout<'_>,
     pair: Pair<'_>,
 ) -> Result<(), UnescapeError>
-    requires { IsPair pair }
+    requires { IsWellPair pair }
     ensures { let l = layout.entry in
         let puts = value_bytes l.repertoire (is_blanks (chars l.separator.now)) in
         PrintsPair l.repertoire l.first puts line.old pair.entry l.separator.now l.ending.now result line.new }
@@ -92,7 +92,7 @@ fn print_front(
     layout: PairLayout<'_>,
     pair: Pair<'_>,
 ) -> Result<(), UnescapeError>
-    requires { IsPair pair }
+    requires { IsWellPair pair }
     ensures { let l = layout.entry in
         PrintsPair l.repertoire l.first (puts_of l.repertoire) line.old pair.entry l.separator.now l.ending.now result line.new }
 {

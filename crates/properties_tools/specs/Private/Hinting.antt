@@ -4,7 +4,7 @@ use Rattle.std.specs.Global.{Global}
 use Rattle.std.specs.declared.string.String.{String}
 use Rattle.properties_format.specs.Encoding.{Encoding}
 use Rattle.properties_tools.specs.Propedit.{Answers}
-use Rattle.properties_tables.specs.Failures.{LacksMemory}
+use Rattle.properties_tables.specs.Failures.{IsMemoryFailure}
 use Rattle.properties_tools.specs.Propedit.Hints.{hint_bytes, IsFileHint, IsHint}
 use Rattle.properties_tables.specs.Sources.{IsSound}
 use Rattle.properties_tools.specs.declared.propedit.answer.Answer.{Answer}
@@ -14,7 +14,7 @@ use Rattle.properties_tools.specs.declared.propedit.request.Job.{Job}
 -- The same of the line for that key.
 abbrev pub FindsFileHint : Encoding → List ℕ → List (List ℕ) → Result (Option (String Global)) Failure → Type 0
 FindsFileHint e source files (Ok hint) = IsFileHint e source files (hint_bytes hint)
-FindsFileHint e source files (Err failure) = IsSound e source → LacksMemory failure
+FindsFileHint e source files (Err failure) = IsSound e source → IsMemoryFailure failure
 
 -- What is said of an answer. It fails only as the command might have failed itself.
 abbrev pub FindsHint : Job → List (List ℕ) → List ℕ → ℕ → Result (Option (String Global)) Failure → Type 0

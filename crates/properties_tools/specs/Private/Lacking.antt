@@ -1,7 +1,7 @@
 -- How the keys that only one of two tables has are computed.
 use Rattle.std.specs.Prelude.{ℕ, ◌&&◌, not, bytes_eq, if◌then◌else◌, Bool, true, false, List, [], ◌∷◌, filter, string_bytes}
 use Rattle.java_properties.specs.Findings.{KeyPlace}
-use Rattle.properties_tables.specs.Private.Table.{place_keys, places_of, IsKeyTable}
+use Rattle.properties_tables.specs.Private.Table.{place_keys, table_places, IsKeyTable}
 use Rattle.properties_tools.specs.Propedit.Against.{is_compared, missing_line, missing_value, surplus_line, surplus_value, KnownBase}
 use Rattle.properties_checking.specs.Private.Objects.{AddsReport}
 use Rattle.properties_checking.specs.Kinds.{reported}
@@ -14,7 +14,7 @@ use Rattle.properties_tools.specs.declared.propedit.against.Base.TheInside.{Insi
 -- ---- a base
 
 abbrev pub known_base : Inside → KnownBase
-known_base b = record { name = string_bytes b.name; keys = places_of b.keys; is_well_formed = b.is_well_formed }
+known_base b = record { name = string_bytes b.name; keys = table_places b.keys; is_well_formed = b.is_well_formed }
 
 abbrev pub IsBase : Inside → Type 0
 IsBase b = IsKeyTable b.keys
@@ -41,10 +41,10 @@ pub record HaveTables (s : Sides) : Type 0 where
   pub base_keys : IsKeyTable s.base_keys.now
 
 abbrev pub missing_places : Sides → List KeyPlace
-missing_places s = reported s.heading.ignored (λ p. MissingKey) (lacking s.are_well_formed (place_keys (places_of s.keys.now)) (places_of s.base_keys.now))
+missing_places s = reported s.heading.ignored (λ p. MissingKey) (lacking s.are_well_formed (place_keys (table_places s.keys.now)) (table_places s.base_keys.now))
 
 abbrev pub surplus_places : Sides → List KeyPlace
-surplus_places s = reported s.heading.ignored (λ p. SurplusKey) (lacking s.are_well_formed (place_keys (places_of s.base_keys.now)) (places_of s.keys.now))
+surplus_places s = reported s.heading.ignored (λ p. SurplusKey) (lacking s.are_well_formed (place_keys (table_places s.base_keys.now)) (table_places s.keys.now))
 
 -- What is said of these keys of a base that are missing was added, and of these of a source that are surplus.
 abbrev pub AddsMissing : Sides → List KeyPlace → String Global → String Global → Type 0

@@ -4,7 +4,7 @@ use Rattle.counted_io.specs.Streams.{Reader, Sink}
 use Rattle.java_properties.specs.WholeSources.{GivesWhole, ReadsSource, WritesSource}
 use Rattle.properties_items.specs.declared.error.PropertiesError.{PropertiesError}
 use Rattle.properties_text.specs.Encoding.{encoding_of}
-use Rattle.properties_tools.specs.Propedit.{name_of, ChecksBase, Ends}
+use Rattle.properties_tools.specs.Propedit.{source_name, ChecksBase, EndsRun}
 use Rattle.properties_tools.specs.Propedit.Against.{KnownBase}
 use Rattle.properties_tools.specs.declared.propedit.answer.Answer.{Answer}
 use Rattle.properties_tables.specs.declared.error.Failure.{Failure}
@@ -14,7 +14,7 @@ use Rattle.properties_tools.specs.declared.propedit.request.CheckedBase.{Checked
 module _ {R W : Type 0} (reader : Reader R) (sink : Sink W) (asked : CheckedBase) where
   -- What the base gave to its end is checked so.
   abbrev pub ChecksAsked : List ℕ → Result (Answer × KnownBase) Failure → Type 0
-  ChecksAsked source result = ChecksBase (name_of asked.source) (encoding_of asked.encoding) asked.check source result
+  ChecksAsked source result = ChecksBase (source_name asked.source) (encoding_of asked.encoding) asked.check source result
 
   -- What it gave to its end was checked, and printing what is wrong returned this.
   pub record PrintsChecked (input : R) (output : W) (answer : Answer) (base : KnownBase) (printed : Result Unit PropertiesError) (input' : R) (output' : W)
@@ -60,4 +60,4 @@ RunsBase reader sink error_sink asked input output errors (Ok checked) input' ou
     PrintsBase reader sink asked input output (Ok checked) input' output' × (errors' ≡ errors)
 RunsBase reader sink error_sink asked input output errors (Err status) input' output' errors' =
     (why : Failure) × PrintsBase reader sink asked input output (Err why) input' output'
-    × Ends error_sink (name_of asked.source) errors (Err why) status errors'
+    × EndsRun error_sink (source_name asked.source) errors (Err why) status errors'

@@ -5,7 +5,7 @@ use Rattle.java_properties.specs.WholeSources.{GivesWhole, ReadsSource, WritesSo
 use Rattle.properties_format.specs.Encoding.{Encoding}
 use Rattle.properties_items.specs.declared.error.PropertiesError.{PropertiesError}
 use Rattle.properties_text.specs.Encoding.{encoding_of}
-use Rattle.properties_tools.specs.Propedit.{name_of, Ends}
+use Rattle.properties_tools.specs.Propedit.{source_name, EndsRun}
 use Rattle.properties_tools.specs.Propedit.Differences.{difference_lines, difference_status, difference_text, AreDifferencesOf, Difference}
 use Rattle.properties_tables.specs.Failures.{standard_output}
 use Rattle.properties_tools.specs.Propedit.Json.{difference_value}
@@ -57,7 +57,7 @@ DiffsJson e old new result = DiffsIn AreObjects e old new result
 -- what comparing the two of a request returns, printed as it asks for
 abbrev pub Compares : Comparison → List ℕ → List ℕ → Result Answer DiffFailure → Type 0
 Compares sources old new result =
-    DiffsIn (IsReportText sources.report (difference_lines (name_of sources.old) (name_of sources.new)) difference_value) (encoding_of sources.encoding)
+    DiffsIn (IsReportText sources.report (difference_lines (source_name sources.old) (source_name sources.new)) difference_value) (encoding_of sources.encoding)
     old new result
 
 -- ---- over streams
@@ -113,10 +113,10 @@ module _ {R S W : Type 0} (old_reader : Reader R) (new_reader : Reader S) (sink 
 -- The status is that of the answer, or of a failure, whose message names the source or the output.
 abbrev pub EndsDiff : {E : Type 0} → Sink E → Comparison → E → Result ℕ DiffFailure → ℕ → E → Type 0
 EndsDiff error_sink sources errors (Ok answer) status errors' = (status ≡ answer) × (errors' ≡ errors)
-EndsDiff error_sink sources errors (Err (Old why)) status errors' = Ends error_sink (name_of sources.old) errors (Err why) status errors'
-EndsDiff error_sink sources errors (Err (New why)) status errors' = Ends error_sink (name_of sources.new) errors (Err why) status errors'
+EndsDiff error_sink sources errors (Err (Old why)) status errors' = EndsRun error_sink (source_name sources.old) errors (Err why) status errors'
+EndsDiff error_sink sources errors (Err (New why)) status errors' = EndsRun error_sink (source_name sources.new) errors (Err why) status errors'
 EndsDiff error_sink sources errors (Err (Output error)) status errors' =
-    Ends error_sink standard_output errors (Err (failure.Output error)) status errors'
+    EndsRun error_sink standard_output errors (Err (failure.Output error)) status errors'
 
 -- What the program does for two sources: it reads them, prints what differs, and ends so.
 pub record RunsDiff {R S W E : Type 0} (old_reader : Reader R) (new_reader : Reader S) (sink : Sink W) (error_sink : Sink E) (sources : Comparison)

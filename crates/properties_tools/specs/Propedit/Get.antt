@@ -26,7 +26,7 @@ found_status (Some text ∷ texts) = found_status texts
 found_status (None ∷ texts) = 1
 
 -- These texts are printed in order, each with the byte that ends it, and nothing for one that is missing.
-pub record Prints (end : Terminator) (texts : List (Option (List ℕ))) (answer : Answer) : Type 0 where
+pub record PrintsTexts (end : Terminator) (texts : List (Option (List ℕ))) (answer : Answer) : Type 0 where
   pub text : answer.text.items ≡ flat_map (ended_if end) texts
   pub status : answer.status ≡ found_status texts
 
@@ -35,7 +35,7 @@ pub record GetsValues (e : Encoding) (source : List ℕ) (keys : List (List ℕ)
   pub sound : IsSound e source
   pub values : List (Option (List ℕ))
   pub have_values : HaveValues e source keys values
-  pub prints : Prints end (map (value_or default) values) answer
+  pub prints : PrintsTexts end (map (value_or default) values) answer
 
 -- What getting keys returns.
 abbrev pub Gets : Encoding → List ℕ → List (List ℕ) → Option (List ℕ) → Terminator → Result Answer Failure → Type 0

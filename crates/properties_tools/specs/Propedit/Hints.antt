@@ -9,7 +9,7 @@ use Rattle.counted_io.specs.Streams.{Sink}
 use Rattle.properties_format.specs.Encoding.{Encoding}
 use Rattle.properties_text.specs.Encoding.{encoding_of}
 use Rattle.properties_tables.specs.Messages.{escaped, printed_line, HasPrintedLine}
-use Rattle.properties_changing.specs.Keys.{HasKeys, IsFirstAbsent}
+use Rattle.properties_changing.specs.Keys.{HoldsKeys, IsFirstAbsent}
 use Rattle.properties_tools.specs.declared.propedit.request.Command.{Command}
 use Rattle.properties_tools.specs.declared.propedit.request.Command.TheVariants.{Comment, Get, ListJson, ListValues}
 use Rattle.properties_tools.specs.declared.propedit.request.Command.TheVariants as command
@@ -74,7 +74,7 @@ pub record NamesFile (e : Encoding) (source : List ℕ) (files : List (List ℕ)
 
 -- There is a line if there is such a file.
 abbrev pub IsFileHint : Encoding → List ℕ → List (List ℕ) → Option (List ℕ) → Type 0
-IsFileHint e source files None = HasKeys e source files
+IsFileHint e source files None = HoldsKeys e source files
 IsFileHint e source files (Some line) = NamesFile e source files line
 
 -- What is said where a command found nothing in a source. These files are there.

@@ -7,7 +7,7 @@ use Rattle.properties_format.specs.Encoding.{Encoding}
 use Rattle.properties_format.specs.Items.{Entry}
 use Rattle.properties_format.specs.Maps.{AreKeys, IsLastValue}
 use Rattle.properties_tables.specs.Sources.{IsSound, IsUnsound}
-use Rattle.properties_tools.specs.Propedit.Texts.{ended, followed}
+use Rattle.properties_tools.specs.Propedit.Texts.{ended, followed_text}
 use Rattle.properties_tools.specs.declared.propedit.answer.Answer.{Answer}
 use Rattle.properties_tools.specs.declared.propedit.request.Terminator.{Terminator}
 use Rattle.properties_tables.specs.declared.error.Failure.{Failure}
@@ -72,7 +72,7 @@ separator_byte Nul = 0
 
 -- a key and its value in UTF-8, each with the byte after it
 abbrev pub ended_pair : Terminator → Pair → List ℕ
-ended_pair end p = followed (separator_byte end) p.0 ++ ended end p.1
+ended_pair end p = followed_text (separator_byte end) p.0 ++ ended end p.1
 
 -- The key begins with the prefix.
 abbrev pub is_pair_listed : List ℕ → Pair → Bool

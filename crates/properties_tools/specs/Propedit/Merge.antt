@@ -12,8 +12,8 @@ use Rattle.properties_editing.specs.declared.edit.Edit as editor
 use Rattle.properties_items.specs.declared.error.PropertiesError.{PropertiesError}
 use Rattle.properties_text.specs.Encoding.{encoding_of}
 use Rattle.properties_text.specs.declared.encoding.Encoding.{Encoding as Asked}
-use Rattle.properties_tools.specs.Propedit.{name_of, Ends}
-use Rattle.properties_tables.specs.Failures.{LacksMemory}
+use Rattle.properties_tools.specs.Propedit.{source_name, EndsRun}
+use Rattle.properties_tables.specs.Failures.{IsMemoryFailure}
 use Rattle.properties_tables.specs.Sources.{IsSound, IsUnsound}
 use Rattle.properties_tables.specs.Table.{HasRows, Row}
 use Rattle.properties_tables.specs.declared.error.Failure.{Failure}
@@ -98,15 +98,15 @@ pub record HasNoValue (file : List ℕ) : Type 0 where
   pub division : file ≡ text_bytes pairs ++ zero_ended key
   pub whole : HasNoZero key
 
-abbrev pub HasFlaw : List ℕ → TextFlaw → Type 0
-HasFlaw file flaw.NotUtf8 = ¬ IsUtf8 file
-HasFlaw file flaw.NotEnded = IsNotEnded file
-HasFlaw file flaw.NoValue = HasNoValue file
+abbrev pub HasTextFlaw : List ℕ → TextFlaw → Type 0
+HasTextFlaw file flaw.NotUtf8 = ¬ IsUtf8 file
+HasTextFlaw file flaw.NotEnded = IsNotEnded file
+HasTextFlaw file flaw.NoValue = HasNoValue file
 
 -- Why no texts are set: they have a flaw, or memory ran out.
 abbrev pub AreNoTexts : List ℕ → Failure → Type 0
-AreNoTexts file (Texts flaw) = HasFlaw file flaw
-AreNoTexts file other = LacksMemory other
+AreNoTexts file (Texts flaw) = HasTextFlaw file flaw
+AreNoTexts file other = IsMemoryFailure other
 
 abbrev pub SetsTexts : List ℕ → Result (Vec editor.Edit) Failure → Type 0
 SetsTexts file (Ok edits) = AreOfTexts file (edits_in edits.items)
@@ -160,4 +160,4 @@ abbrev pub ReadsMerge : {R E : Type 0} → Reader R → Sink E → Merge → R �
 ReadsMerge reader error_sink asked pairs errors (Ok change) pairs' errors' =
     (edits : Vec editor.Edit) × ReadsPairs reader asked pairs (Ok edits) pairs' × (change ≡ merged asked edits) × (errors' ≡ errors)
 ReadsMerge reader error_sink asked pairs errors (Err status) pairs' errors' =
-    (why : Failure) × ReadsPairs reader asked pairs (Err why) pairs' × Ends error_sink (name_of asked.pairs) errors (Err why) status errors'
+    (why : Failure) × ReadsPairs reader asked pairs (Err why) pairs' × EndsRun error_sink (source_name asked.pairs) errors (Err why) status errors'

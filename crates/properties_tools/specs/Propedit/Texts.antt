@@ -10,12 +10,12 @@ end_byte LineFeed = line_feed
 end_byte Nul = 0
 
 -- a text in UTF-8, and a byte after it
-abbrev pub followed : ℕ → List ℕ → List ℕ
-followed byte text = encode_utf8_all text ++ (byte ∷ [])
+abbrev pub followed_text : ℕ → List ℕ → List ℕ
+followed_text byte text = encode_utf8_all text ++ (byte ∷ [])
 
 -- a text in UTF-8, and the byte that ends it
 abbrev pub ended : Terminator → List ℕ → List ℕ
-ended end text = followed (end_byte end) text
+ended end text = followed_text (end_byte end) text
 
 -- texts, one after another
 abbrev pub ended_all : Terminator → List (List ℕ) → List ℕ

@@ -6,7 +6,7 @@ ghost use Rattle.java_properties.specs.Findings.{KeyPlace};
 ghost use Rattle.properties_text.specs.Encoding.{encoding_of};
 ghost use Rattle.properties_tools.specs.Propedit.{ChecksAgainst, ChecksBase};
 ghost use Rattle.properties_tools.specs.Private.Lacking.{is_lacking, missing_places, surplus_places, AddsMissing, AddsSurplus, HaveTables};
-ghost use Rattle.properties_tables.specs.Private.Table.{place_keys, places_of, IsKeyTable};
+ghost use Rattle.properties_tables.specs.Private.Table.{place_keys, table_places, IsKeyTable};
 
 use crate::propedit::answer::{Answer, reported};
 use java_properties::Encoding;
@@ -169,7 +169,7 @@ fn push_surplus(alloc: Global, text: &mut String, sides: &Sides<'_>) -> Result<(
 #[inline(always)]
 fn is_lacking(key: &str, keys: &KeyTable, are_well_formed: bool) -> bool
     requires { IsKeyTable keys.now }
-    ensures { result ≡ is_lacking are_well_formed (place_keys (places_of keys.now)) (chars key.now) }
+    ensures { result ≡ is_lacking are_well_formed (place_keys (table_places keys.now)) (chars key.now) }
 {
     keys.find(key).is_none() && (are_well_formed || !may_stand_for_bytes(key))
 }
@@ -183,8 +183,8 @@ fn push_missing_row(
     row: usize,
 ) -> Result<(), AllocError>
     requires tables { HaveTables sides.now }
-    requires within { row < length (places_of sides.now.base_keys.now) }
-    ensures { OnOk result ((d : KeyPlace) → AddsMissing sides.now (get_or (places_of sides.now.base_keys.now) row d ∷ []) text.old text.new) }
+    requires within { row < length (table_places sides.now.base_keys.now) }
+    ensures { OnOk result ((d : KeyPlace) → AddsMissing sides.now (get_or (table_places sides.now.base_keys.now) row d ∷ []) text.old text.new) }
 {
     let key = sides.base_keys.key(row);
     let base_line = sides.base_keys.first_line(row);
@@ -221,8 +221,8 @@ fn push_surplus_row(
     row: usize,
 ) -> Result<(), AllocError>
     requires tables { HaveTables sides.now }
-    requires within { row < length (places_of sides.now.keys.now) }
-    ensures { OnOk result ((d : KeyPlace) → AddsSurplus sides.now (get_or (places_of sides.now.keys.now) row d ∷ []) text.old text.new) }
+    requires within { row < length (table_places sides.now.keys.now) }
+    ensures { OnOk result ((d : KeyPlace) → AddsSurplus sides.now (get_or (table_places sides.now.keys.now) row d ∷ []) text.old text.new) }
 {
     let key = sides.keys.key(row);
     let line = sides.keys.first_line(row);

@@ -5,7 +5,7 @@ ghost use Rattle.std.specs.Str.{chars};
 ghost use Rattle.json.specs.Print.{print};
 ghost use Rattle.properties_format.specs.Text.{line_feed};
 ghost use Rattle.properties_tools.specs.Propedit.{printed_report, report_status};
-ghost use Rattle.properties_tools.specs.Propedit.Texts.{end_byte, ended, followed};
+ghost use Rattle.properties_tools.specs.Propedit.Texts.{end_byte, ended, followed_text};
 
 use crate::propedit::request::Terminator;
 use json::Writer;
@@ -41,7 +41,7 @@ pub(crate) fn push_ended(text: &mut Vec<u8>, word: &str, end: Terminator) -> Res
 
 /// Appends a text and a byte after it.
 pub(crate) fn push_followed(text: &mut Vec<u8>, word: &str, byte: u8) -> Result<(), AllocError>
-    ensures { OnOk result (text.new.items ≡ text.old.items ++ followed byte (chars word.now)) }
+    ensures { OnOk result (text.new.items ≡ text.old.items ++ followed_text byte (chars word.now)) }
 {
     text.extend_from_slice(word.as_bytes())?;
     text.push(byte)?;

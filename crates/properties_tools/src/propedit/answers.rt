@@ -2,7 +2,7 @@
 
 ghost use Rattle.std.specs.Prelude.{◌≡◌};
 ghost use Rattle.properties_text.specs.Encoding.{encoding_of};
-ghost use Rattle.properties_tools.specs.Propedit.{Answers, Checks, ChangesTo, name_of};
+ghost use Rattle.properties_tools.specs.Propedit.{Answers, AnswersCheck, ChangesTo, source_name};
 
 use crate::propedit::against::check_against;
 use crate::propedit::answer::{Answer, reported};
@@ -26,7 +26,7 @@ use std::alloc::Global;
 /// assert_eq!(rt; name(&Source::StandardInput), "standard input");
 /// ```
 pub fn name(source: &Source) -> &str
-    ensures { result.now ≡ name_of source.now }
+    ensures { result.now ≡ source_name source.now }
 {
     match source {
         Source::StandardInput | Source::Dash => "standard input",
@@ -76,7 +76,7 @@ fn check(
     encoding: Encoding,
     asked: Check,
 ) -> Result<Answer, Failure>
-    ensures { Checks name.now (encoding_of encoding) asked source.now result }
+    ensures { AnswersCheck name.now (encoding_of encoding) asked source.now result }
 {
     let report = report(alloc, name, source, encoding, asked)?;
     Ok(reported(alloc, report, asked.quiet))

@@ -5,7 +5,7 @@ ghost use Rattle.std.specs.Option.{option_map};
 ghost use Rattle.java_properties.specs.Maps.{characters};
 ghost use Rattle.properties_text.specs.Encoding.{encoding_of};
 ghost use Rattle.properties_tables.specs.Values.{value_texts};
-ghost use Rattle.properties_tools.specs.Propedit.Get.{value_or, Gets, Prints};
+ghost use Rattle.properties_tools.specs.Propedit.Get.{value_or, Gets, PrintsTexts};
 ghost use Rattle.properties_changing.specs.Change.{borrowed_characters};
 
 use crate::propedit::answer::{Answer, push_ended};
@@ -59,7 +59,7 @@ fn answer_of(
     shown: Shown<'_>,
 ) -> Result<Answer, AllocError>
     ensures { let default = option_map borrowed_characters shown.entry.default in
-        IfOk result (Prints shown.entry.end (map (value_or default) (value_texts values.now))) }
+        IfOk result (PrintsTexts shown.entry.end (map (value_or default) (value_texts values.now))) }
 {
     let mut text = Vec::new(alloc);
     let mut status = 0;

@@ -8,9 +8,9 @@ abbrev pub room : ℕ
 room = 8192
 
 -- how many bytes came
-abbrev pub count_of : {E : Type 0} → Result ℕ E → ℕ
-count_of (Ok n) = n
-count_of (Err e) = 0
+abbrev pub count_read : {E : Type 0} → Result ℕ E → ℕ
+count_read (Ok n) = n
+count_read (Err e) = 0
 
 -- a read after the bytes held: those that came, or a fault
 abbrev pub ReadsMore : {R : Type 0} → Reader R → R → List ℕ → Result ℕ Error → R → List ℕ → Type 0

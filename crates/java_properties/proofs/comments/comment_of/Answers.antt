@@ -1,6 +1,6 @@
 use Rattle.std.specs.Str.{chars}
 use Rattle.std.proofs.lemmas.Result.{err_from_is_err_and}
-use Rattle.java_properties.specs.Private.PassedGroups.{texts_of}
+use Rattle.java_properties.specs.Private.PassedGroups.{passed_texts}
 use Rattle.java_properties.proofs.ViewedComments.{none-left, shown-all, shown-more, shown-none, shown-refused}
 use Rattle.java_properties.proofs.comments.comment_of.Goals as goal
 
@@ -11,7 +11,7 @@ pub loop-passed-preserved : goal.loop-passed-preserved
 loop-passed-preserved c =
     let takes = rw c.in-Some.is at c.in_ok-group.ensures.gives in
     let passes = rw c.line.ensures at c.in_ok-pass.ensures in
-    shown-more c.in-Some.group (texts_of c.pass.new.self) c.loop-passed.invariant takes passes
+    shown-more c.in-Some.group (passed_texts c.pass.new.self) c.loop-passed.invariant takes passes
 
 pub returns-in_err-pass : goal.returns-in_err-pass
 returns-in_err-pass c =

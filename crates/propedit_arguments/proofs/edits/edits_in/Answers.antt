@@ -1,7 +1,7 @@
 use Rattle.std.proofs.Common.{◌∷◌, ◌++◌, [], map, refl, ap, append-nil, sym, ◌∙◌}
 use Rattle.std.specs.Prelude.{string_bytes}
 use Rattle.std.proofs.lemmas.Result.{err_from_is_err_and}
-use Rattle.propedit_arguments.specs.Private.Edits.{asked_edits, borrowed_edit, words_of}
+use Rattle.propedit_arguments.specs.Private.Edits.{asked_edits, borrowed_edit, written_words}
 use Rattle.propedit_arguments.proofs.Words.{made-none, made-more, no-words, refused, shorter, some-words}
 use Rattle.propedit_arguments.proofs.edits.edits_in.Goals as goal
 
@@ -45,4 +45,4 @@ pub returns : goal.returns
 returns c =
     let h = c.loop-rest.invariant in
     let none = no-words c.loop-rest.rest.now (sym c.is_empty.ensures ∙ c.loop-rest-test.false) in
-    record { asked = h.done; is = h.is ∙ ap (λ r. words_of h.done ++ r) none ∙ append-nil (words_of h.done); made = h.made }
+    record { asked = h.done; is = h.is ∙ ap (λ r. written_words h.done ++ r) none ∙ append-nil (written_words h.done); made = h.made }

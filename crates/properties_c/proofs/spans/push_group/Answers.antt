@@ -5,8 +5,8 @@ use Rattle.properties_format.specs.Items.{given}
 use Rattle.properties_text.specs.Escaping.{holds_backslash}
 use Rattle.properties_text.proofs.Texts.Resolving.{holds_backslash-text}
 use Rattle.properties_items.specs.BorrowedItems.{borrowed_content}
-use Rattle.properties_editing.specs.Views.{line_of}
-use Rattle.properties_c.specs.Items.{key_in, standing, value_in}
+use Rattle.properties_editing.specs.Views.{viewed_line}
+use Rattle.properties_c.specs.Items.{key_in, standing, outcome_value}
 use Rattle.properties_c.specs.Packed.{record_in, spanned}
 use Rattle.properties_c.specs.Private.Results.{content_record, is_read}
 use Rattle.properties_c.proofs.GivenLines.{no-item, shown-read, shown-standing}
@@ -23,7 +23,7 @@ returns-in-Some c =
     let same = c.item_record.ensures ∙ ap₂ (λ k o. content_record k c.args.group.line_number o) c.spanned_kind-kind.ensures (ap borrowed_content c.content.ensures) in (
       spanned (record_in c.item_record.result) c.in_ok-numbers.numbers,
       group-packed c.args.asked v c.args.group c.in_ok-numbers.numbers (record_in c.item_record.result) (given content) c.requires c.in_ok-numbers.ensures
-          (shown-read c.args.asked (line_of v) c.requires.what content c.requires.is_split (read-texts c.args.asked c.requires.what reads) resolved) same,
+          (shown-read c.args.asked (viewed_line v) c.requires.what content c.requires.is_split (read-texts c.args.asked c.requires.what reads) resolved) same,
       c.in_ok-push_spanned.ensures,
     )
 
@@ -32,8 +32,8 @@ returns c =
     let v = c.args.view.now in
     let what = c.requires.what in
     let key = c.standing_key.ensures what c.requires.is_split in
-    let value = raw-value (line_of v) _ what c.requires.is_split c.raw_value.ensures in
-    let shows = shown-standing c.args.asked (line_of v) what c.requires.is_split (elim c.if-is_group_read.branch [
+    let value = raw-value (viewed_line v) _ what c.requires.is_split c.raw_value.ensures in
+    let shows = shown-standing c.args.asked (viewed_line v) what c.requires.is_split (elim c.if-is_group_read.branch [
       | then-is_group_read+then-has_backslash+in_ok-item+in_default w ↦
           λ reads. inr (rw c.line-line.ensures at (no-item _ _ w.in_ok-item.ensures w.in_default.not-Some))
       | else-is_group_read w ↦ elim w.else-is_group_read.branch [

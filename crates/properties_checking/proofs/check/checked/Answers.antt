@@ -3,8 +3,8 @@ use Rattle.properties_text.specs.Encoding.{encoding_of}
 use Rattle.java_properties.specs.Findings.{KeyPlace, escape_records}
 use Rattle.properties_items.specs.declared.findings.MalformedEscape.{MalformedEscape}
 use Rattle.properties_checking.specs.Private.Checking.{escape_finding, finding_of, ill_formed_finding, said_of}
-use Rattle.properties_tables.specs.Private.Table.{places_of}
-use Rattle.properties_checking.specs.Check.{first_of, ill_formed_of, kind_of, said_line, said_value, ArrangesByLine}
+use Rattle.properties_tables.specs.Private.Table.{table_places}
+use Rattle.properties_checking.specs.Check.{first_of, ill_formed_of, finding_kind, said_line, said_value, ArrangesByLine}
 use Rattle.properties_checking.specs.JsonLines.{IsReportText}
 use Rattle.properties_checking.specs.Kinds.{reported}
 use Rattle.properties_checking.specs.declared.check.Finding.{Finding}
@@ -22,7 +22,7 @@ added a b c d e f g h0 h1 h2 h3 h4 h5 h6 h7 =
 
 pub returns : goal.returns
 returns c =
-    let P : List KeyPlace = places_of c.in_ok-in_lines.in_lines.keys in
+    let P : List KeyPlace = table_places c.in_ok-in_lines.in_lines.keys in
     let zero = c.first_flawed_line-zero.result in
     let numbers : List ℕ = c.in_ok-numbers.numbers.items in
     let utf_8 = c.first_utf_8_line-utf_8.result in
@@ -67,7 +67,7 @@ returns c =
             (rw (c.words_for-words.ensures, c.is_some.ensures) at (ap (map (said_of P)) all ∙ said))
             (said-arranged P _ _ c.in_ok-sort.ensures);
         is = subst (IsReportText c.args.asked.report (said_line c.args.name.now) (said_value c.args.name.now)
-            (reported c.args.asked.ignored (λ s. kind_of s.what) (map (said_of P) c.sort.new.findings.items)))
+            (reported c.args.asked.ignored (λ s. finding_kind s.what) (map (said_of P) c.sort.new.findings.items)))
             (sym (printed.is ∙ ap (λ v. v ++ printed.text) c.new-text.ensures.bytes)) printed.is_text;
       };
       table = c.in_ok-in_lines.ensures.table;

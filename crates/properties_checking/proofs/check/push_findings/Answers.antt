@@ -2,8 +2,8 @@ use Rattle.std.proofs.Common.{◌≡◌, ◌≤◌, ◌+◌, ◌++◌, ◌∙◌
 use Rattle.std.proofs.lemmas.List.{map-append, take_all, take_more}
 use Rattle.properties_checking.specs.Private.Checking.{finding_of, said_of}
 use Rattle.properties_checking.specs.Private.Objects.{AddsReport}
-use Rattle.properties_tables.specs.Private.Table.{places_of}
-use Rattle.properties_checking.specs.Check.{kind_of, said_line, said_value, Said}
+use Rattle.properties_tables.specs.Private.Table.{table_places}
+use Rattle.properties_checking.specs.Check.{finding_kind, said_line, said_value, SaidFinding}
 use Rattle.properties_checking.specs.Kinds.{is_ignored, reported}
 use Rattle.properties_checking.specs.declared.check.Finding.{Finding}
 use Rattle.properties_checking.specs.declared.check.FindingKind.TheVariants.{HoldsZero}
@@ -19,18 +19,18 @@ loop-finding-init c = adds-none (said_line c.args.heading.name.now) (said_value 
 pub loop-finding-preserved : goal.loop-finding-preserved
 loop-finding-preserved c =
     let name = c.args.heading.name.now in
-    let said = said_of (places_of c.args.keys.now) in
+    let said = said_of (table_places c.args.keys.now) in
     let ignored = c.args.heading.ignored in
-    let kind : Said → Kind = λ s. kind_of s.what in
+    let kind : SaidFinding → Kind = λ s. finding_kind s.what in
     let fs : List Finding = c.args.findings.now in
     let i = c.loop-finding.finding-index in
     let d : Finding = finding_of HoldsZero 0 in
     let x : Finding = get_or fs i d in
-    let before : List Said = map said (take i fs) in
+    let before : List SaidFinding = map said (take i fs) in
     let more : map said (take (i + 1) fs) ≡ before ++ said x ∷ [] =
     ap (map said) (take_more fs i d c.loop-finding-test.true) ∙ map-append said (take i fs) (x ∷ []) in
     let told : is_ignored ignored (kind (said x)) ≡ c.contains.result =
-    ap (is_ignored ignored) (sym (c.kind_of.ensures (places_of c.args.keys.now))) ∙ sym c.contains.ensures in
+    ap (is_ignored ignored) (sym (c.kind_of.ensures (table_places c.args.keys.now))) ∙ sym c.contains.ensures in
     elim c.if-not-contains.branch [
       | then-not-contains+in_ok-push_finding w ↦
           rw (w.text-is, more, one-reported ignored kind before (said x) (told ∙ w.if-not-contains.true)) (
@@ -47,5 +47,5 @@ returns c =
     let test = c.loop-finding-test.false in
     let past : length fs ≤ i = omega arith in
     subst (λ v. AddsReport c.args.heading.report (said_line name) (said_value name)
-    (reported c.args.heading.ignored (λ s. kind_of s.what) (map (said_of (places_of c.args.keys.now)) v)) c.args.text.now c.loop-finding.text)
+    (reported c.args.heading.ignored (λ s. finding_kind s.what) (map (said_of (table_places c.args.keys.now)) v)) c.args.text.now c.loop-finding.text)
     (take_all i fs past) c.loop-finding.invariant

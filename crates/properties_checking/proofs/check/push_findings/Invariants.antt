@@ -1,8 +1,8 @@
 use Rattle.std.proofs.Common.{map, take}
 use Rattle.properties_checking.specs.Private.Checking.{said_of}
 use Rattle.properties_checking.specs.Private.Objects.{AddsReport}
-use Rattle.properties_tables.specs.Private.Table.{places_of}
-use Rattle.properties_checking.specs.Check.{kind_of, said_line, said_value}
+use Rattle.properties_tables.specs.Private.Table.{table_places}
+use Rattle.properties_checking.specs.Check.{finding_kind, said_line, said_value}
 use Rattle.properties_checking.specs.Kinds.{reported}
 use Rattle.properties_checking.proofs.check.push_findings.Given as goal
 
@@ -10,4 +10,4 @@ abbrev pub invariant-loop-finding : goal.invariant-loop-finding
 invariant-loop-finding l =
     let name = l.heading.name.now in
     AddsReport l.heading.report (said_line name) (said_value name)
-    (reported l.heading.ignored (λ s. kind_of s.what) (map (said_of (places_of l.keys)) (take l.finding-index l.findings))) l.fn.text l.text
+    (reported l.heading.ignored (λ s. finding_kind s.what) (map (said_of (table_places l.keys)) (take l.finding-index l.findings))) l.fn.text l.text

@@ -7,18 +7,18 @@ use Rattle.json.specs.Json as json
 use Rattle.json.specs.Json.{boolean, member, no_members, object, string, Members}
 use Rattle.java_properties.specs.Findings.{KeyPlace}
 use Rattle.properties_items.specs.declared.findings.MalformedEscape.{MalformedEscape}
-use Rattle.properties_checking.specs.Check.{detailed, kind_of, said_value, words_of, Said}
+use Rattle.properties_checking.specs.Check.{detailed, finding_kind, said_value, words_of, SaidFinding}
 use Rattle.properties_checking.specs.Kinds.{kind_name}
 use Rattle.properties_checking.specs.Private.Checking.{said_of, what_of}
 use Rattle.properties_checking.specs.Private.Objects.{AddsJsonLine}
-use Rattle.properties_tables.specs.Private.Table.{places_of}
+use Rattle.properties_tables.specs.Private.Table.{table_places}
 use Rattle.properties_checking.specs.declared.check.Finding.{Finding}
 use Rattle.properties_checking.specs.declared.check.FindingKind.{FindingKind}
 use Rattle.properties_checking.specs.declared.check.FindingKind.TheVariants.{HoldsZero, IllFormedLine, LooksUtf8, NonAscii, ReadOtherwise, Misread, Escape, Repeats}
 use Rattle.properties_checking.proofs.check_json.push_value.Goals as goal
 
 -- An object with these details was added.
-told : (name : List ℕ) (s : Said) (old new : String Global) {k m : List ℕ} (details : Members → Members) → k ≡ kind_name (kind_of s.what) → m ≡ words_of s.what
+told : (name : List ℕ) (s : SaidFinding) (old new : String Global) {k m : List ℕ} (details : Members → Members) → k ≡ kind_name (finding_kind s.what) → m ≡ words_of s.what
     → ((rest : Members) → details rest ≡ detailed s.what rest)
     → AddsJsonLine (object (member (codes "file") (string name) (member (codes "line") (json.number (decimal s.line)) (member (codes "kind") (string k)
     (details (member (codes "message") (string m) no_members)))))) old new
@@ -43,7 +43,7 @@ none P (Repeats row) no_escape no_row rest = absurd (no_row row refl)
 
 pub returns-in-Escape : goal.returns-in-Escape
 returns-in-Escape c =
-    let P = places_of c.args.keys.now in
+    let P = table_places c.args.keys.now in
     let f : Finding = c.args.finding.now in
     let words = c.as_str.ensures.value ∙ c.in_ok-push_words.ensures ∙ ap (λ v. v ++ words_of (what_of P f.kind)) c.new-words.ensures.bytes in
     on_ok_weaker c.push_object.result
@@ -53,7 +53,7 @@ returns-in-Escape c =
 
 pub returns-in-Repeats : goal.returns-in-Repeats
 returns-in-Repeats c =
-    let P = places_of c.args.keys.now in
+    let P = table_places c.args.keys.now in
     let f : Finding = c.args.finding.now in
     let words = c.as_str-in-Repeats.ensures.value ∙ c.in_ok-push_words.ensures
     ∙ ap (λ v. v ++ words_of (what_of P f.kind)) c.new-words.ensures.bytes in
@@ -67,7 +67,7 @@ returns-in-Repeats c =
 
 pub returns : goal.returns
 returns c =
-    let P = places_of c.args.keys.now in
+    let P = table_places c.args.keys.now in
     let f : Finding = c.args.finding.now in
     let words = c.as_str-in_default.ensures.value ∙ c.in_ok-push_words.ensures
     ∙ ap (λ v. v ++ words_of (what_of P f.kind)) c.new-words.ensures.bytes in

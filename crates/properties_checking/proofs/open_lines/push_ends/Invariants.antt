@@ -1,7 +1,7 @@
 use Rattle.std.proofs.Common.{◌≡◌, ◌++◌, false, length}
 use Rattle.properties_format.specs.Computed.Body.{held_lines_of}
 use Rattle.properties_text.specs.Encoding.{encoding_of}
-use Rattle.properties_lines.specs.Private.HeldLines.{lines_left}
+use Rattle.properties_lines.specs.Private.HeldLines.{held_lines_left}
 use Rattle.properties_checking.specs.Private.Checking.{misread_finding}
 use Rattle.properties_tables.specs.Private.Flawed.{IsScanning}
 use Rattle.properties_checking.specs.Private.OpenLines.{ends_from, ends_left}
@@ -16,4 +16,4 @@ invariant-loop-number l = record {
 }
 
 abbrev pub decreases-loop-number : goal.decreases-loop-number
-decreases-loop-number l = length (lines_left l.body l.scanner)
+decreases-loop-number l = length (held_lines_left l.body l.scanner)

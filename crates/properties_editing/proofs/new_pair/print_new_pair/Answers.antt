@@ -3,7 +3,7 @@ use Rattle.std.specs.Str.{chars}
 use Rattle.std.proofs.lemmas.Result.{on_ok_weaker}
 use Rattle.properties_format.specs.Text.{is_blanks}
 use Rattle.properties_format.specs.Printing.{encoded_text, printed_key, printed_value}
-use Rattle.properties_editing.specs.Private.Sources.{printed_in}
+use Rattle.properties_editing.specs.Private.Sources.{printed_repertoire}
 use Rattle.properties_format.proofs.Printing.Characters.{encoded_text-append}
 use Rattle.properties_text.specs.Printing.{value_bytes}
 use Rattle.properties_items.proofs.RawTexts.{separator-bytes}
@@ -12,7 +12,7 @@ use Rattle.properties_editing.proofs.new_pair.print_new_pair.Goals as goal
 pub returns : goal.returns
 unfolding chars
 returns c =
-    let r = printed_in c.args.opened in
+    let r = printed_repertoire c.args.opened in
     let separator = chars c.args.separator.now in
     let value = chars c.args.value.now in
     let blank = is_blanks separator in

@@ -6,7 +6,7 @@ use Rattle.std.specs.Str.{chars}
 use Rattle.std.proofs.lemmas.List.{take_rest}
 use Rattle.properties_format.specs.Edited.{pair_bytes}
 use Rattle.properties_items.proofs.Scalars.{chars-scalars}
-use Rattle.properties_editing.specs.Private.Sources.{printed_in}
+use Rattle.properties_editing.specs.Private.Sources.{printed_repertoire}
 use Rattle.properties_editing.proofs.AddedParts.{key-added}
 use Rattle.properties_editing.proofs.SourceParts.{source-removable}
 use Rattle.properties_editing.proofs.plan.add_key.Goals as goal
@@ -27,7 +27,7 @@ returns-clause-parts c =
     let rest = take_rest c.args.source.now old.opened.start in
     let first = c.is_first-first.ensures ∙ ap (λ n. not old.guarded && nat_le n old.empty) (c.len.ensures ∙ old.parts.parts.ok.0) in
     let printed = c.as_slice.ensures ∙ c.in_ok-print_new.ensures
-    ∙ ap₂ (λ v b. v ++ pair_bytes (printed_in old.opened) b key value) c.new-line.ensures first in
+    ∙ ap₂ (λ v b. v ++ pair_bytes (printed_repertoire old.opened) b key value) c.new-line.ensures first in
     key-added c.args.source.now old key value c.safe_ending-by.result c.in_ok-bytes.bytes c.append.new.self c.append.result
     (chars-scalars c.args.key.now c.utf8.key) (chars-scalars c.args.value.now c.utf8.value) c.requires.none
     (c.safe_ending-by.ensures ∙ ap (λ d. safe_ending (parts_bytes d old.parts.parts.items)) rest)

@@ -4,7 +4,7 @@ use Rattle.properties_format.specs.Computed.Valued.{separator_by}
 use Rattle.properties_text.specs.Encoding.{encoding_of}
 use Rattle.properties_items.proofs.Scalars.{chars-scalars}
 use Rattle.properties_editing.specs.Private.BodyValues.{unended_pair}
-use Rattle.properties_editing.specs.Private.Sources.{printed_in}
+use Rattle.properties_editing.specs.Private.Sources.{printed_repertoire}
 use Rattle.properties_editing.proofs.AddedValues.{source-between, value-added}
 use Rattle.properties_editing.proofs.LastPairs.{separator-good}
 use Rattle.std.specs.Str.{chars}
@@ -60,7 +60,7 @@ returns-clause-parts c =
     let sep = rw (c.last_pair-last.ensures, rest) at c.in_ok-separator.ensures in
     let first = c.is_first-first.ensures ∙ ap (λ n. not old.guarded && nat_le n old.empty) (c.len.ensures ∙ old.parts.parts.ok.0) in
     let printed = c.as_slice.ensures ∙ c.in_ok-print_new_pair.ensures
-    ∙ ap₂ (λ v b. v ++ unended_pair (printed_in old.opened) b key (chars c.as_str.result.now) value) c.new-line.ensures first in
+    ∙ ap₂ (λ v b. v ++ unended_pair (printed_repertoire old.opened) b key (chars c.as_str.result.now) value) c.new-line.ensures first in
     value-added c.args.source.now old key value (chars c.as_str.result.now) c.last_ending-ending.result c.in_ok-bytes.bytes c.append.new.self c.append.result
     (chars-scalars c.args.key.now c.utf8.key) (chars-scalars c.args.value.now c.utf8.value) c.requires.none
     (rw rest at c.last_ending-ending.ensures) (ap chars c.as_str.ensures.value ∙ sep)

@@ -1,5 +1,5 @@
 use Rattle.std.proofs.Common.{◌∙◌, refl, sym, subst, arith}
-use Rattle.properties_lines.specs.LogicalLine.{IsUnfinished, unfinished_text}
+use Rattle.properties_lines.specs.LogicalLine.{IsUnfinishedLine, unfinished_text}
 use Rattle.properties_lines.proofs.LineJoiner.{goes-start, goes-more, joins-closed, joins-over, joins-lost}
 use Rattle.properties_lines.proofs.joiner.join_lines.Goals as goal
 
@@ -23,7 +23,7 @@ loop-lines-preserved g c =
     rw tested (record {
       along = goes-more c.find_line.new.self.state.passed c.find_line.new.self along next (sym added.0 ∙ c.in-Ok-true.field-0-test) added.1;
       error = found.2;
-      unfinished = subst (λ v. IsUnfinished v c.join.new.self) ((next.encoding kept.0).1 ∙ kept.1) added.2;
+      unfinished = subst (λ v. IsUnfinishedLine v c.join.new.self) ((next.encoding kept.0).1 ∙ kept.1) added.2;
       left = omega (arith, c.loop-lines.invariant.left, c.find_line.ensures.nearer c.loop-lines-test.true);
       same_reader = c.find_line.ensures.same_reader ∙ c.loop-lines.invariant.same_reader;
     })

@@ -6,7 +6,7 @@ use Rattle.properties_format.specs.Body.{group_bytes}
 use Rattle.properties_format.specs.Encoding.{Repertoire}
 use Rattle.properties_format.specs.Printing.{encoded_text}
 use Rattle.properties_format.specs.Computed.Valued.{between_in}
-use Rattle.properties_editing.specs.Views.{line_of}
+use Rattle.properties_editing.specs.Views.{viewed_line}
 use Rattle.properties_format.proofs.InTurn.Merged.{in-turn, turn-at}
 use Rattle.properties_renaming.specs.Renaming.{key_text}
 use Rattle.properties_renaming.specs.Private.Renaming.{later, past_joins}
@@ -44,7 +44,7 @@ returns c =
     on_ok_weaker c.replace.result
     (λ replaced. λ characters prints.
     let t : Repertoire = record { encoding = v.encoding; characters = characters } in
-    let key = encoded_text t.encoding (key_text t c.if-key.is_first (between_in (line_of v)) (chars c.args.key.text.now)) in
+    let key = encoded_text t.encoding (key_text t c.if-key.is_first (between_in (viewed_line v)) (chars c.args.key.text.now)) in
     rekeyed-in characters v old new c.args.key places at.0 at.1 text n c.if-key.is_first
     c.requires.slice (subst (λ s. old.done ≤ s) start c.requires.done) at.2 k first
     (c.as_slice.ensures ∙ printed c.requires.pair t prints ∙ ap (λ w. w ++ key) c.new-text.ensures)

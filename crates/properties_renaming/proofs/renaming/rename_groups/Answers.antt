@@ -3,7 +3,7 @@ use Rattle.std.specs.Str.{chars}
 use Rattle.properties_format.specs.Body.{group_bytes, held_in}
 use Rattle.properties_format.proofs.Edited.Made.{has_key-false, has_key-true}
 use Rattle.properties_text.specs.Encoding.{encoding_of}
-use Rattle.properties_editing.specs.Views.{OpenView, past}
+use Rattle.properties_editing.specs.Views.{OpenView, past_group}
 use Rattle.properties_editing.specs.Editing.{asked_for}
 use Rattle.properties_renaming.proofs.RenamedKeys.{all-up, copied-group, has-pair, next-among, next-slice, next-up, none-left, none-yet, one-key, prints-next, taken-new, taken-next, there-next, there-now}
 use Rattle.properties_renaming.proofs.renaming.rename_groups.Goals as goal
@@ -34,8 +34,8 @@ loop-copied-preserved c =
     let new = chars c.args.new.now in
     let h = c.loop-copied.invariant in
     let takes = rw c.in-Some.is at c.in_ok-group.ensures.gives in
-    let start : next.start ≡ (past now).start = ap (λ w. let o : OpenView = w in o.start) takes.moves in
-    let passed : next.passed ≡ (past now).passed = ap (λ w. let o : OpenView = w in o.passed) takes.moves in
+    let start : next.start ≡ (past_group now).start = ap (λ w. let o : OpenView = w in o.start) takes.moves in
+    let passed : next.passed ≡ (past_group now).passed = ap (λ w. let o : OpenView = w in o.passed) takes.moves in
     let encoding : next.encoding ≡ c.in_ok-view.view.encoding = ap (λ w. let o : OpenView = w in o.encoding) takes.moves ∙ h.encoding in
     let slice = next-slice {next = next} h g takes.takes start in
     let done : c.loop-copied.copied.done ≤ next.start = subst (λ s. c.loop-copied.copied.done ≤ s) (sym start) h.done in

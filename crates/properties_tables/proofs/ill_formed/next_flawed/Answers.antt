@@ -1,6 +1,6 @@
 use Rattle.std.proofs.Common.{◌≡◌, ◌∷◌, true, false, length, sym, ap, ◌∙◌, arith}
 use Rattle.properties_text.specs.Encoding.{encoding_of}
-use Rattle.properties_lines.specs.Scanner.{bytes_of}
+use Rattle.properties_lines.specs.Scanner.{raw_line_bytes}
 use Rattle.properties_lines.proofs.HeldLines.{body-lines_left}
 use Rattle.properties_tables.specs.Private.Flawed.{is_flawed, numbers_left}
 use Rattle.properties_tables.proofs.FlawedLines.{found-scanning, found-numbers}
@@ -14,7 +14,7 @@ returns-then-has_flaw c =
     let new = c.next.new.self in
     let h = c.loop-scanner.invariant in
     let g = c.in-Line.ensures in
-    let k : is_flawed flaw (encoding_of new.encoding) (bytes_of body new.line) ≡ true = (
+    let k : is_flawed flaw (encoding_of new.encoding) (raw_line_bytes body new.line) ≡ true = (
     let encoding = c.encoding.ensures in let line = c.line.ensures in let flawed = c.has_flaw.ensures in let test = c.if-has_flaw.true in cc) in (
       found-scanning body s new h.scanning g,
       h.same ∙ found-numbers flaw body s new true h.scanning g k ∙ ap (λ n. n ∷ numbers_left flaw body new) (sym c.number.ensures),
@@ -33,6 +33,6 @@ loop-scanner-preserved c =
     let new = c.next.new.self in
     let h = c.loop-scanner.invariant in
     let g = c.in-Line.ensures in
-    let k : is_flawed flaw (encoding_of new.encoding) (bytes_of body new.line) ≡ false = (
+    let k : is_flawed flaw (encoding_of new.encoding) (raw_line_bytes body new.line) ≡ false = (
     let encoding = c.encoding.ensures in let line = c.line.ensures in let flawed = c.has_flaw.ensures in let test = c.if-has_flaw.false in cc) in
     record { scanning = found-scanning body s new h.scanning g; same = h.same ∙ found-numbers flaw body s new false h.scanning g k }

@@ -1,5 +1,5 @@
 use Rattle.std.proofs.Common.{◌≡◌, length}
-use Rattle.properties_lines.specs.Private.HeldLines.{lines_left}
+use Rattle.properties_lines.specs.Private.HeldLines.{held_lines_left}
 use Rattle.properties_tables.specs.Private.Flawed.{numbers_left, IsScanning}
 use Rattle.properties_tables.proofs.ill_formed.next_flawed.Given as goal
 
@@ -10,4 +10,4 @@ invariant-loop-scanner l = record {
 }
 
 abbrev pub decreases-loop-scanner : goal.decreases-loop-scanner
-decreases-loop-scanner l = length (lines_left l.body l.scanner)
+decreases-loop-scanner l = length (held_lines_left l.body l.scanner)

@@ -1,6 +1,6 @@
 use Rattle.std.proofs.Common.{refl, sym, ap, ◌∙◌}
 use Rattle.std.specs.Str.{chars}
-use Rattle.java_properties.specs.Private.PassedGroups.{after_other, texts_of}
+use Rattle.java_properties.specs.Private.PassedGroups.{after_other, passed_texts}
 use Rattle.java_properties.proofs.KeyComments.{line-comment, passed-pair, shown-comment}
 use Rattle.java_properties.proofs.comments.Passed.pass.Goals as goal
 use Rattle.java_properties.proofs.comments.Passed.pass.Goals.{then-branch, else-branch}
@@ -13,8 +13,8 @@ add_line-requires c =
 pub returns : goal.returns
 returns c =
     let other = sym c.is_comment_line.ensures ∙ c.if-is_comment_line.false in
-    passed-pair (chars c.args.key.now) (chars c.args.line.now) _ c.in_ok-has_key.field-0 (texts_of c.args.self.now) (texts_of c.if-branch.self) other
+    passed-pair (chars c.args.key.now) (chars c.args.line.now) _ c.in_ok-has_key.field-0 (passed_texts c.args.self.now) (passed_texts c.if-branch.self) other
     c.in_ok-has_key.ensures (elim c.if-branch.branch [
-      | then-branch w ↦ ap texts_of w.self-is ∙ w.keep.ensures ∙ sym (ap (λ b. after_other b (texts_of c.args.self.now)) w.if-branch.true)
-      | else-branch w ↦ ap texts_of w.self-is ∙ (rw (w.clear.ensures.items, w.if-branch.false) refl)
+      | then-branch w ↦ ap passed_texts w.self-is ∙ w.keep.ensures ∙ sym (ap (λ b. after_other b (passed_texts c.args.self.now)) w.if-branch.true)
+      | else-branch w ↦ ap passed_texts w.self-is ∙ (rw (w.clear.ensures.items, w.if-branch.false) refl)
     ])

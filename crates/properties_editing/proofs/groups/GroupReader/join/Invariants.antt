@@ -1,5 +1,5 @@
 use Rattle.std.proofs.Common.{length}
-use Rattle.properties_lines.specs.Private.HeldLines.{lines_left}
+use Rattle.properties_lines.specs.Private.HeldLines.{held_lines_left}
 use Rattle.properties_editing.specs.Private.BodyGroups.{IsBegun, ReadsGroup}
 use Rattle.properties_editing.specs.declared.groups.GroupReader.{GroupReader}
 use Rattle.properties_editing.proofs.groups.GroupReader.join.Given as goal
@@ -11,4 +11,4 @@ invariant-loop-joined l = record {
 }
 
 abbrev pub decreases-loop-joined : goal.decreases-loop-joined
-decreases-loop-joined l = length (lines_left l.body l.self.scanner)
+decreases-loop-joined l = length (held_lines_left l.body l.self.scanner)

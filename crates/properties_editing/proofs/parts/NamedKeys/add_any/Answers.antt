@@ -7,7 +7,7 @@ use Rattle.std.specs.Str.{chars}
 use Rattle.std.proofs.lemmas.Str.{IsUtf8-string_bytes}
 use Rattle.properties_items.proofs.TextMaps.Values.{at_chars-sorted, at_chars-updated}
 use Rattle.properties_items.specs.Texts.{characters}
-use Rattle.properties_editing.specs.Private.BodyParts.{places_in, places_of}
+use Rattle.properties_editing.specs.Private.BodyParts.{listed_places, places_of}
 use Rattle.properties_editing.specs.declared.parts.KeyPlaces.{KeyPlaces}
 use Rattle.properties_text.proofs.TextFronts.{at-error}
 use Rattle.properties_editing.specs.Private.ChangedParts.{last_place}
@@ -53,7 +53,7 @@ returns-in-Vacant-clause-added c =
       pair = next;
       stored = rw (← same) (at_chars-updated old.places c.self-in-Vacant-2-1.given.0 (string_bytes key) utf8 (Some next)
           (subst (λ m. Updates string_cmp old.places m key (Some next)) (sym made) (put.0 next)));
-      places = ap places_in value ∙ ap (λ v. v ++ c.args.place ∷ []) (c.new.ensures.items ∙ sym (ap places_of (rw same at none)));
+      places = ap listed_places value ∙ ap (λ v. v ++ c.args.place ∷ []) (c.new.ensures.items ∙ sym (ap places_of (rw same at none)));
       has_value = λ all. ap (λ p. characters p.value) value ∙ ap chars said;
       ordered = subst (IsOrdered string_cmp) (sym made) (put.2 next);
       all = refl;

@@ -4,7 +4,7 @@ use Rattle.properties_text.specs.Encoding.{encoding_of}
 use Rattle.properties_lines.specs.LineSearch.{unit_size}
 use Rattle.properties_items.specs.BorrowedItems.{outcome_pair}
 use Rattle.properties_format.specs.Computed.Items.{outcome_of}
-use Rattle.properties_editing.specs.Private.BodyGroups.{IsWithin, text_of}
+use Rattle.properties_editing.specs.Private.BodyGroups.{IsWithin, group_text}
 use Rattle.properties_editing.specs.Private.BodyParts.{no_gap}
 use Rattle.properties_editing.specs.declared.parts.Parts.{Parts}
 use Rattle.properties_editing.specs.declared.groups.Closing.TheVariants.{Nothing}
@@ -33,7 +33,7 @@ loop-parts-preserved c =
     let came = rw c.in-Some.is at c.in_ok-group.ensures in
     let reads = rw (c.line-line.ensures, c.place.ensures) at c.in_ok-gap.ensures in
     parted-more c.loop-parts.parts c.read_group.new.self c.loop-parts.gap c.in_ok-gap.gap c.loop-parts.invariant came reads.0 _ c.closing_after-closing.ensures
-    (outcome_pair (outcome_of (chars (text_of c.args.body.now c.next.new.self c.in-Some.group))))
+    (outcome_pair (outcome_of (chars (group_text c.args.body.now c.next.new.self c.in-Some.group))))
     (editable-bytes (encoding_of c.args.encoding) c.requires.bytes) reads.1 (ap (λ v. outcome_pair (outcome_of v)) came.text)
 
 pub returns : goal.returns

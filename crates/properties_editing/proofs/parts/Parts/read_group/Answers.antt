@@ -1,7 +1,7 @@
 use Rattle.std.proofs.Common.{ap, inl, inr, refl, sym, subst, ◌∙◌}
 use Rattle.std.specs.Prelude.{Some}
 use Rattle.std.specs.Str.{chars}
-use Rattle.properties_format.specs.Computed.Edited.{IsSound}
+use Rattle.properties_format.specs.Computed.Edited.{IsSoundOutcome}
 use Rattle.properties_items.specs.BorrowedItems.{outcome_pair}
 use Rattle.properties_items.proofs.FoundItems.{found-item}
 use Rattle.properties_editing.specs.Private.BodyParts.{AddsTold, gap_with}
@@ -35,7 +35,7 @@ returns-in_default-pair_texts c =
     let item = found-item a.line.now c.in-Some-2.found found.1 in
     let told = c.in_default-pair_texts.ensures ∙ ap outcome_pair (sym item) in
     let adds = c.with_group-in_default-pair_texts in (
-      inl (subst IsSound (sym item) tt),
+      inl (subst IsSoundOutcome (sym item) tt),
       subst (λ told. AddsTold a.body.now a.group a.next told a.gap a.self.now adds.result a.self.now) told (record { parts = refl; keys = refl; gap_after = adds.ensures }),
     )
 
@@ -45,6 +45,6 @@ returns c =
     let found = rw c.in-Some-2.is at c.in_ok-found.ensures in
     let item = found-item a.line.now c.in-Some-2.found found.1 in
     let told = c.in-Some-pair_texts.ensures ∙ ap outcome_pair (sym item) in (
-      inl (subst IsSound (sym item) tt),
+      inl (subst IsSoundOutcome (sym item) tt),
       subst (λ told. AddsTold a.body.now a.group a.next told a.gap a.self.now c.in_ok-add_pair.field-0 c.add_pair.new.self) told c.in_ok-add_pair.ensures,
     )

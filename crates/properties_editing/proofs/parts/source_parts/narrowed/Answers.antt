@@ -1,5 +1,5 @@
 use Rattle.std.proofs.Common.{arith, ◌∙◌}
-use Rattle.properties_editing.specs.Private.PartBounds.{HasNoPair}
+use Rattle.properties_editing.specs.Private.PartBounds.{IsPairless}
 use Rattle.properties_editing.proofs.PartBounds.{all-before}
 use Rattle.properties_editing.proofs.parts.source_parts.narrowed.Goals as goal
 
@@ -13,6 +13,6 @@ loop-pairs-preserved c =
     let h = c.loop-pairs.invariant in (
       (omega arith),
       h.1,
-      all-before HasNoPair c.loop-pairs.pairs c.min-end.result c.args.parts.now.items c.index.result.now c.loop-pairs-test.true (omega arith)
+      all-before IsPairless c.loop-pairs.pairs c.min-end.result c.args.parts.now.items c.index.result.now c.loop-pairs-test.true (omega arith)
           c.index.ensures (c.has_no_pair.ensures c.if-has_no_pair.true) h.2,
     )

@@ -2,14 +2,14 @@ use Rattle.std.proofs.Common.{◌≡◌, ◌∙◌, ◌≤◌, inl, inr, subst, 
 use Rattle.std.specs.Prelude.{◌⊎◌}
 use Rattle.properties_editing.proofs.BodyViews.{all-texts, plain-texts, texts-none, texts-more, texts-found, texts-all, within-before}
 use Rattle.properties_text.specs.Encoding.{encoding_of}
-use Rattle.properties_editing.specs.Private.BodyViews.{AreTexts, lines_of}
+use Rattle.properties_editing.specs.Private.BodyViews.{AreLinesIn, walked_lines}
 use Rattle.properties_editing.proofs.walk.Walk.ill_formed_line.Goals as goal
 use Rattle.properties_editing.proofs.walk.Walk.ill_formed_line.Goals.{then-loop-lines-test+in_ok-find_line+else-branch, else-loop-lines-test}
 
 pub returns-in-WINDOWS_1252 : goal.returns-in-WINDOWS_1252
 returns-in-WINDOWS_1252 c =
     let is = rw c.in-WINDOWS_1252.is at c.encoding.ensures in
-    subst (λ e. AreTexts (encoding_of e) (lines_of c.args.self.now)) is (all-texts (lines_of c.args.self.now))
+    subst (λ e. AreLinesIn (encoding_of e) (walked_lines c.args.self.now)) is (all-texts (walked_lines c.args.self.now))
 
 pub returns-then-is_plain : goal.returns-then-is_plain
 returns-then-is_plain c = plain-texts c.requires (c.is_plain.ensures c.if-is_plain.true)

@@ -1,5 +1,5 @@
 use Rattle.std.proofs.Common.{refl, subst}
-use Rattle.properties_editing.specs.Private.BodyViews.{ArePartsOf}
+use Rattle.properties_editing.specs.Private.BodyViews.{ArePartsOfLine}
 use Rattle.properties_editing.proofs.BodyViews.{walk-taken, walk-ended}
 use Rattle.properties_editing.proofs.walk.Walk.next.Goals as goal
 
@@ -13,4 +13,4 @@ returns-in-Ok-Some c =
     let takes = rw c.in-Ok-Some.field-0-is at c.in-Ok-Some.ensures in
     let more = rw (c.place.ensures, c.state-before.ensures) at c.if-place-self.false in
     walk-taken c.args.self.now c.next.new.self c.state-before.result _ c.requires more c.state-before.ensures takes
-    (subst (λ line. ArePartsOf line c.parts_of-parts.result) c.line.ensures c.parts_of-parts.ensures) c.place-in-Ok-Some.ensures
+    (subst (λ line. ArePartsOfLine line c.parts_of-parts.result) c.line.ensures c.parts_of-parts.ensures) c.place-in-Ok-Some.ensures

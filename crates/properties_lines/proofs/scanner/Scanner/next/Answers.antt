@@ -1,5 +1,5 @@
 use Rattle.std.proofs.Common.{◌+◌, ◌<◌, ◌^◌, Bool, sym, subst, arith}
-use Rattle.properties_lines.specs.Scanner.{GivesLine, IsAlike}
+use Rattle.properties_lines.specs.Scanner.{GivesScannedLine, IsAlike}
 use Rattle.properties_lines.proofs.Scans.{ready-searched, gives-ended_line, gives-last_line, asks-for_more}
 use Rattle.properties_lines.proofs.scanner.Scanner.next.Goals as goal
 
@@ -27,7 +27,7 @@ returns c =
     let s = c.args.self.now in
     let P : Bool → Type 0 = λ v. IsAlike s c.args.held.now v c.skip_front.new.self in
     let numbered : s.passed + 1 < 2 ^ 64 = omega (arith, c.if-self-2.false) in
-    let Q : Bool → Type 0 = λ v. GivesLine s c.args.held.now v c.take_last.new.self in
+    let Q : Bool → Type 0 = λ v. GivesScannedLine s c.args.held.now v c.take_last.new.self in
     subst Q (sym c.if-not-ended.false)
     (gives-last_line s c.skip_front.new.self c.search.new.self c.take_last.new.self c.args.held.now c.if-self.false numbered (subst P c.if-not-ended.false c.if-not-skip_front.ensures) c.if-search.ensures
     c.take_last.ensures)

@@ -2,7 +2,7 @@ use Rattle.std.proofs.Common.{◌≡◌, ◌<◌, ◌≤◌, ◌∙◌, ap, arit
 use Rattle.std.specs.Prelude.{get_or}
 use Rattle.std.proofs.lemmas.List.{get_or_default, take_all}
 use Rattle.properties_tools.specs.Private.Lacking.{is_lacking, lacking, AddsSurplus}
-use Rattle.properties_tables.specs.Private.Table.{place_keys, places_of}
+use Rattle.properties_tables.specs.Private.Table.{place_keys, table_places}
 use Rattle.properties_tools.specs.Propedit.Against.{surplus_line, surplus_value}
 use Rattle.properties_tools.specs.declared.propedit.against.Sides.{Sides}
 use Rattle.properties_checking.specs.declared.kinds.Kind.TheVariants.{SurplusKey}
@@ -16,9 +16,9 @@ use Rattle.properties_tools.proofs.propedit.against.push_surplus.Goals.{then-is_
 pub loop-row-preserved : goal.loop-row-preserved
 loop-row-preserved c =
     let s : Sides = c.args.sides.now in
-    let places = places_of s.keys.now in
+    let places = table_places s.keys.now in
     let row = c.loop-row.row in
-    let lacks = is_lacking s.are_well_formed (place_keys (places_of s.base_keys.now)) in
+    let lacks = is_lacking s.are_well_formed (place_keys (table_places s.base_keys.now)) in
     let size = c.len-row-end.ensures in
     let test = c.loop-row-test.true in
     let within : row < length places = omega arith in
@@ -40,18 +40,18 @@ returns-then-contains c =
     let s : Sides = c.args.sides.now in
     let told = sym c.contains.ensures ∙ c.if-contains.true in
     subst (λ v. AddsSurplus s v c.args.text.now c.args.text.now)
-    (sym (none-reported s.heading.ignored SurplusKey (lacking s.are_well_formed (place_keys (places_of s.base_keys.now)) (places_of s.keys.now)) told))
+    (sym (none-reported s.heading.ignored SurplusKey (lacking s.are_well_formed (place_keys (table_places s.base_keys.now)) (table_places s.keys.now)) told))
     (adds-none (surplus_line s.heading.name.now s.base_name.now) (surplus_value s.heading.name.now s.base_name.now) s.heading.report c.args.text.now)
 
 pub returns : goal.returns
 returns c =
     let s : Sides = c.args.sides.now in
-    let places = places_of s.keys.now in
+    let places = table_places s.keys.now in
     let size = c.len-row-end.ensures in
     let test = c.loop-row-test.false in
     let past : length places ≤ c.loop-row.row = omega arith in
     let whole : take c.loop-row.row places ≡ places = take_all c.loop-row.row places past in
     let told = sym c.contains.ensures ∙ c.if-contains.false in
     subst (λ v. AddsSurplus s v c.args.text.now c.loop-row.text)
-    (sym (all-reported s.heading.ignored SurplusKey (lacking s.are_well_formed (place_keys (places_of s.base_keys.now)) places) told))
+    (sym (all-reported s.heading.ignored SurplusKey (lacking s.are_well_formed (place_keys (table_places s.base_keys.now)) places) told))
     (rw whole at c.loop-row.invariant)

@@ -7,7 +7,7 @@ use Rattle.properties_tools.specs.Propedit.Against.{surplus_line, surplus_value,
 use Rattle.properties_checking.specs.Kinds.{kind_name}
 use Rattle.properties_checking.specs.declared.kinds.Kind.TheVariants.{SurplusKey}
 use Rattle.properties_checking.specs.Private.Objects.{AddsJsonLine}
-use Rattle.properties_tables.specs.Private.Table.{places_of}
+use Rattle.properties_tables.specs.Private.Table.{table_places}
 use Rattle.properties_tools.specs.declared.propedit.against.Sides.{Sides}
 use Rattle.properties_checking.proofs.Json.{adds-object}
 use Rattle.properties_tools.proofs.propedit.against.push_surplus_row.Goals as goal
@@ -21,7 +21,7 @@ pub returns-in_ok-push_object-in-Json : goal.returns-in_ok-push_object-in-Json
 returns-in_ok-push_object-in-Json c =
     let s : Sides = c.args.sides.now in
     λ d.
-    let p : KeyPlace = get_or (places_of s.keys.now) c.args.row d in
+    let p : KeyPlace = get_or (table_places s.keys.now) c.args.row d in
     let key = sym (encodes-chars c.key-key.result.now c.key-key.utf8) ∙ ap encode_utf8_all (c.key-key.ensures d) in
     let words = c.as_str.ensures.value ∙ c.in_ok-words-in-Json.ensures.ok ∙ ap (surplus_words s.base_name.now) (c.key-key.ensures d) in
     let value = members s.heading.name.now s.base_name.now p c.name.ensures key (c.first_line-line.ensures d) words in

@@ -4,7 +4,7 @@ use Rattle.std.proofs.lemmas.List.{get_or-map, length-map}
 use Rattle.properties_format.specs.Writing.{Pair}
 use Rattle.properties_tools.specs.Propedit.Listing.{ended_pair, is_key_listed, is_pair_listed}
 use Rattle.properties_tables.specs.Table.{Row}
-use Rattle.properties_tools.specs.Propedit.Texts.{ended, followed}
+use Rattle.properties_tools.specs.Propedit.Texts.{ended, followed_text}
 use Rattle.properties_tables.specs.Private.Table.{bytes_at, row_pair, rows_of, HoldsText}
 use Rattle.properties_tables.specs.declared.table.LastPair.{LastPair}
 use Rattle.properties_tables.proofs.KeyTables.{none}
@@ -54,8 +54,8 @@ loop-row-preserved c =
           ∙ ap (λ (l : LastPair). chars (bytes_at t.values.items l.value)) w.index.ensures
           ∙ sym (ap (λ (r : Row). r.value) (row-at t c.requires row blank w.index.result.now within)) in
           ap (λ v. v.items) w.text-is ∙ w.in_ok-push_ended.ensures ∙ ap (λ v. v ++ ended end (chars w.text_at.result.now)) w.in_ok-push_followed.ensures
-          ∙ append_assoc text (followed c.separator_of-separator.result (chars c.key-key.result.now)) (ended end (chars w.text_at.result.now))
-          ∙ ap (λ b. text ++ (followed b (chars c.key-key.result.now) ++ ended end (chars w.text_at.result.now))) c.separator_of-separator.ensures
+          ∙ append_assoc text (followed_text c.separator_of-separator.result (chars c.key-key.result.now)) (ended end (chars w.text_at.result.now))
+          ∙ ap (λ b. text ++ (followed_text b (chars c.key-key.result.now) ++ ended end (chars w.text_at.result.now))) c.separator_of-separator.ensures
           ∙ ap₂ (λ k v. text ++ ended_pair end (k, v)) key value
           ∙ printed (is_pair_listed prefix) (ended_pair end) pairs row one below is text c.loop-row.invariant (asked ∙ w.if-is_listed.true)
       | else-is_listed w ↦

@@ -9,7 +9,7 @@ use Rattle.properties_format.specs.ItemsToCome.{ReaderState}
 use Rattle.properties_lines.specs.LineReader.{lines_left}
 use Rattle.properties_lines.specs.LineJoiner.{LineState, LineJoining, numbered_line}
 use Rattle.properties_items.specs.BorrowedItems.{found_content, IsFoundIn}
-use Rattle.java_properties.specs.PropertiesIter.{AdvancesTo, logical_line, IsSpelt, GivesEntry}
+use Rattle.java_properties.specs.PropertiesIter.{AdvancesTo, joined_line, IsSpelt, GivesEntry}
 use Rattle.java_properties.specs.Private.GivenItems.{as_text, iteration_of}
 use Rattle.properties_items.specs.declared.found.Found.{Found}
 use Rattle.java_properties.proofs.Items.{kept-utf8, Passed, passed-start, passed-error, passed-no_item, passed-none, gives-spelt, passed-blank, stopped, ended}
@@ -40,7 +40,7 @@ gives-found g c item found =
     let spelt = gives-spelt line new.state content c.loop-number.invariant.passed.1 c.in-Some.ensures.joins.0 (found-item new.line item is.1) in
     let R : ℕ → Type 0 = λ n.
     (gives : GivesEntry (reader g.R.Read g.R.CountedRead) c.args.self.now.state c.args.reader.now (entry.item n content) new.state c.next_text.new.reader)
-    × IsFoundIn new.line item × IsSpelt c.args.self.now.state gives.bytes (logical_line n new.line) new.state in
+    × IsFoundIn new.line item × IsSpelt c.args.self.now.state gives.bytes (joined_line n new.line) new.state in
     rw (kept-utf8 new.line c.in-Some.ensures.text) (subst R (sym is.0) (spelt.0, is.1, spelt.1))
 
 -- and a blank line is passed
