@@ -1,12 +1,12 @@
 -- What the export that edits gives.
-use Rattle.std.specs.Prelude.{◌⊎◌, ℕ, Bool, true, false, List, Result}
+use Rattle.std.specs.Prelude.{◌⊎◌, ℕ, Bool, List, Result}
 use Rattle.std.specs.Global.{Vec}
 use Rattle.properties_format.specs.Encoding.{Encoding, Repertoire, characters_for}
 use Rattle.properties_format.specs.Edits.{Edit}
-use Rattle.java_properties.specs.Editing.{EditsPairs, MakesEdits}
+use Rattle.java_properties.specs.Editing.{MakesEditsFor}
 use Rattle.properties_items.specs.declared.error.PropertiesError.{PropertiesError}
 use Rattle.properties_c.specs.Crossing.{Crossing, Crosses, Delivers, RefusesCall}
-use Rattle.properties_c.specs.Inputs.{InEncoding, WithFlags, WithSource, for_conversions, for_edits, ToTarget}
+use Rattle.properties_c.specs.Inputs.{InEncoding, WithFlags, WithSource, comments_for, for_conversions, for_edits, ToTarget}
 use Rattle.properties_c.specs.Packed.{edits, WithList}
 use Rattle.properties_c.specs.declared.encoding.Flags.{Flags}
 use Rattle.properties_format.specs.Converting.{IsConverted}
@@ -14,17 +14,12 @@ use Rattle.properties_text.specs.Printing.{in_format}
 use Rattle.properties_text.specs.declared.print.Repertoire as code
 use Rattle.properties_c.specs.declared.status.Status.TheVariants.{Done, NoMemory}
 
--- The result of edits, given whether comments are read, and what may stand unescaped in what is put in.
-abbrev pub EditsAs : Bool → Repertoire → List ℕ → List Edit → Result (Vec ℕ) PropertiesError → Type 0
-EditsAs true r source edits result = MakesEdits r source edits result
-EditsAs false r source edits result = EditsPairs r source edits result
-
 -- what may stand unescaped in what is put in, as the flags ask for it
 abbrev pub repertoire_for : Flags → Encoding → Repertoire
 repertoire_for f e = record { encoding = e; characters = characters_for f.ascii_only f.latin_1 }
 
 abbrev pub MakesAll : Flags → Encoding → List ℕ → List Edit → Result (Vec ℕ) PropertiesError → Type 0
-MakesAll f e source edits result = EditsAs f.read_comments (repertoire_for f e) source edits result
+MakesAll f e source edits result = MakesEditsFor (comments_for f.read_comments) (repertoire_for f e) source edits result
 
 -- An edit returned a result for which this holds, and the result crosses.
 abbrev pub GivesEdited : (Result (Vec ℕ) PropertiesError → Type 0) → Crossing → Type 0

@@ -1,14 +1,14 @@
 -- What the exports give that look up a key and that find what is wrong.
 use Rattle.std.specs.Global.{Global}
-use Rattle.std.specs.Prelude.{◌≡◌, ◌⊎◌, ℕ, Bool, true, false, List, Option, Some, None, Result, Ok, Err, encode_utf8_all}
+use Rattle.std.specs.Prelude.{◌≡◌, ◌⊎◌, ℕ, Bool, List, Option, Some, None, Result, Ok, Err, encode_utf8_all}
 use Rattle.std.specs.declared.string.String.{String}
 use Rattle.properties_format.specs.Encoding.{Encoding}
 use Rattle.properties_format.specs.Found.{MalformedEscape, AreMalformedEscapes}
-use Rattle.java_properties.specs.Findings.{KeyEntry, AreKeyLines, TellsPairValue, TellsValue}
+use Rattle.java_properties.specs.Findings.{KeyEntry, AreKeyLines, TellsValueFor}
 use Rattle.properties_items.specs.Texts.{characters}
 use Rattle.properties_items.specs.declared.error.PropertiesError.{PropertiesError}
 use Rattle.properties_c.specs.Crossing.{Crossing, Delivers, Fails, RefusesCall}
-use Rattle.properties_c.specs.Inputs.{InEncoding, WithFlags, WithSource, WithText, for_keys}
+use Rattle.properties_c.specs.Inputs.{InEncoding, WithFlags, WithSource, WithText, comments_for, for_keys}
 use Rattle.properties_c.specs.Packed.{packed_findings}
 use Rattle.properties_c.specs.declared.status.Status.TheVariants.{Done, NoKey, NoMemory}
 
@@ -20,15 +20,10 @@ ValueCrosses (Ok (Some value)) x = Delivers (encode_utf8_all (characters value))
 ValueCrosses (Ok None) x = RefusesCall NoKey 0 x
 ValueCrosses (Err error) x = Fails error x
 
--- The result of a look-up, given whether comments are read.
-abbrev pub TellsAs : Bool → Encoding → List ℕ → List ℕ → Result (Option (String Global)) PropertiesError → Type 0
-TellsAs true e source key result = TellsValue e source key result
-TellsAs false e source key result = TellsPairValue e source key result
-
--- A look-up returned such a result, and the result crosses.
+-- A look-up that reads comments or doesn't returned a result, and the result crosses.
 abbrev pub GivesValueOf : Bool → Encoding → List ℕ → List ℕ → Crossing → Type 0
 GivesValueOf read e source key x =
-    (outcome : Result (Option (String Global)) PropertiesError) × TellsAs read e source key outcome × ValueCrosses outcome x
+    (outcome : Result (Option (String Global)) PropertiesError) × TellsValueFor (comments_for read) e source key outcome × ValueCrosses outcome x
 
 abbrev pub GetsAcross : List ℕ → ℕ → ℕ → List ℕ → Crossing → Type 0
 GetsAcross source encoding flags key x =

@@ -1,16 +1,14 @@
 // The export that edits.
 
-ghost use Rattle.java_properties.specs.Editing.{edits_in};
-ghost use Rattle.properties_text.specs.Encoding.{encoding_of};
 ghost use Rattle.properties_c.specs.Crossing.{crossing};
-ghost use Rattle.properties_c.specs.Editing.{EditsAcross, MakesAll};
+ghost use Rattle.properties_c.specs.Editing.{EditsAcross};
 
-use crate::encoding::{FOR_EDITS, Flags, encoding_numbered, flags_numbered};
+use crate::encoding::{FOR_EDITS, encoding_numbered, flags_numbered, options_for};
 use crate::lists::edits_of;
 use crate::out::{refuse, refuse_source, write_result};
 use crate::sound::refused_line;
 use crate::status::Status;
-use java_properties::{Comments, Edit, Encoding, PropertiesError, SourceOptions, edit_with};
+use java_properties::edit_with;
 use std::alloc::Global;
 
 /// Gives the source after a packed list of edits, in order: each applies to the result of the one before it.
@@ -41,30 +39,6 @@ pub extern "C" fn todrenval_edit(
     if let Some(number) = refused_line(flags.strict, source, encoding) {
         return refuse_source(number, length, line);
     }
-    let edited = with_edits(alloc, source, encoding, flags, &edits);
+    let edited = edit_with(alloc, source, options_for(encoding, flags), &edits);
     write_result(edited, out, length, line)
-}
-
-// Returns the source after edits.
-fn with_edits(
-    alloc: Global,
-    source: &[u8],
-    encoding: Encoding,
-    flags: Flags,
-    edits: &[Edit],
-) -> Result<Vec<u8>, PropertiesError>
-    ensures { MakesAll flags (encoding_of encoding) source.now (edits_in edits.now) result }
-{
-    let comments = if flags.read_comments {
-        Comments::Read
-    } else {
-        Comments::PassedOver
-    };
-    let options = SourceOptions {
-        encoding,
-        ascii_only: flags.ascii_only,
-        latin_1: flags.latin_1,
-        comments,
-    };
-    edit_with(alloc, source, options, edits)
 }

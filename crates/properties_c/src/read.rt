@@ -1,13 +1,11 @@
 // The exports that read.
 
-ghost use Rattle.std.specs.Str.{chars};
-ghost use Rattle.properties_text.specs.Encoding.{encoding_of};
 ghost use Rattle.properties_c.specs.Crossing.{crossing};
 ghost use Rattle.properties_c.specs.Items.{ItemsAcross};
-ghost use Rattle.properties_c.specs.Reading.{FindingsAcross, GetsAcross, TellsAs};
+ghost use Rattle.properties_c.specs.Reading.{FindingsAcross, GetsAcross};
 
 use crate::asked::asked_numbered;
-use crate::encoding::{FOR_KEYS, encoding_numbered, flags_numbered, text_of};
+use crate::encoding::{FOR_KEYS, encoding_numbered, flags_numbered, options_for, text_of};
 use crate::findings::findings_in;
 use crate::items::items_in;
 use crate::out::{fail, refuse, refuse_source, write_bytes, write_result, write_up_to};
@@ -15,7 +13,7 @@ use crate::part::give_part;
 use crate::sound::refused_line;
 use crate::spans::spanned_items;
 use crate::status::Status;
-use java_properties::{Comments, Encoding, PropertiesError, SourceOptions, value_with};
+use java_properties::value_with;
 use std::alloc::Global;
 
 /// Gives the value of a key: that of the last pair with it.
@@ -45,7 +43,7 @@ pub extern "C" fn todrenval_get(
     if let Some(number) = refused_line(flags.strict, source, encoding) {
         return refuse_source(number, length, line);
     }
-    match sought_value(alloc, source, encoding, flags.read_comments, key) {
+    match value_with(alloc, source, options_for(encoding, flags), key) {
         Ok(Some(value)) => write_bytes(value.as_str().as_bytes(), out, length, line),
         Ok(None) => refuse(Status::NoKey, length, line),
         Err(error) => fail(&error, length, line),
@@ -109,28 +107,4 @@ pub extern "C" fn todrenval_findings(
         return refuse(Status::UnknownEncoding, length, line);
     };
     write_result(findings_in(alloc, source, encoding), out, length, line)
-}
-
-// Returns the value of a key, and reads comments or passes over them.
-fn sought_value(
-    alloc: Global,
-    source: &[u8],
-    encoding: Encoding,
-    read_comments: bool,
-    key: &str,
-) -> Result<Option<String>, PropertiesError>
-    ensures { TellsAs read_comments (encoding_of encoding) source.now (chars key.now) result }
-{
-    let comments = if read_comments {
-        Comments::Read
-    } else {
-        Comments::PassedOver
-    };
-    let options = SourceOptions {
-        encoding,
-        ascii_only: false,
-        latin_1: false,
-        comments,
-    };
-    value_with(alloc, source, options, key)
 }

@@ -1,5 +1,5 @@
-use Rattle.std.proofs.Common.{refl, rules, inl, inr}
-use Rattle.java_properties.specs.Editing.{edits_in}
+use Rattle.std.proofs.Common.{refl, rules, subst, inl, inr}
+use Rattle.java_properties.specs.Editing.{edits_in, EditsWith}
 use Rattle.properties_text.specs.Encoding.{encoding_of}
 use Rattle.properties_c.specs.Packed.{edits}
 use Rattle.properties_c.proofs.Refusals.{list-crossed}
@@ -48,7 +48,14 @@ returns c =
         inl (
           edits_in c.in-Ok.edits.items,
           search rules,
-          inl (c.in_default-refused_line.ensures, (c.with_edits-edited.result, search rules, search rules)),
+          inl (
+            c.in_default-refused_line.ensures,
+            (
+              c.edit_with-edited.result,
+              subst (λ o. EditsWith o c.args.source.now (edits_in c.in-Ok.edits.items) c.edit_with-edited.result) c.options_for.ensures (search rules),
+              search rules,
+            ),
+          ),
         ),
       ),
     )
