@@ -119,16 +119,17 @@ static struct text text_of_list(struct packed const *list) {
 }
 
 enum call {
-    GET, ITEMS, FINDINGS, SET_VALUE, SET_KEY, REMOVE_KEY, EDIT, RENAME_KEY, REMOVE_WITH_COMMENT, COMMENT, WRITE, CONVERT,
-    CALLS
+    GET, ITEMS, FINDINGS, SET_VALUE, SET_KEY, REMOVE_KEY, EDIT, RENAME_KEY, REMOVE_WITH_COMMENT, COMMENT, SET_COMMENT,
+    WRITE, CONVERT, CALLS
 };
 
 static char const *const names[] = {
     "get", "items", "findings", "set_value", "set_key", "remove_key", "edit", "rename_key", "remove_with_comment",
-    "comment", "write", "convert",
+    "comment", "set_comment", "write", "convert",
 };
 
-/* What is passed to a call; each call takes of it what it has. The value is the new name of a key that is renamed. */
+/* What is passed to a call; each call takes of it what it has. The value is the new name of a key that is renamed, and
+ * the text of a comment that is set. */
 struct request {
     enum call call;
     struct text source;
@@ -201,6 +202,9 @@ static int make_call(struct request const *r, uint8_t *out, size_t room, size_t 
     case COMMENT:
         return todrenval_comment(r->source.bytes, r->source.length, r->encoding, r->flags, r->key.bytes,
                                  r->key.length, out, room, length, line);
+    case SET_COMMENT:
+        return todrenval_set_comment(r->source.bytes, r->source.length, r->encoding, r->flags, r->key.bytes,
+                                     r->key.length, r->value.bytes, r->value.length, out, room, length, line);
     case CONVERT:
         return todrenval_convert(r->source.bytes, r->source.length, r->encoding, r->target, r->flags, out, room,
                                   length, line);
@@ -254,6 +258,9 @@ static struct todrenval_result make_new(struct request const *r) {
     case COMMENT:
         return todrenval_comment_new(r->source.bytes, r->source.length, r->encoding, r->flags, r->key.bytes,
                                      r->key.length);
+    case SET_COMMENT:
+        return todrenval_set_comment_new(r->source.bytes, r->source.length, r->encoding, r->flags, r->key.bytes,
+                                         r->key.length, r->value.bytes, r->value.length);
     case CONVERT:
         return todrenval_convert_new(r->source.bytes, r->source.length, r->encoding, r->target, r->flags);
     default:
@@ -628,6 +635,39 @@ static void try_key_comments(void) {
     refuses("comment before an escape", request, TODRENVAL_INVALID_CHARACTER, 4);
 }
 
+static void try_setting_comments(void) {
+    struct request request =
+        request_of(SET_COMMENT, T("# k\nk=1\n\n \t!one\\u00e9\r\n #\n  \\u006b = 2\n"), TODRENVAL_UTF_8);
+    request.value = T("a\\u12\n\r\n b\r");
+    check("set_comment", request, TODRENVAL_OK, 0,
+          T("# k\nk=1\n\n \t!a\\u12\r\n \t!\r\n \t!  b\r\n  \\u006b = 2\n"));
+    request.value = T("one\\u00e9\n\n");
+    check("set_comment to what it is", request, TODRENVAL_OK, 0, request.source);
+    request.value = T("");
+    check("set_comment to none", request, TODRENVAL_OK, 0, T("# k\nk=1\n\n  \\u006b = 2\n"));
+    request.value = T("\n");
+    check("set_comment to an empty line", request, TODRENVAL_OK, 0, T("# k\nk=1\n\n \t!\r\n  \\u006b = 2\n"));
+    request.key = T("one");
+    refuses("set_comment of none", request, TODRENVAL_NO_KEY, 0);
+    request = request_of(SET_COMMENT, T("#\n\t k=1\r\n"), TODRENVAL_UTF_8);
+    check("set_comment like the pair", request, TODRENVAL_OK, 0, T("\t # v\r\n\t k=1\r\n"));
+    request.source = T("k");
+    check("set_comment without a line ending", request, TODRENVAL_OK, 0, T("# v\nk"));
+
+    /* What may stand unescaped, and what would begin like a byte order mark. */
+    request = request_of(SET_COMMENT, T("k=\xe9\n"), TODRENVAL_WINDOWS_1252);
+    request.value = T("\xc3\xa9 \xe2\x82\xac");
+    check("set_comment, windows-1252", request, TODRENVAL_OK, 0, T("# \xe9 \x80\nk=\xe9\n"));
+    request.flags = TODRENVAL_LATIN_1;
+    check("set_comment, Latin-1", request, TODRENVAL_OK, 0, T("# \xe9 \\u20ac\nk=\xe9\n"));
+    request.flags = TODRENVAL_ASCII_ONLY | TODRENVAL_STRICT;
+    check("set_comment, ASCII", request, TODRENVAL_OK, 0, T("# \\u00e9 \\u20ac\nk=\xe9\n"));
+    request = request_of(SET_COMMENT, T("#v\n\xef\xbb\xbf=1"), TODRENVAL_UTF_8);
+    request.key = T("\xef\xbb\xbf");
+    request.value = T("");
+    check("set_comment before a byte order mark", request, TODRENVAL_OK, 0, T("\n\xef\xbb\xbf=1"));
+}
+
 static void try_write(void) {
     struct packed list = {{0}, 0};
     struct request request = request_of(WRITE, T(""), TODRENVAL_UTF_8);
@@ -824,7 +864,7 @@ static void try_convert(void) {
 
 /* Sources that aren't text are refused where a call is strict, before malformed escapes, and read where it isn't. */
 static void try_strict(void) {
-    static enum call const calls[] = {GET, EDIT, RENAME_KEY, REMOVE_WITH_COMMENT, COMMENT, CONVERT};
+    static enum call const calls[] = {GET, EDIT, RENAME_KEY, REMOVE_WITH_COMMENT, COMMENT, SET_COMMENT, CONVERT};
     static size_t const lines[] = {2, 1, 1, 3, 2, 2, 1, 2};
     static uint32_t const encodings[] = {
         TODRENVAL_UTF_8,    TODRENVAL_UTF_8,    TODRENVAL_UTF_16LE, TODRENVAL_UTF_8,
@@ -1332,9 +1372,10 @@ static void try_encodings(void) {
 /* Flags that there are not, and those that a call has no use for, before a key and a list that are no good. */
 static void try_flags(void) {
     static enum call const calls[] = {
-        GET, SET_VALUE, SET_KEY, REMOVE_KEY, EDIT, RENAME_KEY, REMOVE_WITH_COMMENT, COMMENT, WRITE, CONVERT,
+        GET,     SET_VALUE,   SET_KEY, REMOVE_KEY, EDIT, RENAME_KEY, REMOVE_WITH_COMMENT,
+        COMMENT, SET_COMMENT, WRITE,   CONVERT,
     };
-    static uint32_t const taken[] = {36, 8229, 8229, 8229, 8229, 8229, 36, 32, 4123, 34};
+    static uint32_t const taken[] = {36, 8229, 8229, 8229, 8229, 8229, 36, 32, 8229, 4123, 34};
     static uint32_t const flags[] = {
         0,    1,    2,    3,    4,    5,    6,     7,     8,     12,         16,         32,         33,         34,
         36,   37,   38,   64,   128,  255,  256,   512,   1024,  2048,       4096,       4097,       4128,       4160,
@@ -1366,11 +1407,11 @@ static void try_flags(void) {
 /* Malformed escapes in comments: passed over, and errors where comments are read. */
 static void try_comments(void) {
     static enum call const calls[] = {
-        GET, SET_VALUE, SET_KEY, REMOVE_KEY, EDIT, EDIT, EDIT, RENAME_KEY, REMOVE_WITH_COMMENT,
+        GET, SET_VALUE, SET_KEY, REMOVE_KEY, EDIT, EDIT, EDIT, RENAME_KEY, REMOVE_WITH_COMMENT, SET_COMMENT,
     };
     static size_t const lines[] = {1, 2, 3};
-    struct text sources[3], results[9][3];
-    struct packed lists[9];
+    struct text sources[3], results[10][3];
+    struct packed lists[10];
     size_t number, place, line;
     uint32_t ascii;
     memset(lists, 0, sizeof lists);
@@ -1401,7 +1442,10 @@ static void try_comments(void) {
     results[7][1] = T("v : 1\n!\\u12\nb=2\n");
     results[7][2] = T("\nv : 1\n  #\\ud83d\\u0041");
     results[8][0] = T("");
-    for (number = 0; number < 9; number++) {
+    results[9][0] = T("# v\nk : 1\n");
+    results[9][1] = T("# v\nk : 1\n!\\u12\nb=2\n");
+    results[9][2] = T("\n# v\nk : 1\n  #\\ud83d\\u0041");
+    for (number = 0; number < 10; number++) {
         for (place = 0; place < 3; place++) {
             static int const statuses[] = {
                 TODRENVAL_NOT_HEX, TODRENVAL_NOT_ENOUGH_DIGITS, TODRENVAL_INVALID_CHARACTER,
@@ -1442,7 +1486,7 @@ static void try_texts(void) {
     /* Bytes that no character has, characters that are cut or too long, a surrogate, and one past the last. */
     struct text texts[8];
     static enum call const calls[] = {
-        SET_VALUE, SET_KEY, RENAME_KEY, GET, REMOVE_KEY, REMOVE_WITH_COMMENT, COMMENT,
+        SET_VALUE, SET_KEY, RENAME_KEY, SET_COMMENT, GET, REMOVE_KEY, REMOVE_WITH_COMMENT, COMMENT,
     };
     size_t place, number;
     texts[0] = T("\xff");
@@ -1458,7 +1502,7 @@ static void try_texts(void) {
             struct request request = request_of(calls[number], T("k=\\u1\n"), TODRENVAL_UTF_16LE);
             request.key = texts[place];
             refuses(names[calls[number]], request, TODRENVAL_NOT_UTF_8, 0);
-            if (number < 3) {
+            if (number < 4) {
                 request.key = T("k");
                 request.value = texts[place];
                 refuses(names[calls[number]], request, TODRENVAL_NOT_UTF_8, 0);
@@ -1542,7 +1586,9 @@ static void try_lists(void) {
 
 static void try_escapes(void) {
     static int const statuses[] = {TODRENVAL_NOT_ENOUGH_DIGITS, TODRENVAL_NOT_HEX, TODRENVAL_INVALID_CHARACTER};
-    static enum call const calls[] = {GET, SET_VALUE, SET_KEY, REMOVE_KEY, EDIT, RENAME_KEY, REMOVE_WITH_COMMENT};
+    static enum call const calls[] = {
+        GET, SET_VALUE, SET_KEY, REMOVE_KEY, EDIT, RENAME_KEY, REMOVE_WITH_COMMENT, SET_COMMENT,
+    };
     struct text sources[3];
     size_t number, place;
     sources[0] = T("# c\nk=1\n\nb=\\\n  \\u12\nk=2\\uxxxx");
@@ -1569,7 +1615,7 @@ static void try_escapes(void) {
 static void try_unsupported(void) {
     struct text little = T("\xff\xfek\0"), big = T("\xfe\xff\0k");
     int call;
-    for (call = SET_VALUE; call <= COMMENT; call++) {
+    for (call = SET_VALUE; call <= SET_COMMENT; call++) {
         enum call edit = (enum call)call;
         refuses(names[call], request_of(edit, T(""), TODRENVAL_UTF_16LE), TODRENVAL_UNSUPPORTED, 0);
         refuses(names[call], request_of(edit, T("\0k"), TODRENVAL_UTF_16BE), TODRENVAL_UNSUPPORTED, 0);
@@ -1632,7 +1678,7 @@ static void try_memory(void) {
     struct packed pairs = {{0}, 0};
     struct packed first, before;
     struct text results[CALLS][2];
-    static uint32_t const all_flags[] = {36, 36, 0, 37, 37, 37, 37, 37, 36, 32, 4099, 34};
+    static uint32_t const all_flags[] = {36, 36, 0, 37, 37, 37, 37, 37, 36, 32, 37, 4099, 34};
     int call, flagged;
     put_item(&edits, TODRENVAL_EDIT_SET_KEY, 0, T("a"), T("\xc3\xa9"));
     put_item(&edits, TODRENVAL_EDIT_SET_VALUE, 0, T("k"), T("12"));
@@ -1661,6 +1707,8 @@ static void try_memory(void) {
     results[RENAME_KEY][1] = T("# c\n\\u00e9 : \\u0031\n\\u00e9=2\n");
     results[REMOVE_WITH_COMMENT][0] = results[REMOVE_WITH_COMMENT][1] = T("");
     results[COMMENT][0] = results[COMMENT][1] = T("");
+    results[SET_COMMENT][0] = T("# c\nk : \\u0031\n# \xc3\xa9\nk=2\n");
+    results[SET_COMMENT][1] = T("# c\nk : \\u0031\n# \\u00e9\nk=2\n");
     results[WRITE][0] = T("# c\nk=\xc3\xa9\n");
     results[WRITE][1] = T("# c\nk=\\u00e9\n");
     results[CONVERT][0] = results[CONVERT][1] = T("# c\nk : \\u0031\nk=2\n");
@@ -1788,6 +1836,7 @@ int main(void) {
     try_edits();
     try_renaming();
     try_key_comments();
+    try_setting_comments();
     try_write();
     try_settings();
     try_convert();

@@ -19,8 +19,9 @@
  *   the room that is needed, and `out` is as it was. With any other status but TODRENVAL_OK, *length is 0 and `out` is
  *   as it was; but at a malformed escape todrenval_items gives the items before it. Past *length, `out` always is as it
  *   was.
- * - If several errors could be reported, it is the first of these: the encoding, the target, the flags, a key, a prefix
- *   or a separator that isn't UTF-8, the packed list, from its front on, bytes that aren't text, and then the rest.
+ * - If several errors could be reported, it is the first of these: the encoding, the target, the flags, a key, a text, a
+ *   prefix or a separator that isn't UTF-8, the packed list, from its front on, bytes that aren't text, and then the
+ *   rest.
  *
  * How much room: try four times the length of the source for items, eight times with spans, twice its length for a
  * conversion, the length of the list and some more for what is written, and once the length of the source and some more
@@ -65,10 +66,10 @@ extern "C" {
 enum todrenval_status {
     TODRENVAL_OK = 0,
     TODRENVAL_NO_ROOM = 1,           /* *length bytes are needed in `out` */
-    TODRENVAL_NO_KEY = 2,            /* todrenval_get, _rename_key, _comment: no pair has the key */
+    TODRENVAL_NO_KEY = 2,            /* todrenval_get, _rename_key, _comment, _set_comment: no pair has the key */
     TODRENVAL_NO_MEMORY = 3,         /* malloc or realloc returned null */
     TODRENVAL_UNKNOWN_ENCODING = 4,  /* no number of enum todrenval_encoding or todrenval_target */
-    TODRENVAL_NOT_UTF_8 = 5,         /* a key, a value, a prefix, a separator or a text of a list isn't UTF-8 */
+    TODRENVAL_NOT_UTF_8 = 5,         /* a key, a text, a prefix, a separator or a text of a list isn't UTF-8 */
     TODRENVAL_BAD_LIST = 6,          /* a packed list ends too early, or has a record that it may not have */
     TODRENVAL_NOT_ENOUGH_DIGITS = 7, /* fewer than four characters follow a \u in the line */
     TODRENVAL_NOT_HEX = 8,           /* one of the four characters after a \u isn't a hexadecimal digit */
@@ -104,14 +105,14 @@ enum todrenval_target {
 /* Flags: 0, one of these, or several, as in TODRENVAL_ASCII_ONLY | TODRENVAL_READABLE. A call refuses a flag that it
  * has no use for, and any other bit. */
 enum todrenval_flag {
-    /* Each non-ASCII character that is put in is an escape: todrenval_edit, _rename_key, _write. */
+    /* Each non-ASCII character that is put in is an escape: todrenval_edit, _rename_key, _set_comment, _write. */
     TODRENVAL_ASCII_ONLY = 1,
     /* todrenval_write: values are written as people write them. todrenval_convert: an escape of a non-ASCII character
      * that the target has becomes that character. */
     TODRENVAL_READABLE = 2,
     /* Comments are read: their escapes are resolved, and a malformed one is an error. todrenval_get, _items, _edit,
-     * _rename_key, _remove_with_comment. Without this flag, and without the two for todrenval_items that give comments
-     * as they stand, comments are passed over, as in Java, so one may be `# C:\users`. */
+     * _rename_key, _remove_with_comment, _set_comment. Without this flag, and without the two for todrenval_items that
+     * give comments as they stand, comments are passed over, as in Java, so one may be `# C:\users`. */
     TODRENVAL_READ_COMMENTS = 4,
     /* Lines end in CR LF, or in CR, and not in LF: todrenval_write. It takes one of the two at most. */
     TODRENVAL_CRLF = 8,
@@ -133,8 +134,8 @@ enum todrenval_flag {
     /* Lines were written before those of the list, so none begins a file: todrenval_write. */
     TODRENVAL_GOES_ON = 4096,
     /* Each character that is put in is an escape, unless it is U+0000 to U+007F or U+00A0 to U+00FF, which ISO 8859-1
-     * and windows-1252 write alike: todrenval_edit, _rename_key. In UTF-8 it is TODRENVAL_ASCII_ONLY. With that flag it
-     * changes nothing. */
+     * and windows-1252 write alike: todrenval_edit, _rename_key, _set_comment. In UTF-8 it is TODRENVAL_ASCII_ONLY.
+     * With that flag it changes nothing. */
     TODRENVAL_LATIN_1 = 8192
 };
 
@@ -360,6 +361,23 @@ int todrenval_remove_with_comment(uint8_t const *source, size_t source_length, u
  * _NOT_TEXT, _UNSUPPORTED, or _NOT_ENOUGH_DIGITS, _NOT_HEX or _INVALID_CHARACTER of a pair. */
 int todrenval_comment(uint8_t const *source, size_t source_length, uint32_t encoding, uint32_t flags,
                       uint8_t const *key, size_t key_length, uint8_t *out, size_t room, size_t *length, size_t *line);
+
+/* Writes the source with the comment of a key set: the comment lines directly above the last pair with it. The text is
+ * UTF-8, and is divided at LF, CR and CR LF. A last empty line doesn't count, so what todrenval_comment gives can be
+ * passed as it is, no bytes remove the comment, and "\n" makes the line `#`. If the comment has these lines already,
+ * the result is the source. Otherwise new lines replace the old ones, and every other byte stays.
+ *
+ * New lines look like the first old one that has a text: its indent, its sign, the blank after it or none, and its line
+ * ending. If there is none, they have the indent of the pair, `# `, and the line ending of the pair, or the last one
+ * of the source if the pair has none. A blank is put before a text that begins with one, and none before an empty one.
+ * Characters are escapes as in todrenval_edit with these flags; a backslash stays. If the result would begin like a
+ * byte order mark, a line feed comes first.
+ *
+ * Returns what todrenval_edit returns, but for _BAD_LIST. If that would be TODRENVAL_OK, it returns _NO_KEY if no pair
+ * has the key. */
+int todrenval_set_comment(uint8_t const *source, size_t source_length, uint32_t encoding, uint32_t flags,
+                          uint8_t const *key, size_t key_length, uint8_t const *text, size_t text_length, uint8_t *out,
+                          size_t room, size_t *length, size_t *line);
 
 /* Writes the source in another encoding. All else stays as it is: comments, blank lines, layout, line endings, and what
  * each key, value and comment means.
@@ -839,6 +857,23 @@ static inline struct todrenval_result todrenval_comment_new(void const *source, 
     while (todrenval_make_room(&result, &room)) {
         result.status = todrenval_comment(todrenval_in(source), source_length, encoding, flags, todrenval_in(key),
                                           key_length, todrenval_out(&result), room, &result.length, &result.line);
+    }
+    return result;
+}
+
+static inline struct todrenval_result todrenval_set_comment_new(void const *source, size_t source_length,
+                                                                uint32_t encoding, uint32_t flags, void const *key,
+                                                                size_t key_length, void const *text,
+                                                                size_t text_length) {
+    size_t room;
+    struct todrenval_result result = todrenval_try_room(source_length + text_length + 256);
+    while (todrenval_make_room(&result, &room)) {
+        result.status = todrenval_set_comment(todrenval_in(source), source_length, encoding, flags, todrenval_in(key),
+                                              key_length, todrenval_in(text), text_length, todrenval_out(&result), room,
+                                              &result.length, &result.line);
+    }
+    if (flags & TODRENVAL_READ_COMMENTS) {
+        todrenval_see_comment(&result, source, source_length, encoding);
     }
     return result;
 }

@@ -150,6 +150,46 @@ pub fn comment_of(
     ))
 }
 
+/// Sets the comment of a key in the bytes of a file: the comment lines directly above the last pair with the key. The text is
+/// divided at `\n`, `\r` and `\r\n`, and a last empty line doesn't count, so an empty text removes the comment. If the comment
+/// has these lines already, nothing changes. Otherwise new lines replace the old ones, and every other byte stays.
+///
+/// New lines look like the first old one that has a text: its indent, its sign, the blank after it or none, and its line
+/// ending. If there is none, they have the indent of the pair, `# `, and the line ending of the pair, or the last one of the
+/// file if the pair has none. A backslash stays.
+///
+/// ```
+/// use todrenval::{set_comment, UTF_8};
+///
+/// let file = b"  ! old\n  port = 80\n";
+/// let commented = set_comment(file, UTF_8, "port", "the web server\n\non C:\\users")?;
+/// assert_eq!(commented, b"  ! the web server\n  !\n  ! on C:\\users\n  port = 80\n");
+/// # Ok::<(), todrenval::PropertiesError>(())
+/// ```
+///
+/// # Errors
+///
+/// Those of [`edit`], and then [`NoKey`](crate::ErrorKind::NoKey) if no pair has the key.
+pub fn set_comment(
+    source: &[u8],
+    options: impl Into<Options>,
+    key: &str,
+    text: &str,
+) -> Result<Vec<u8>, PropertiesError> {
+    let options = options.into();
+    let flags = options.strict_flag() | options.comments_flag() | options.putting_flags();
+    let texts = (key.as_bytes(), text.as_bytes());
+    let mut commented = Vec::new();
+    given(sys::set_comment(
+        &mut commented,
+        source,
+        options.encoding.number(),
+        flags,
+        texts,
+    ))?;
+    Ok(commented)
+}
+
 /// Returns the value of a key in the bytes of a file: that of the last pair with it. Each call reads the whole file; for
 /// several keys, read a map.
 ///

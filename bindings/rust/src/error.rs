@@ -25,7 +25,7 @@ pub enum ErrorKind {
     BadKvSeparator,
     /// The key is empty and the separator is blanks alone, so the value would be read as the key.
     EmptyKey,
-    /// No pair has the key that is to be renamed.
+    /// No pair has the key that is to be renamed, or whose comment is to be set.
     NoKey,
     /// A pair has the new key already: the first one begins in the line.
     KeyTaken,

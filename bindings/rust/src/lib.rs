@@ -184,8 +184,8 @@
 //!
 //! Beyond it are [`PropertiesIter::comments`], [`strict`](PropertiesIter::strict) and
 //! [`next_ref`](PropertiesIter::next_ref), [`PropertiesWriter::set_ascii_only`] and [`set_readable`](PropertiesWriter::set_readable), [`get`], [`edit`],
-//! [`rename_key`], [`remove_with_comment`], [`comment_of`], [`convert`] and [`groups`] with their [`Options`], and
-//! [`runs_here`].
+//! [`rename_key`], [`remove_with_comment`], [`comment_of`], [`set_comment`], [`convert`] and [`groups`] with their
+//! [`Options`], and [`runs_here`].
 //!
 //! # Where it runs
 //!
@@ -205,7 +205,7 @@ mod reader;
 mod sys;
 mod writer;
 
-pub use edit::{comment_of, convert, edit, get, remove_with_comment, rename_key, Edit, Spelling, Target};
+pub use edit::{comment_of, convert, edit, get, remove_with_comment, rename_key, set_comment, Edit, Spelling, Target};
 pub use encoding::{Encoding, ISO_8859_1, UTF_16BE, UTF_16LE, UTF_8, WINDOWS_1252};
 pub use error::{ErrorKind, PropertiesError};
 pub use groups::{groups, Flaw, Group, GroupKind};

@@ -34,8 +34,9 @@ impl Options {
         }
     }
 
-    /// Says what of comments is read. With [`Comments::Resolve`], `get`, `edit`, `rename_key` and `remove_with_comment`
-    /// refuse a malformed escape in a comment, and `groups` resolves its texts. Otherwise `groups` gives them as they stand.
+    /// Says what of comments is read. With [`Comments::Resolve`], `get`, `edit`, `rename_key`, `remove_with_comment` and
+    /// `set_comment` refuse a malformed escape in a comment, and `groups` resolves its texts. Otherwise `groups` gives them as
+    /// they stand.
     #[must_use]
     pub fn comments(mut self, comments: Comments) -> Self {
         self.comments = comments;
@@ -50,8 +51,8 @@ impl Options {
         self
     }
 
-    /// Says whether `edit` and `rename_key` write each character past U+007F as an escape. Such a line reads the same in ISO 8859-1,
-    /// windows-1252 and UTF-8.
+    /// Says whether `edit`, `rename_key` and `set_comment` write each character past U+007F as an escape. Such a line reads the
+    /// same in ISO 8859-1, windows-1252 and UTF-8.
     #[must_use]
     pub fn ascii_only(mut self, is_ascii_only: bool) -> Self {
         self.is_ascii_only = is_ascii_only;

@@ -128,6 +128,20 @@ mod exports {
             length: *mut usize,
             line: *mut usize,
         ) -> i32;
+        pub fn todrenval_set_comment(
+            source: *const u8,
+            source_length: usize,
+            encoding: u32,
+            flags: u32,
+            key: *const u8,
+            key_length: usize,
+            text: *const u8,
+            text_length: usize,
+            out: *mut u8,
+            room: usize,
+            length: *mut usize,
+            line: *mut usize,
+        ) -> i32;
         pub fn todrenval_convert(
             source: *const u8,
             source_length: usize,
@@ -360,6 +374,28 @@ pub fn comment(lines: &mut Vec<u8>, source: &[u8], encoding: u32, flags: u32, ke
             flags,
             front(key),
             key.len(),
+            out.at,
+            out.room,
+            out.length,
+            out.line,
+        )
+    })
+}
+
+/// Sets the comment of the first of these texts, which is a key, to the second one.
+pub fn set_comment(commented: &mut Vec<u8>, source: &[u8], encoding: u32, flags: u32, texts: (&[u8], &[u8])) -> Answer {
+    let (key, text) = texts;
+    // SAFETY: see above.
+    call(commented, source.len() + text.len() + 256, |out| unsafe {
+        exports::todrenval_set_comment(
+            front(source),
+            source.len(),
+            encoding,
+            flags,
+            front(key),
+            key.len(),
+            front(text),
+            text.len(),
             out.at,
             out.room,
             out.length,

@@ -6,9 +6,9 @@ use std::error::Error;
 use std::io::{self, Write};
 use streams::{cases, Chance, Sink};
 use todrenval::{
-    comment_of, convert, edit, get, groups, read, remove_with_comment, rename_key, write, Comments, Edit, Encoding,
-    ErrorKind, GroupKind, LineContent, LineEnding, Options, PropertiesError, PropertiesIter, PropertiesWriter,
-    Spelling, Target, ISO_8859_1, UTF_16LE, UTF_8, WINDOWS_1252,
+    comment_of, convert, edit, get, groups, read, remove_with_comment, rename_key, set_comment, write, Comments, Edit,
+    Encoding, ErrorKind, GroupKind, LineContent, LineEnding, Options, PropertiesError, PropertiesIter,
+    PropertiesWriter, Spelling, Target, ISO_8859_1, UTF_16LE, UTF_8, WINDOWS_1252,
 };
 
 const TEXTS: [&str; 14] = [
@@ -676,4 +676,79 @@ fn a_key_goes_with_its_comment() {
     let error = remove_with_comment(b"#\\u\na", read, "a").unwrap_err();
     assert_eq!(error.kind(), ErrorKind::NotEnoughDigits);
     assert_eq!(comment_of(b"#\\u\na", read, "a").unwrap().unwrap(), ["\\u"]);
+}
+
+/// The comment of a key is set in the style of the old one, or of the pair.
+#[test]
+fn a_comment_is_set() {
+    let file = b"# of\nkey\n\n\t!one\r\n #\nk\\u0065y=1\r";
+    let set = |text| set_comment(file, UTF_8, "key", text).unwrap();
+    assert_eq!(
+        set("a\\u12\r\n\n b\r"),
+        b"# of\nkey\n\n\t!a\\u12\r\n\t!\r\n\t!  b\r\nk\\u0065y=1\r"
+    );
+    assert_eq!(set("one\n\n"), file);
+    assert_eq!(set(""), b"# of\nkey\n\nk\\u0065y=1\r");
+    assert_eq!(set_comment(b"\tkey\r", UTF_8, "key", "a").unwrap(), b"\t# a\r\tkey\r");
+    let ascii = Options::new(UTF_8).ascii_only(true);
+    assert_eq!(set_comment(b"a", ascii, "a", "\u{e9}").unwrap(), b"# \\u00e9\na");
+    assert_eq!(
+        set_comment(b"a", ISO_8859_1, "a", "\u{e9}\u{20ac}").unwrap(),
+        b"# \xe9\\u20ac\na"
+    );
+    assert_eq!(
+        set_comment(b"a", WINDOWS_1252, "a", "\u{e9}\u{20ac}").unwrap(),
+        b"# \xe9\x80\na"
+    );
+    let strict = Options::new(UTF_8).strict(true).comments(Comments::Resolve);
+    for (bytes, kind, line) in [
+        (&b"#\\u\na"[..], ErrorKind::NotEnoughDigits, Some(1)),
+        (b"a\nb\\u12", ErrorKind::NotEnoughDigits, Some(2)),
+        (b"\xff\xfea\0", ErrorKind::Unsupported, None),
+        (b"\n# \xff\na", ErrorKind::NotText, Some(2)),
+        (b"# a\nb", ErrorKind::NoKey, None),
+    ] {
+        let error = set_comment(bytes, strict, "a", "b").unwrap_err();
+        assert_eq!((error.kind(), error.line_number()), (kind, line), "{bytes:?}");
+    }
+}
+
+/// What was set is told, and all groups stay but the comment of the key.
+#[test]
+fn comments_are_told_as_they_were_set() {
+    let mut chance = Chance(10);
+    let mut set = 0;
+    for round in cases(4000) {
+        let encoding = [WINDOWS_1252, UTF_8, ISO_8859_1][round % 3];
+        let source = chance.string(&TEXTS, 24).into_bytes();
+        let text = chance.string(&TEXTS, 6).replace('\r', "\n");
+        let Ok(commented) = set_comment(&source, encoding, "a", &text) else {
+            continue;
+        };
+        set += 1;
+        let told = comment_of(&commented, encoding, "a").unwrap().unwrap();
+        if text.is_ascii() {
+            assert_eq!(
+                told,
+                text.split_terminator('\n').collect::<Vec<_>>(),
+                "{source:?} {text:?}"
+            );
+        }
+        let same = told.iter().map(|line| line.clone() + "\n").collect::<String>();
+        assert_eq!(
+            set_comment(&commented, encoding, "a", &same).unwrap(),
+            commented,
+            "{source:?} {text:?}"
+        );
+        let parts = |bytes: &[u8]| -> Vec<_> {
+            groups(bytes, encoding)
+                .unwrap()
+                .into_iter()
+                .filter(|group| group.kind == GroupKind::Pair)
+                .map(|group| bytes[group.span].to_vec())
+                .collect()
+        };
+        assert_eq!(parts(&commented), parts(&source), "{source:?} {text:?}");
+    }
+    assert!(set > 0);
 }

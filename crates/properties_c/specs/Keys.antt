@@ -1,4 +1,4 @@
--- What the exports give that rename a key, remove it with its comment, and tell its comment.
+-- What the exports give that rename a key, set or tell its comment, and remove both.
 use Rattle.std.specs.Prelude.{◌≡◌, ℕ, List, [], ◌∷◌, ◌++◌, Option, Some, None, Result, Ok, Err, encode_utf8_all}
 use Rattle.std.specs.Global.{Vec}
 use Rattle.std.specs.List.{flat_map}
@@ -9,6 +9,7 @@ use Rattle.properties_text.specs.declared.encoding.Encoding as code
 use Rattle.properties_items.specs.declared.error.PropertiesError.{PropertiesError}
 use Rattle.properties_editing.specs.declared.source.SourceOptions.{SourceOptions}
 use Rattle.properties_renaming.specs.Commented.{RemovesWithComments}
+use Rattle.properties_renaming.specs.Commenting.{SetsComment}
 use Rattle.properties_renaming.specs.Renaming.{RenamesKey}
 use Rattle.properties_renaming.specs.declared.renaming.RenameError.{RenameError}
 use Rattle.properties_renaming.specs.declared.renaming.RenameError.TheVariants as error
@@ -24,8 +25,8 @@ IsGivenBy Gives e f outcome = (encoding : code.Encoding) × (encoding_of encodin
 
 -- ---- a key that is renamed
 
--- What a renaming returned crosses: the bytes; or that no pair has the old key, or the line of the first pair with the
--- new one; or its error.
+-- What a renaming or a new comment returned crosses: the bytes; or that no pair has the key, or the line of the first
+-- pair with the new one; or its error.
 abbrev pub RenamedCrosses : Result (Vec ℕ) RenameError → Crossing → Type 0
 RenamedCrosses (Ok bytes) x = Delivers bytes.items Done 0 x
 RenamedCrosses (Err error.NoKey) x = RefusesCall NoKey 0 x
@@ -40,6 +41,16 @@ GivesRenamed e f source old new x =
 abbrev pub RenamesAcross : List ℕ → ℕ → ℕ → List ℕ → List ℕ → Crossing → Type 0
 RenamesAcross source encoding flags old new x =
     InEncoding encoding (λ e. WithFlags for_edits flags (λ f. WithText old (λ o. WithText new (λ n. WithSource f.strict e source (GivesRenamed e f source o n x) x) x) x) x) x
+
+-- ---- a comment that is set
+
+abbrev pub GivesCommented : Encoding → Flags → List ℕ → List ℕ → List ℕ → Crossing → Type 0
+GivesCommented e f source key text x =
+    (outcome : Result (Vec ℕ) RenameError) × IsGivenBy (λ o. SetsComment o source key text) e f outcome × RenamedCrosses outcome x
+
+abbrev pub SetsAcross : List ℕ → ℕ → ℕ → List ℕ → List ℕ → Crossing → Type 0
+SetsAcross source encoding flags key text x =
+    InEncoding encoding (λ e. WithFlags for_edits flags (λ f. WithText key (λ k. WithText text (λ t. WithSource f.strict e source (GivesCommented e f source k t x) x) x) x) x) x
 
 -- ---- a key that is removed with its comment
 

@@ -1,4 +1,4 @@
-// The exports that rename a key, remove it with its comment, and tell its comment.
+// The exports that rename a key, set or tell its comment, and remove both.
 
 ghost use Rattle.std.specs.Prelude.{◌≡◌, [], ◌∷◌, ◌++◌, IfOk, OnOk, map};
 ghost use Rattle.std.specs.List.{flat_map};
@@ -7,7 +7,7 @@ ghost use Rattle.properties_format.specs.Text.{line_feed};
 ghost use Rattle.properties_items.specs.Texts.{characters};
 ghost use Rattle.properties_text.specs.Encoding.{encoding_of};
 ghost use Rattle.properties_c.specs.Crossing.{crossing};
-ghost use Rattle.properties_c.specs.Keys.{RemovesAcross, RenamesAcross, TellsAcross, TellsCommentLines, text_line};
+ghost use Rattle.properties_c.specs.Keys.{RemovesAcross, RenamedCrosses, RenamesAcross, SetsAcross, TellsAcross, TellsCommentLines, text_line};
 
 use crate::encoding::{
     FOR_COMMENTS, FOR_EDITS, FOR_KEYS, encoding_numbered, flags_numbered, options_for, text_of,
@@ -17,6 +17,7 @@ use crate::sound::refused_line;
 use crate::status::Status;
 use java_properties::{
     Encoding, PropertiesError, RenameError, comment_of, remove_with_comment, rename_key,
+    set_comment,
 };
 use std::alloc::{AllocError, Global};
 
@@ -51,7 +52,56 @@ pub extern "C" fn todrenval_rename_key(
     if let Some(number) = refused_line(flags.strict, source, encoding) {
         return refuse_source(number, length, line);
     }
-    match rename_key(alloc, source, options_for(encoding, flags), old, new) {
+    let renamed = rename_key(alloc, source, options_for(encoding, flags), old, new);
+    write_renamed(renamed, out, length, line)
+}
+
+/// Gives the source with the comment of a key set: a comment line directly above the last pair with it for each line of
+/// the text.
+#[unsafe(no_mangle)]
+pub extern "C" fn todrenval_set_comment(
+    alloc: Global,
+    source: &[u8],
+    encoding: u32,
+    flags: u32,
+    key: &[u8],
+    text: &[u8],
+    out: &mut [u8],
+    length: &mut usize,
+    line: &mut usize,
+) -> i32
+    ensures { let x = crossing out.old result length.new line.new out.new in
+        SetsAcross source.now encoding flags key.now text.now x }
+{
+    let Some(encoding) = encoding_numbered(encoding) else {
+        return refuse(Status::UnknownEncoding, length, line);
+    };
+    let Some(flags) = flags_numbered(flags, FOR_EDITS) else {
+        return refuse(Status::UnknownFlags, length, line);
+    };
+    let Some(key) = text_of(key) else {
+        return refuse(Status::NotUtf8, length, line);
+    };
+    let Some(text) = text_of(text) else {
+        return refuse(Status::NotUtf8, length, line);
+    };
+    if let Some(number) = refused_line(flags.strict, source, encoding) {
+        return refuse_source(number, length, line);
+    }
+    let commented = set_comment(alloc, source, options_for(encoding, flags), key, text);
+    write_renamed(commented, out, length, line)
+}
+
+// Answers with the bytes that a renaming or a new comment gave, or with why it gave none.
+fn write_renamed(
+    outcome: Result<Vec<u8>, RenameError>,
+    out: &mut [u8],
+    length: &mut usize,
+    line: &mut usize,
+) -> i32
+    ensures { RenamedCrosses outcome (crossing out.old result length.new line.new out.new) }
+{
+    match outcome {
         Ok(bytes) => write_bytes(&bytes, out, length, line),
         Err(RenameError::NoKey) => refuse(Status::NoKey, length, line),
         Err(RenameError::KeyTaken(number)) => {

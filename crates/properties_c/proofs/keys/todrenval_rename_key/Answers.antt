@@ -1,13 +1,11 @@
 use Rattle.std.proofs.Common.{refl, rules, subst, inl, inr}
-use Rattle.std.specs.Prelude.{Ok, Err}
 use Rattle.std.specs.Str.{chars}
 use Rattle.properties_text.specs.Encoding.{encoding_of}
 use Rattle.properties_renaming.specs.Renaming.{RenamesKey}
-use Rattle.properties_renaming.specs.declared.renaming.RenameError.TheVariants.{Source, NoKey, KeyTaken}
 use Rattle.properties_c.proofs.keys.todrenval_rename_key.Goals as goal
 
-pub returns-in-Ok : goal.returns-in-Ok
-returns-in-Ok c =
+pub returns : goal.returns
+returns c =
     let source = c.args.source.now in
     let old = chars c.args.old.now in
     let new = chars c.args.new.now in
@@ -24,109 +22,9 @@ returns-in-Ok c =
             inl (
               c.in_default-refused_line.ensures,
               (
-                Ok c.in-Ok.bytes,
-                (
-                  c.in-Some.encoding,
-                  refl,
-                  subst (λ o. RenamesKey o source old new (Ok c.in-Ok.bytes)) c.options_for.ensures (search rules),
-                ),
+                c.rename_key-renamed.result,
+                (c.in-Some.encoding, refl, subst (λ o. RenamesKey o source old new c.rename_key-renamed.result) c.options_for.ensures (search rules)),
                 search rules,
-              ),
-            ),
-          ),
-        ),
-      ),
-    )
-
-pub returns-in-Err-NoKey : goal.returns-in-Err-NoKey
-returns-in-Err-NoKey c =
-    let source = c.args.source.now in
-    let old = chars c.args.old.now in
-    let new = chars c.args.new.now in
-    inl (
-      encoding_of c.in-Some.encoding,
-      search rules,
-      inl (
-        c.in-Some-flags_numbered.flags,
-        search rules,
-        inl (
-          search rules,
-          inl (
-            search rules,
-            inl (
-              c.in_default-refused_line.ensures,
-              (
-                Err NoKey,
-                (
-                  c.in-Some.encoding,
-                  refl,
-                  subst (λ o. RenamesKey o source old new (Err NoKey)) c.options_for.ensures (search rules),
-                ),
-                record { answers = search rules; kept = refl },
-              ),
-            ),
-          ),
-        ),
-      ),
-    )
-
-pub returns-in-Err-KeyTaken : goal.returns-in-Err-KeyTaken
-returns-in-Err-KeyTaken c =
-    let source = c.args.source.now in
-    let old = chars c.args.old.now in
-    let new = chars c.args.new.now in
-    inl (
-      encoding_of c.in-Some.encoding,
-      search rules,
-      inl (
-        c.in-Some-flags_numbered.flags,
-        search rules,
-        inl (
-          search rules,
-          inl (
-            search rules,
-            inl (
-              c.in_default-refused_line.ensures,
-              (
-                Err (KeyTaken c.in-Err-KeyTaken.number),
-                (
-                  c.in-Some.encoding,
-                  refl,
-                  subst (λ o. RenamesKey o source old new (Err (KeyTaken c.in-Err-KeyTaken.number))) c.options_for.ensures (search rules),
-                ),
-                record { answers = search rules; kept = refl },
-              ),
-            ),
-          ),
-        ),
-      ),
-    )
-
-pub returns-in-Err-Source : goal.returns-in-Err-Source
-returns-in-Err-Source c =
-    let source = c.args.source.now in
-    let old = chars c.args.old.now in
-    let new = chars c.args.new.now in
-    inl (
-      encoding_of c.in-Some.encoding,
-      search rules,
-      inl (
-        c.in-Some-flags_numbered.flags,
-        search rules,
-        inl (
-          search rules,
-          inl (
-            search rules,
-            inl (
-              c.in_default-refused_line.ensures,
-              (
-                Err (Source c.in-Err-Source.error),
-                (
-                  c.in-Some.encoding,
-                  refl,
-                  subst (λ o. RenamesKey o source old new (Err (Source c.in-Err-Source.error))) c.options_for.ensures (search rules),
-                ),
-                record { answers = search rules; kept = refl },
               ),
             ),
           ),
