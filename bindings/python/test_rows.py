@@ -32,7 +32,8 @@ from copy import copy as copy_of, deepcopy
 
 sys.path.insert(0, str(pathlib.Path(__file__).resolve().parent))
 import todrenval  # noqa: E402
-from todrenval import Comment, Pair, PropertiesError, RemoveKey, SetKey, SetValue, Status  # noqa: E402
+from todrenval import Comment, Pair, PropertiesError, RemoveKey, RemoveWithComment, RenameKey, SetComment  # noqa: E402
+from todrenval import SetKey, SetValue, Status  # noqa: E402
 
 TOP = pathlib.Path(__file__).resolve().parent.parent.parent
 PROGRAMS = "crates/*_vectors"
@@ -599,6 +600,7 @@ def try_arguments(count):
         (todrenval.dumps, [[Comment(3)]], "a comment has to be a str, not int"),
         (todrenval.remove_key, [b"", None], "the key None has to be a str, not NoneType"),
         (todrenval.rename_key, [b"", "a", None], "the new key None has to be a str, not NoneType"),
+        (todrenval.set_comment, [b"", "a", None], "a comment has to be a str, not NoneType"),
         (todrenval.edit, [b"", {"port": 8080}], "the value of 'port' has to be a str, not int"),
         (todrenval.set_value, [b"", "port", 8080], "the value of 'port' has to be a str, not int"),
         (todrenval.set_key, [b"", "port", 8080], "the value of 'port' has to be a str, not int"),
@@ -623,6 +625,7 @@ def try_arguments(count):
         (todrenval.get, [b"", "\ud83d"], key), (todrenval.set_value, [b"", "a", "\ud83d"], value),
         (todrenval.set_key, [b"", "\ud83d", "a"], key), (todrenval.remove_key, [b"", "\ud83d"], key),
         (todrenval.edit, [b"", {"b": "c", "a": "\udc1e"}], value), (todrenval.dumps, [{"a": "\ud83d"}], value),
+        (todrenval.set_comment, [b"a", "a", "\ud83d"], "A comment"), (document.set_comment, ["a", "\ud83d"], "A comment"),
         (todrenval.dumps, [[Comment("\ud83d")]], "A comment"), (document.__setitem__, ["a", "\ud83d"], value),
         (document.update, [{"a": "\ud83d"}], value),
     ):
@@ -953,11 +956,19 @@ def try_shared_documents(count):
             numbers = random.Random(seed)
             for _ in range(500):
                 key = numbers.choice(keys)
-                if numbers.random() < 0.7:
+                chosen = numbers.random()
+                if chosen < 0.7:
                     document[key] = str(numbers.random())
                 else:
-                    with contextlib.suppress(KeyError):
-                        del document[key]
+                    with contextlib.suppress(KeyError, PropertiesError):
+                        if chosen < 0.94:
+                            del document[key]
+                        elif chosen < 0.96:
+                            document.rename(key, numbers.choice(keys))
+                        elif chosen < 0.98:
+                            document.set_comment(key, str(chosen))
+                        else:
+                            document.remove_with_comment(key)
                 if numbers.random() < 0.02:
                     document.save()
 
@@ -1146,6 +1157,9 @@ def try_comments(count):
         (todrenval.remove_with_comment, ["host"], b"# C:\\users\nport = 80\n"),
         (todrenval.remove_with_comment, ["port"], b"host = a\n"),
         (todrenval.rename_key, ["port", "user"], b"# C:\\users\nuser = 80\nhost = a\n"),
+        (todrenval.set_comment, ["port", "web"], b"# web\nport = 80\nhost = a\n"),
+        (todrenval.set_comment, ["host", "\\u12"], b"# C:\\users\nport = 80\n# \\u12\nhost = a\n"),
+        (todrenval.edit, [[SetComment("port", "web"), *edits, RenameKey("port", "user")]], b"# web\nuser = 81\n"),
         (todrenval.edit, [edits], b"# C:\\users\nport = 81\n"),
         (todrenval.edit, [edits[:1]], b"# C:\\users\nport = 81\nhost = a\n"),
         (todrenval.edit, [[]], source),
@@ -1218,7 +1232,18 @@ def try_keys(count):
     count.check(todrenval.comment(b"#\t\x85\xa0\na", "a", encoding="cp1252") == ["\u2026\xa0"], "a comment of other characters")
     long = [str(number) for number in range(5000)]
     count.check(todrenval.comment("".join(f"# {line}\n" for line in long).encode() + b"a", "a") == long, "a long comment")
-    for call, more in ((todrenval.rename_key, ["a", "b"]), (todrenval.comment, ["a"])):
+    came = todrenval.set_comment(source, "port", "caf\xe9\r\r\n \\u12")
+    count.check(came == source.replace(b"! host\n", b"! caf\\u00e9\n!\n!  \\u12\n"), f"a comment that is set: {came}")
+    came = todrenval.set_comment(source[:40], "port", "caf\xe9", ascii_only=False)
+    count.check(came == "# caf\xe9\n".encode() + source[16:40], f"a comment that is set: {came}")
+    came = todrenval.set_comment(b"\ta=\x80\r", "a", "\xe9\u20ac", encoding="iso-8859-1", ascii_only=False)
+    count.check(came == b"\t# \xe9\\u20ac\r\ta=\x80\r", f"a comment that is set in iso-8859-1: {came}")
+    for text, wanted in (("host", source), ("host\n", source), ("", source.replace(b"! host\n", b""))):
+        count.check(todrenval.set_comment(source, "port", text) == wanted, f"a comment that is set to {text!r}")
+    long_text = "".join(f"{line}\n" for line in long)
+    made = todrenval.set_comment(b"a", "a", long_text)
+    count.check(todrenval.comment(made, "a") == long and made.endswith(b"# 4999\na"), "a long comment that is set")
+    for call, more in ((todrenval.rename_key, ["a", "b"]), (todrenval.comment, ["a"]), (todrenval.set_comment, ["a", "b"])):
         error = raised(call, b"c=1\n# a", *more)
         count.check(type(error) is KeyError and error.args == ("a",), f"{call.__name__} of none: {error!r}")
         for data, status, line in ((b"\n\\u12", Status.NOT_ENOUGH_DIGITS, 2), (b"\xff\xfe", Status.UNSUPPORTED, None), (b"a=\xff", Status.NOT_TEXT, 1)):
@@ -1229,8 +1254,105 @@ def try_keys(count):
             count.check(isinstance(raised(call, wrong, *more), TypeError), f"{call.__name__} of {wrong!r}")
     error = raised(todrenval.rename_key, b"\na=1\nc\\\n\nb=2\nb=3", "a", "b")
     count.check(type(error) is PropertiesError and (error.status, error.line) == (Status.KEY_TAKEN, 5), f"a key that is taken: {error!r}")
+    count.check(error.reason == "A pair has the new key 'b' already.", f"a key that is taken: {error!r}")
     error = raised(todrenval.rename_key, b"", "a", "\ud83d")
     count.check(str(error) == r"The new key '\ud83d' has a surrogate without its partner.", f"a surrogate: {error!r}")
+
+
+def by_calls(source, edits, named):
+    """The source after these edits, by a call for each."""
+    reading = {name: named[name] for name in named if name != "ascii_only"}
+    for each in edits:
+        if isinstance(each, RenameKey):
+            source = todrenval.rename_key(source, *each, **named)
+        elif isinstance(each, SetComment):
+            source = todrenval.set_comment(source, *each, **named)
+        elif isinstance(each, RemoveWithComment):
+            source = todrenval.remove_with_comment(source, *each, **reading)
+        else:
+            source = todrenval.edit(source, [each], **named)
+    return source
+
+
+def on_document(document, each):
+    """Makes an edit in a document, in which a key that isn't there can't be removed."""
+    if isinstance(each, RenameKey):
+        document.rename(*each)
+    elif isinstance(each, SetComment):
+        document.set_comment(*each)
+    elif isinstance(each, RemoveWithComment):
+        with contextlib.suppress(KeyError):
+            document.remove_with_comment(*each)
+    elif isinstance(each, SetValue):
+        document[each.key] = each.value
+    else:
+        document.pop(each.key, None)
+
+
+def try_lists_of_edits(count):
+    """Lists of edits of each kind give what the calls give one after another, and so does a document, or the same error."""
+    numbers = random.Random(6)
+    lines = [b"a = 1\n", b"b : 2\\\n 3\r\n", b"# c\n", b" ! C:\\users\r", b"\n", b"\\u0061 4\n", b"#\xe9\n", b"c\xff 5\n", b"#\n"]
+    texts = ["", "\n", "one", " two\n\nthree", "caf\xe9", "\\u0062", "C:\\u"]
+    kinds = [
+        lambda: RenameKey(numbers.choice("abc\xe9"), numbers.choice(["a", "b", "d", "\u20ac"])),
+        lambda: RemoveWithComment(numbers.choice("abd")),
+        lambda: SetComment(numbers.choice("abd"), numbers.choice(texts)),
+        lambda: SetValue(numbers.choice("abd"), numbers.choice(texts)),
+        lambda: RemoveKey(numbers.choice("abd")),
+    ]
+    outcomes = {}
+    for _ in range(6000):
+        source = b"".join(numbers.choices(lines, k=numbers.randrange(8)))
+        edits = [numbers.choice(kinds)() for _ in range(numbers.randrange(6))]
+        named = {"encoding": numbers.choice(["utf-8", "cp1252", "iso-8859-1"]), "errors": numbers.choice(["strict", "replace"])}
+        named.update(comments=numbers.choice(["skip", "skip", "read"]), ascii_only=numbers.random() < 0.5)
+        place = f"{edits!r} of {source!r} by {named!r}"
+        try:
+            wanted = by_calls(source, edits, named) if edits else todrenval.edit(source, {}, **named)
+        except (KeyError, PropertiesError) as error:
+            wanted = (type(error), str(error))
+            error = raised(todrenval.edit, source, edits, **named)
+            count.check((type(error), str(error)) == wanted, f"{place}: {error!r}")
+            outcomes[wanted[0]] = outcomes.get(wanted[0], 0) + 1
+        else:
+            came = todrenval.edit(source, iter(edits), **named)
+            count.check(came == wanted, f"{place}: {came}")
+            outcomes[bytes] = outcomes.get(bytes, 0) + 1
+        try_document(count, source, edits, named)
+    count.check(len(outcomes) == 4 and min(outcomes.values()) > 100, f"outcomes: {outcomes}")
+    error = raised(todrenval.edit, b"a=1\nb=2", [("c", "3"), RenameKey("a", "d"), RenameKey("b", "c")])
+    count.check(str(error) == "line 3: A pair has the new key 'c' already.", f"a list with a key that is taken: {error!r}")
+    for wrong in (RenameKey("a", 3), SetComment("a", None), RemoveWithComment(3), RenameKey(None, "a")):
+        count.check(type(raised(todrenval.edit, b"a", [wrong])) is TypeError, f"edit by {wrong!r}")
+
+
+def try_document(count, source, edits, named):
+    """After each edit a document is what its bytes are; and if the edit raises an error, it is as it was."""
+    try:
+        document = todrenval.Document(source, **named)
+    except PropertiesError:
+        return
+    reading = {name: named[name] for name in named if name != "ascii_only"}
+    told = {"encoding": named["encoding"], "errors": named["errors"]}
+    for each in edits:
+        before = bytes(document)
+        error = raised(on_document, document, each)
+        if error:
+            wanted, came = before, raised(by_calls, before, [each], named)
+            if came is None:
+                # A text whose escape is malformed, in a document that reads comments.
+                came = raised(todrenval.loads, by_calls(before, [each], named), **reading)
+            count.check((type(error), str(error)) == (type(came), str(came)), f"{each!r} in {before!r}: {error!r}")
+        else:
+            wanted = by_calls(before, [each], named)
+        came = bytes(document)
+        count.check(came == wanted, f"{each!r} in {before!r}: {came}")
+        count.check(list(document.items()) == list(todrenval.loads(came, **reading).items()), f"{each!r} in {before!r}: {dict(document)}")
+        for key in document:
+            count.check(document.comment(key) == todrenval.comment(came, key, **told), f"the comment of {key!r} in {came!r}")
+            count.check(came.splitlines(True)[document.line(key) - 1 :] != [], f"the line of {key!r} in {came!r}")
+    count.check(type(raised(document.remove_with_comment, "none")) is KeyError, "a key that isn't there")
 
 
 def try_groups(count):
@@ -1535,7 +1657,8 @@ def main():
     run_tables(count)
     for test in (
         try_arguments, try_files, try_special_files, try_file_errors, try_documents, try_operators, try_created, try_shared_documents,
-        try_zeros, try_types, try_errors, try_lists, try_newer, try_room, try_findings, try_comments, try_keys, try_groups, try_short_files,
+        try_zeros, try_types, try_errors, try_lists, try_newer, try_room, try_findings, try_comments, try_keys, try_lists_of_edits,
+        try_groups, try_short_files,
         try_round_trips, try_random, try_conversions, try_latin_1, try_threads, try_header, try_examples, try_pages,
     ):
         try:
