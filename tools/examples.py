@@ -50,7 +50,9 @@ use properties_tools::propedit::ill_formed::ill_formed_lines;
 use properties_tools::propedit::kinds::{Ignored, Kind};
 use properties_tools::propedit::list_json::list_json;
 use properties_tools::propedit::merge::{Merged, edits_of, read_merge};
+use properties_tools::propedit::named::NamedSource;
 use properties_tools::propedit::same_file::refuse_output;
+use properties_tools::propedit::streams::Sinks;
 use properties_tools::propedit::{self, change::change, check::report, exit_status, list::list, pairs::list_values, replacement, run};
 use properties_tools::propfilter;
 use single_lines::decode::decode_line;
@@ -77,11 +79,12 @@ GIVEN = {
     "output": f"let mut output = {SINK};",
     "errors": f"let mut errors = {SINK};",
     "sink": f"let mut sink = {SINK};",
+    "sinks": f"let mut sinks = Sinks {{ output: {SINK}, errors: {SINK} }};",
     "arguments": "let arguments: &[String] = &[];",
     "words": "let words: Vec<String> = Vec::new(alloc);",
     "job": "let job = Job { encoding: Encoding::UTF_8, source: Source::StandardInput, command: Command::List(String::new(alloc), Terminator::LineFeed) };",
     "asked": f"let asked = {CHECK};",
-    "base": f'let (_, base) = base_of(alloc, "x", b"a", Encoding::UTF_8, {CHECK})?;',
+    "base": f'let (_, base) = base_of(alloc, NamedSource {{ name: "x", bytes: b"a" }}, Encoding::UTF_8, {CHECK})?;',
     "sources": "let sources = Comparison { encoding: Encoding::UTF_8, old: Source::Dash, new: Source::Dash, report: Report::Lines };",
     "Target": 'std::fs::write(&rt, "app.properties", b"port = 80".as_slice())?;',
     "File": 'std::fs::write(&rt, "app.properties", b"port = 80".as_slice())?;',

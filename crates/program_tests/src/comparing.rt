@@ -6,6 +6,7 @@ use crate::two_sources::{CUT_OFF, Row, SOUND, Streams, check_run, check_runs};
 use counted_io::Tail;
 use java_properties::Encoding;
 use properties_tools::propedit::diff::{DiffFailure, diff};
+use properties_tools::propedit::named::NamedSource;
 use std::alloc::{AllocError, Global};
 use std::process::Abort;
 use std::test::Fail;
@@ -173,7 +174,15 @@ const REFUSAL: u8 = 8;
 
 // Returns what the library gives for two sources in windows-1252: the status and the text, or which one it refuses.
 fn answer(alloc: Global, old: &[u8], new: &[u8]) -> Result<(u8, Vec<u8>), AllocError> {
-    match diff(alloc, "old", old, "\u{e9}\t", new, Encoding::WINDOWS_1252) {
+    let old = NamedSource {
+        name: "old",
+        bytes: old,
+    };
+    let new = NamedSource {
+        name: "\u{e9}\t",
+        bytes: new,
+    };
+    match diff(alloc, old, new, Encoding::WINDOWS_1252) {
         Ok(answer) => Ok((answer.status, answer.text)),
         Err(DiffFailure::Old(_failure)) => Ok((REFUSAL, b"old".to_vec(alloc)?)),
         Err(DiffFailure::New(_failure)) => Ok((REFUSAL, b"new".to_vec(alloc)?)),

@@ -1,11 +1,11 @@
 // Runs of both programs over streams.
 
 use crate::same::{Bytes, same};
-use crate::streams::{AMPLE, Plan, Sinks, reader, words_of};
+use crate::streams::{AMPLE, Plan, Planned, reader, sinks, words_of};
 use counted_io::{ScriptedReader, Tail};
-use propedit_arguments::asked_for;
 use propedit_arguments::mistake::Mistake;
 use propedit_arguments::parse::explain_mistake;
+use propedit_arguments::{asked_for, explain};
 use properties_tools::propedit::hint::{possible_files, refused_file};
 use properties_tools::propedit::request::{Job, Request};
 use properties_tools::{propedit, propfilter};
@@ -45,12 +45,12 @@ fn edit(
     words: &[String],
     there: &[&str],
     input: &mut ScriptedReader,
-    sinks: &mut Sinks,
+    sinks: &mut Planned,
 ) -> Result<u8, AllocError> {
     match asked_for(alloc, words) {
         Ok(Request::Job(job)) => do_job(alloc, &job, there, input, sinks),
         Ok(_) => Ok(FILES),
-        Err(error) => Ok(sinks.explain(alloc, error)),
+        Err(error) => Ok(explain(alloc, error, &mut sinks.output, &mut sinks.errors)),
     }
 }
 
@@ -59,7 +59,7 @@ fn do_job(
     job: &Job,
     there: &[&str],
     input: &mut ScriptedReader,
-    sinks: &mut Sinks,
+    sinks: &mut Planned,
 ) -> Result<u8, AllocError> {
     let mut files = Vec::new(alloc);
     for name in possible_files(job) {
@@ -67,10 +67,12 @@ fn do_job(
             files.push(name.clone()?)?;
         }
     }
-    let (output, errors) = (&mut sinks.output, &mut sinks.errors);
     match refused_file(job, &files) {
-        Some(file) => Ok(explain_mistake(alloc, Mistake::FileAsKey(file), errors)),
-        None => Ok(propedit::run(alloc, job, &files, input, output, errors)),
+        Some(file) => {
+            let mistake = Mistake::FileAsKey(file);
+            Ok(explain_mistake(alloc, mistake, &mut sinks.errors))
+        }
+        None => Ok(propedit::run(alloc, job, &files, input, sinks)),
     }
 }
 
@@ -82,11 +84,11 @@ pub fn run(
     streams: Streams,
     words: &str,
     input: &[u8],
-) -> Result<(u8, Sinks), AllocError> {
+) -> Result<(u8, Planned), AllocError> {
     let words = words_of(alloc, words)?;
     let words = words.as_slice();
     let mut input = reader(alloc, input, 1024, streams.tail)?;
-    let mut sinks = Sinks::new(alloc, streams.output, streams.errors);
+    let mut sinks = sinks(alloc, streams.output, streams.errors);
     let status = match program {
         Program::Propfilter => {
             let (output, errors) = (&mut sinks.output, &mut sinks.errors);
@@ -103,7 +105,7 @@ pub fn check_ended(
     rt: &impl Abort,
     number: usize,
     words: &str,
-    (status, sinks): &(u8, Sinks),
+    (status, sinks): &(u8, Planned),
     wanted: (u8, &[u8], &str),
 ) {
     let (output, errors) = (sinks.output.bytes(), sinks.errors.bytes());

@@ -1,8 +1,7 @@
 // Streams that follow a plan, and arguments as owned texts.
 
 use counted_io::{ScriptedReader, ScriptedSink, SinkFault, Tail};
-use propedit_arguments::explain;
-use propedit_arguments::mistake::NoRequest;
+use properties_tools::propedit::streams::Sinks;
 use std::alloc::{AllocError, Global};
 use std::io;
 
@@ -43,24 +42,13 @@ pub fn sink(alloc: Global, plan: Plan) -> ScriptedSink {
     sink
 }
 
-/// What a run prints on.
-#[derive(Drop)]
-pub struct Sinks {
-    pub output: ScriptedSink,
-    pub errors: ScriptedSink,
-}
+/// What a run prints on, as planned.
+pub type Planned = Sinks<ScriptedSink, ScriptedSink>;
 
-impl Sinks {
-    pub fn new(alloc: Global, output: Plan, errors: Plan) -> Sinks {
-        Sinks {
-            output: sink(alloc, output),
-            errors: sink(alloc, errors),
-        }
-    }
-
-    /// Prints why words ask for no run, and returns the status.
-    pub fn explain(&mut self, alloc: Global, error: NoRequest<'_>) -> u8 {
-        explain(alloc, error, &mut self.output, &mut self.errors)
+pub fn sinks(alloc: Global, output: Plan, errors: Plan) -> Planned {
+    Sinks {
+        output: sink(alloc, output),
+        errors: sink(alloc, errors),
     }
 }
 

@@ -2,9 +2,9 @@
 // of pairs and the one that it is merged into.
 
 use crate::runs::check_ended;
-use crate::streams::{AMPLE, Plan, Sinks, reader, words_of};
+use crate::streams::{AMPLE, Plan, Planned, reader, sinks, words_of};
 use counted_io::{ScriptedReader, Tail};
-use propedit_arguments::asked_for;
+use propedit_arguments::{asked_for, explain};
 use properties_tools::propedit;
 use properties_tools::propedit::base_run::run_base;
 use properties_tools::propedit::diff::run_diff;
@@ -50,19 +50,18 @@ fn run(
     first: Input<'_>,
     second: Input<'_>,
     output: Plan,
-) -> Result<(u8, Sinks), AllocError> {
+) -> Result<(u8, Planned), AllocError> {
     let words = words_of(alloc, words)?;
-    let mut sinks = Sinks::new(alloc, output, AMPLE);
+    let mut sinks = sinks(alloc, output, AMPLE);
     let status = match asked_for(alloc, words.as_slice()) {
         Ok(Request::Diff(sources)) => {
             let (mut old, mut new) = (open(alloc, first)?, open(alloc, second)?);
-            let (output, errors) = (&mut sinks.output, &mut sinks.errors);
-            run_diff(alloc, &sources, &mut old, &mut new, output, errors)
+            run_diff(alloc, &sources, &mut old, &mut new, &mut sinks)
         }
         Ok(Request::CheckFiles(files)) => check_files(alloc, files, first, second, &mut sinks)?,
         Ok(Request::Merge(asked)) => merge(alloc, asked, first, second, &mut sinks)?,
         Ok(_other) => OTHER,
-        Err(error) => sinks.explain(alloc, error),
+        Err(error) => explain(alloc, error, &mut sinks.output, &mut sinks.errors),
     };
     Ok((status, sinks))
 }
@@ -73,7 +72,7 @@ fn check_files(
     files: CheckedFiles,
     base: Input<'_>,
     file: Input<'_>,
-    sinks: &mut Sinks,
+    sinks: &mut Planned,
 ) -> Result<u8, AllocError> {
     let CheckedFiles {
         encoding,
@@ -89,9 +88,8 @@ fn check_files(
         encoding,
         check,
     };
-    let (output, errors) = (&mut sinks.output, &mut sinks.errors);
     let mut input = open(alloc, base)?;
-    let (mut status, known) = match run_base(alloc, &asked, &mut input, output, errors) {
+    let (mut status, known) = match run_base(alloc, &asked, &mut input, sinks) {
         Ok(checked) => checked,
         Err(status) => return Ok(status),
     };
@@ -103,7 +101,7 @@ fn check_files(
     for path in paths {
         job.source = Source::File(path);
         let mut input = open(alloc, file)?;
-        status = status.max(propedit::run(alloc, &job, &[], &mut input, output, errors));
+        status = status.max(propedit::run(alloc, &job, &[], &mut input, sinks));
     }
     Ok(status)
 }
@@ -113,13 +111,12 @@ fn merge(
     asked: Merge,
     pairs: Input<'_>,
     source: Input<'_>,
-    sinks: &mut Sinks,
+    sinks: &mut Planned,
 ) -> Result<u8, AllocError> {
-    let (output, errors) = (&mut sinks.output, &mut sinks.errors);
-    match read_merge(alloc, asked, &mut open(alloc, pairs)?, errors) {
+    match read_merge(alloc, asked, &mut open(alloc, pairs)?, &mut sinks.errors) {
         Ok(Merged::Printed(job)) => {
             let mut input = open(alloc, source)?;
-            Ok(propedit::run(alloc, &job, &[], &mut input, output, errors))
+            Ok(propedit::run(alloc, &job, &[], &mut input, sinks))
         }
         Ok(Merged::InPlace(file)) => Ok(match file.missing {
             Missing::Refuse => IN_PLACE,

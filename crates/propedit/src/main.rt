@@ -20,6 +20,7 @@ use properties_tools::propedit::request::{
     CheckedBase, CheckedFiles, Command, Comparison, Job, Merge, Request, Source,
 };
 use properties_tools::propedit::same_file::{INPUT, refuse_output};
+use properties_tools::propedit::streams::Sinks;
 use properties_tools::propedit::{exit_status, print_out_of_memory, run};
 use std::alloc::{AllocError, Global};
 use std::env;
@@ -32,28 +33,37 @@ const BLOCK: usize = 1 << 16;
 
 fn main(rt: HostRuntime) -> ExitCode {
     let mut errors = Counted::new(rt.stderr());
-    let status = match status(&rt, &mut errors) {
+    let Ok(output) = BufWriter::with_capacity(rt.alloc(), BLOCK, rt.stdout()) else {
+        return ExitCode::from(print_out_of_memory(&mut errors));
+    };
+    let mut sinks = Sinks {
+        output: Counted::new(output),
+        errors,
+    };
+    let status = match status(&rt, &mut sinks) {
         Ok(status) => status,
-        Err(_) => print_out_of_memory(&mut errors),
+        Err(_) => print_out_of_memory(&mut sinks.errors),
     };
     ExitCode::from(status)
 }
 
 // Does what the arguments ask for. Fails only if there is no memory for them.
-fn status<E: CountedWrite>(rt: &HostRuntime, errors: &mut E) -> io::Result<u8> {
+fn status<W: CountedWrite, E: CountedWrite>(
+    rt: &HostRuntime,
+    sinks: &mut Sinks<W, E>,
+) -> io::Result<u8> {
     let alloc = rt.alloc();
     let words = words(alloc, env::args(rt))?;
-    let mut output = Counted::new(BufWriter::with_capacity(alloc, BLOCK, rt.stdout())?);
     let Some(words) = words else {
-        return check_or_explain(rt, alloc, &mut output, errors);
+        return check_or_explain(rt, alloc, sinks);
     };
     match asked_for(alloc, words.as_slice()) {
-        Ok(Request::Job(job)) => Ok(do_job(rt, alloc, &job, &mut output, errors)),
-        Ok(Request::CheckFiles(files)) => Ok(check_files(rt, alloc, files, &mut output, errors)),
-        Ok(Request::EditFile(file)) => Ok(edit_file(rt, alloc, &file, errors)),
-        Ok(Request::Merge(asked)) => Ok(merge(rt, alloc, asked, &mut output, errors)),
-        Ok(Request::Diff(sources)) => Ok(compare(rt, alloc, &sources, &mut output, errors)),
-        Err(error) => Ok(explain(alloc, error, &mut output, errors)),
+        Ok(Request::Job(job)) => Ok(do_job(rt, alloc, &job, sinks)),
+        Ok(Request::CheckFiles(files)) => Ok(check_files(rt, alloc, files, sinks)),
+        Ok(Request::EditFile(file)) => Ok(edit_file(rt, alloc, &file, &mut sinks.errors)),
+        Ok(Request::Merge(asked)) => Ok(merge(rt, alloc, asked, sinks)),
+        Ok(Request::Diff(sources)) => Ok(compare(rt, alloc, &sources, sinks)),
+        Err(error) => Ok(explain(alloc, error, &mut sinks.output, &mut sinks.errors)),
     }
 }
 
@@ -62,16 +72,15 @@ fn merge<W: CountedWrite, E: CountedWrite>(
     rt: &HostRuntime,
     alloc: Global,
     asked: Merge,
-    output: &mut W,
-    errors: &mut E,
+    sinks: &mut Sinks<W, E>,
 ) -> u8 {
-    let mut pairs = match opened_or_explain(rt, alloc, &asked.pairs, errors) {
+    let mut pairs = match opened_or_explain(rt, alloc, &asked.pairs, &mut sinks.errors) {
         Ok(pairs) => pairs,
         Err(status) => return status,
     };
-    match read_merge(alloc, asked, &mut pairs, errors) {
-        Ok(Merged::Printed(job)) => do_job(rt, alloc, &job, output, errors),
-        Ok(Merged::InPlace(file)) => edit_file(rt, alloc, &file, errors),
+    match read_merge(alloc, asked, &mut pairs, &mut sinks.errors) {
+        Ok(Merged::Printed(job)) => do_job(rt, alloc, &job, sinks),
+        Ok(Merged::InPlace(file)) => edit_file(rt, alloc, &file, &mut sinks.errors),
         Err(status) => status,
     }
 }
@@ -80,13 +89,12 @@ fn merge<W: CountedWrite, E: CountedWrite>(
 fn check_or_explain<W: CountedWrite, E: CountedWrite>(
     rt: &HostRuntime,
     alloc: Global,
-    output: &mut W,
-    errors: &mut E,
+    sinks: &mut Sinks<W, E>,
 ) -> io::Result<u8> {
     let words = marked_words(rt, alloc)?;
     match asked_for(alloc, words.as_slice()) {
-        Ok(Request::CheckFiles(files)) => Ok(check_files(rt, alloc, files, output, errors)),
-        _ => Ok(explain_not_utf_8(rt, alloc, errors)),
+        Ok(Request::CheckFiles(files)) => Ok(check_files(rt, alloc, files, sinks)),
+        _ => Ok(explain_not_utf_8(rt, alloc, &mut sinks.errors)),
     }
 }
 
@@ -95,16 +103,15 @@ fn do_job<W: CountedWrite, E: CountedWrite>(
     rt: &HostRuntime,
     alloc: Global,
     job: &Job,
-    output: &mut W,
-    errors: &mut E,
+    sinks: &mut Sinks<W, E>,
 ) -> u8 {
-    let mut input = match opened_or_explain(rt, alloc, &job.source, errors) {
+    let mut input = match opened_or_explain(rt, alloc, &job.source, &mut sinks.errors) {
         Ok(input) => input,
         Err(status) => return status,
     };
     match &job.source {
-        Source::StandardInput => run_unnamed(rt, alloc, job, output, errors),
-        Source::Dash | Source::File(_) => run(alloc, job, &[], &mut input, output, errors),
+        Source::StandardInput => run_unnamed(rt, alloc, job, sinks),
+        Source::Dash | Source::File(_) => run(alloc, job, &[], &mut input, sinks),
     }
 }
 
@@ -113,20 +120,19 @@ fn run_unnamed<W: CountedWrite, E: CountedWrite>(
     rt: &HostRuntime,
     alloc: Global,
     job: &Job,
-    output: &mut W,
-    errors: &mut E,
+    sinks: &mut Sinks<W, E>,
 ) -> u8 {
     let Ok(files) = files_among(rt, alloc, possible_files(job)) else {
-        return print_out_of_memory(errors);
+        return print_out_of_memory(&mut sinks.errors);
     };
     if let Some(file) = refused_file(job, &files) {
-        return explain_mistake(alloc, Mistake::FileAsKey(file), errors);
+        return explain_mistake(alloc, Mistake::FileAsKey(file), &mut sinks.errors);
     }
     let input = rt.stdin();
     if input.is_terminal() {
-        print_reading(errors);
+        print_reading(&mut sinks.errors);
     }
-    run(alloc, job, &files, &mut Counted::new(input), output, errors)
+    run(alloc, job, &files, &mut Counted::new(input), sinks)
 }
 
 // Returns the names that files have.
@@ -165,8 +171,7 @@ fn check_files<W: CountedWrite, E: CountedWrite>(
     rt: &HostRuntime,
     alloc: Global,
     files: CheckedFiles,
-    output: &mut W,
-    errors: &mut E,
+    sinks: &mut Sinks<W, E>,
 ) -> u8 {
     let CheckedFiles {
         encoding,
@@ -182,7 +187,7 @@ fn check_files<W: CountedWrite, E: CountedWrite>(
             encoding,
             check,
         };
-        match check_base(rt, alloc, &base, output, errors) {
+        match check_base(rt, alloc, &base, sinks) {
             Ok((status, base)) => {
                 highest = status;
                 command = Command::CheckAgainst(check, base);
@@ -197,7 +202,7 @@ fn check_files<W: CountedWrite, E: CountedWrite>(
     };
     for path in paths {
         job.source = source_named(path);
-        highest = highest.max(check_file(rt, alloc, &job, output, errors));
+        highest = highest.max(check_file(rt, alloc, &job, sinks));
     }
     highest
 }
@@ -207,14 +212,13 @@ fn check_base<W: CountedWrite, E: CountedWrite>(
     rt: &HostRuntime,
     alloc: Global,
     base: &CheckedBase,
-    output: &mut W,
-    errors: &mut E,
+    sinks: &mut Sinks<W, E>,
 ) -> Result<(u8, Base), u8> {
     if let Some(marked) = marked_name(&base.source) {
-        return Err(explain_name(alloc, marked, errors));
+        return Err(explain_name(alloc, marked, &mut sinks.errors));
     }
-    let mut input = opened_or_explain(rt, alloc, &base.source, errors)?;
-    run_base(alloc, base, &mut input, output, errors)
+    let mut input = opened_or_explain(rt, alloc, &base.source, &mut sinks.errors)?;
+    run_base(alloc, base, &mut input, sinks)
 }
 
 // The name `-` is that of standard input.
@@ -231,12 +235,11 @@ fn check_file<W: CountedWrite, E: CountedWrite>(
     rt: &HostRuntime,
     alloc: Global,
     job: &Job,
-    output: &mut W,
-    errors: &mut E,
+    sinks: &mut Sinks<W, E>,
 ) -> u8 {
     match marked_name(&job.source) {
-        Some(name) => explain_name(alloc, name, errors),
-        None => do_job(rt, alloc, job, output, errors),
+        Some(name) => explain_name(alloc, name, &mut sinks.errors),
+        None => do_job(rt, alloc, job, sinks),
     }
 }
 
@@ -253,18 +256,17 @@ fn compare<W: CountedWrite, E: CountedWrite>(
     rt: &HostRuntime,
     alloc: Global,
     sources: &Comparison,
-    output: &mut W,
-    errors: &mut E,
+    sinks: &mut Sinks<W, E>,
 ) -> u8 {
-    let mut old = match opened_or_explain(rt, alloc, &sources.old, errors) {
+    let mut old = match opened_or_explain(rt, alloc, &sources.old, &mut sinks.errors) {
         Ok(old) => old,
         Err(status) => return status,
     };
-    let mut new = match opened_or_explain(rt, alloc, &sources.new, errors) {
+    let mut new = match opened_or_explain(rt, alloc, &sources.new, &mut sinks.errors) {
         Ok(new) => new,
         Err(status) => return status,
     };
-    run_diff(alloc, sources, &mut old, &mut new, output, errors)
+    run_diff(alloc, sources, &mut old, &mut new, sinks)
 }
 
 // The bytes of a source: those of standard input, or of a file.

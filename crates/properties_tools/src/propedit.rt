@@ -19,10 +19,12 @@ pub mod kinds;
 pub mod list;
 pub mod list_json;
 pub mod merge;
+pub mod named;
 pub mod pairs;
 pub mod request;
 pub mod same_file;
 pub mod sound;
+pub mod streams;
 
 ghost use Rattle.std.specs.Prelude.{◌≡◌, map};
 ghost use Rattle.counted_io.specs.Streams.{IsSameReader, IsSameSink};
@@ -34,6 +36,7 @@ ghost use Rattle.properties_tables.specs.Failures.{memory_words};
 use crate::propedit::answers::{answer_to, name};
 use crate::propedit::hint::{hint, print_hint};
 use crate::propedit::request::Job;
+use crate::propedit::streams::Sinks;
 use counted_io::{CountedRead, CountedWrite};
 use java_properties::{read_source, write_source};
 use properties_changing::change::change;
@@ -52,25 +55,27 @@ use std::alloc::Global;
 ///
 /// ```text
 /// let mut input: &[u8] = b"# the front door\nport = 80\n";
-/// let mut output = Counted::new(Vec::new(alloc));
-/// let mut errors = Counted::new(Vec::new(alloc));
+/// let mut sinks = Sinks {
+///     output: Counted::new(Vec::new(alloc)),
+///     errors: Counted::new(Vec::new(alloc)),
+/// };
 /// // For the arguments `get port` the status is 0, and the output holds `80` and a line feed.
-/// propedit::run(alloc, &job, &[], &mut input, &mut output, &mut errors);
+/// propedit::run(alloc, &job, &[], &mut input, &mut sinks);
 /// ```
 pub fn run<R: CountedRead, W: CountedWrite, E: CountedWrite>(
     alloc: Global,
     job: &Job,
     files: &[String],
     input: &mut R,
-    output: &mut W,
-    errors: &mut E,
+    sinks: &mut Sinks<W, E>,
 ) -> u8
     ensures runs { Runs R.CountedRead W.CountedWrite E.CountedWrite job.now (map characters files.now)
-        input.old output.old errors.old result input.new output.new errors.new }
+        input.old sinks.old.output sinks.old.errors result input.new sinks.new.output sinks.new.errors }
     ensures same_reader { IsSameReader R.CountedRead input.old input.new }
-    ensures same_sink { IsSameSink W.CountedWrite output.old output.new }
-    ensures same_error_sink { IsSameSink E.CountedWrite errors.old errors.new }
+    ensures same_sink { IsSameSink W.CountedWrite sinks.old.output sinks.new.output }
+    ensures same_error_sink { IsSameSink E.CountedWrite sinks.old.errors sinks.new.errors }
 {
+    let (output, errors) = (&mut sinks.output, &mut sinks.errors);
     match print_answer(alloc, job, files, input, output) {
         Ok((status, hint)) => {
             print_hint(errors, &hint);

@@ -9,6 +9,7 @@ ghost use Rattle.properties_tools.specs.Private.Lacking.{is_lacking, missing_pla
 ghost use Rattle.properties_tables.specs.Private.Table.{place_keys, table_places, IsKeyTable};
 
 use crate::propedit::answer::{Answer, reported};
+use crate::propedit::named::NamedSource;
 use java_properties::Encoding;
 use properties_checking::check::{Heading, Reported, checked};
 use properties_checking::kinds::Kind;
@@ -46,25 +47,25 @@ impl Model for Base {
 /// Returns what is wrong in a base, as the command `check` gives it, and its keys. Fails only if memory runs out.
 ///
 /// ```text
-/// let (answer, base) = base_of(alloc, "m.properties", b"a=1\nb=2", Encoding::UTF_8, asked)?;
+/// let source = NamedSource { name: "m.properties", bytes: b"a=1\nb=2" };
+/// let (answer, base) = base_of(alloc, source, Encoding::UTF_8, asked)?;
 /// // Nothing is wrong, and the base has the keys `a` and `b`.
 /// ```
 pub fn base_of(
     alloc: Global,
-    name: &str,
-    source: &[u8],
+    source: NamedSource<'_>,
     encoding: Encoding,
     asked: Check,
 ) -> Result<(Answer, Base), Failure>
-    ensures { ChecksBase name.now (encoding_of encoding) asked source.now result }
+    ensures { ChecksBase source.entry.name.now (encoding_of encoding) asked source.entry.bytes.now result }
 {
     let Reported {
         text,
         keys,
         is_well_formed,
-    } = checked(alloc, name, source, encoding, asked)?;
+    } = checked(alloc, source.name, source.bytes, encoding, asked)?;
     let base = Base {
-        name: String::from_str(alloc, name)?,
+        name: String::from_str(alloc, source.name)?,
         keys,
         is_well_formed,
     };
@@ -79,29 +80,28 @@ pub fn base_of(
 /// character may stand for any bytes.
 ///
 /// ```text
-/// let source = b"b=2\nc=3";
-/// let answer = check_against(alloc, "m_de.properties", source, Encoding::UTF_8, asked, &base)?;
+/// let source = NamedSource { name: "m_de.properties", bytes: b"b=2\nc=3" };
+/// let answer = check_against(alloc, source, Encoding::UTF_8, asked, &base)?;
 /// // m_de.properties: key 'a' is missing (m.properties:1)
 /// // m_de.properties:2: key 'c' is not in m.properties
 /// ```
 pub fn check_against<'a>(
     alloc: Global,
-    name: &'a str,
-    source: &[u8],
+    source: NamedSource<'a>,
     encoding: Encoding,
     asked: Check,
     base: &'a Base,
 ) -> Result<Answer, Failure>
-    ensures { ChecksAgainst base.now name.now (encoding_of encoding) asked source.now result }
+    ensures { ChecksAgainst base.now source.entry.name.now (encoding_of encoding) asked source.entry.bytes.now result }
 {
     let Reported {
         mut text,
         keys,
         is_well_formed,
-    } = checked(alloc, name, source, encoding, asked)?;
+    } = checked(alloc, source.name, source.bytes, encoding, asked)?;
     let sides = Sides {
         heading: Heading {
-            name,
+            name: source.name,
             report: asked.report,
             ignored: asked.ignored,
         },

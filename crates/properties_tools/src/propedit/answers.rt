@@ -10,6 +10,7 @@ use crate::propedit::comment::comment;
 use crate::propedit::get::{Shown, get};
 use crate::propedit::list::list;
 use crate::propedit::list_json::list_json;
+use crate::propedit::named::NamedSource;
 use crate::propedit::pairs::list_values;
 use crate::propedit::request::{Command, Job, Source};
 use java_properties::Encoding;
@@ -62,7 +63,11 @@ pub fn answer_to(alloc: Global, job: &Job, source: &[u8]) -> Result<Answer, Fail
         Command::Comment(key) => comment(alloc, source, job.encoding, key.as_str()),
         Command::Check(asked) => check(alloc, name(&job.source), source, job.encoding, *asked),
         Command::CheckAgainst(asked, base) => {
-            check_against(alloc, name(&job.source), source, job.encoding, *asked, base)
+            let source = NamedSource {
+                name: name(&job.source),
+                bytes: source,
+            };
+            check_against(alloc, source, job.encoding, *asked, base)
         }
         Command::Change(change) => changed(alloc, source, job.encoding, change),
     }

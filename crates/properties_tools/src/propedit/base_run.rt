@@ -6,7 +6,9 @@ ghost use Rattle.properties_tools.specs.Propedit.BaseRun.{PrintsBase, RunsBase};
 use crate::propedit::against::{Base, base_of};
 use crate::propedit::answers::name;
 use crate::propedit::exit_status;
+use crate::propedit::named::NamedSource;
 use crate::propedit::request::CheckedBase;
+use crate::propedit::streams::Sinks;
 use counted_io::{CountedRead, CountedWrite};
 use java_properties::{read_source, write_source};
 use properties_tables::error::Failure;
@@ -17,24 +19,26 @@ use std::alloc::Global;
 ///
 /// ```text
 /// let mut input: &[u8] = b"a=1\na=2\n";
-/// let mut output = Counted::new(Vec::new(alloc));
-/// let mut errors = Counted::new(Vec::new(alloc));
-/// let (status, base) = run_base(alloc, &asked, &mut input, &mut output, &mut errors)?;
+/// let mut sinks = Sinks {
+///     output: Counted::new(Vec::new(alloc)),
+///     errors: Counted::new(Vec::new(alloc)),
+/// };
+/// let (status, base) = run_base(alloc, &asked, &mut input, &mut sinks)?;
 /// // The status is 1, and the output holds one line, which says that the key `a` is repeated.
 /// ```
 pub fn run_base<R: CountedRead, W: CountedWrite, E: CountedWrite>(
     alloc: Global,
     asked: &CheckedBase,
     input: &mut R,
-    output: &mut W,
-    errors: &mut E,
+    sinks: &mut Sinks<W, E>,
 ) -> Result<(u8, Base), u8>
     ensures runs { RunsBase R.CountedRead W.CountedWrite E.CountedWrite asked.now
-        input.old output.old errors.old result input.new output.new errors.new }
+        input.old sinks.old.output sinks.old.errors result input.new sinks.new.output sinks.new.errors }
     ensures same_reader { IsSameReader R.CountedRead input.old input.new }
-    ensures same_sink { IsSameSink W.CountedWrite output.old output.new }
-    ensures same_error_sink { IsSameSink E.CountedWrite errors.old errors.new }
+    ensures same_sink { IsSameSink W.CountedWrite sinks.old.output sinks.new.output }
+    ensures same_error_sink { IsSameSink E.CountedWrite sinks.old.errors sinks.new.errors }
 {
+    let (output, errors) = (&mut sinks.output, &mut sinks.errors);
     match print_base(alloc, asked, input, output) {
         Ok(checked) => Ok(checked),
         Err(failure) => Err(exit_status(alloc, errors, name(&asked.source), Err(failure))),
@@ -55,7 +59,11 @@ fn print_base<R: CountedRead, W: CountedWrite>(
 {
     let source = read_source(alloc, input, asked.encoding)?;
     let name = name(&asked.source);
-    let (answer, base) = base_of(alloc, name, &source, asked.encoding, asked.check)?;
+    let named = NamedSource {
+        name,
+        bytes: &source,
+    };
+    let (answer, base) = base_of(alloc, named, asked.encoding, asked.check)?;
     match write_source(output, &answer.text) {
         Ok(()) => Ok((answer.status, base)),
         Err(error) => Err(Failure::Output(error)),

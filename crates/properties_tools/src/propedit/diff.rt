@@ -16,7 +16,9 @@ use crate::propedit::answer::Answer;
 use crate::propedit::answers::name;
 use crate::propedit::diff_json::diff_json;
 use crate::propedit::exit_status;
+use crate::propedit::named::NamedSource;
 use crate::propedit::request::Comparison;
+use crate::propedit::streams::Sinks;
 use counted_io::{CountedRead, CountedWrite};
 use java_properties::{Encoding, PropertiesError, read_source, write_source};
 use properties_checking::request::Report;
@@ -45,28 +47,30 @@ pub enum DiffFailure {
 /// ```text
 /// let mut old: &[u8] = b"a = 1\nb = 2\n";
 /// let mut new: &[u8] = b"a = 1\nb = 3\n";
-/// let mut output = Counted::new(Vec::new(alloc));
-/// let mut errors = Counted::new(Vec::new(alloc));
+/// let mut sinks = Sinks {
+///     output: Counted::new(Vec::new(alloc)),
+///     errors: Counted::new(Vec::new(alloc)),
+/// };
 /// // For the arguments `diff old new` the status is 1, and the output holds two lines:
 /// // old:2: -b=2
 /// // new:2: +b=3
-/// run_diff(alloc, &sources, &mut old, &mut new, &mut output, &mut errors);
+/// run_diff(alloc, &sources, &mut old, &mut new, &mut sinks);
 /// ```
 pub fn run_diff<R: CountedRead, S: CountedRead, W: CountedWrite, E: CountedWrite>(
     alloc: Global,
     sources: &Comparison,
     old: &mut R,
     new: &mut S,
-    output: &mut W,
-    errors: &mut E,
+    sinks: &mut Sinks<W, E>,
 ) -> u8
     ensures runs { RunsDiff R.CountedRead S.CountedRead W.CountedWrite E.CountedWrite sources.now
-        old.old new.old output.old errors.old result old.new new.new output.new errors.new }
+        old.old new.old sinks.old.output sinks.old.errors result old.new new.new sinks.new.output sinks.new.errors }
     ensures same_old { IsSameReader R.CountedRead old.old old.new }
     ensures same_new { IsSameReader S.CountedRead new.old new.new }
-    ensures same_sink { IsSameSink W.CountedWrite output.old output.new }
-    ensures same_error_sink { IsSameSink E.CountedWrite errors.old errors.new }
+    ensures same_sink { IsSameSink W.CountedWrite sinks.old.output sinks.new.output }
+    ensures same_error_sink { IsSameSink E.CountedWrite sinks.old.errors sinks.new.errors }
 {
+    let (output, errors) = (&mut sinks.output, &mut sinks.errors);
     match print_diff(alloc, sources, old, new, output) {
         Ok(status) => status,
         Err(DiffFailure::Old(failure)) => {
@@ -122,14 +126,17 @@ fn compared(
 {
     let encoding = sources.encoding;
     match sources.report {
-        Report::Lines => diff(
-            alloc,
-            name(&sources.old),
-            old,
-            name(&sources.new),
-            new,
-            encoding,
-        ),
+        Report::Lines => {
+            let old = NamedSource {
+                name: name(&sources.old),
+                bytes: old,
+            };
+            let new = NamedSource {
+                name: name(&sources.new),
+                bytes: new,
+            };
+            diff(alloc, old, new, encoding)
+        }
         Report::Json => diff_json(alloc, old, new, encoding),
     }
 }
@@ -146,23 +153,25 @@ fn compared(
 /// refuses it, the old one first.
 ///
 /// ```text
-/// let (old, new) = (b"a = 1\nb = 2", b"c = 3\na: 1");
-/// let answer = diff(alloc, "old.properties", old, "new.properties", new, Encoding::UTF_8)?;
+/// let old = NamedSource { name: "old.properties", bytes: b"a = 1\nb = 2" };
+/// let new = NamedSource { name: "new.properties", bytes: b"c = 3\na: 1" };
+/// let answer = diff(alloc, old, new, Encoding::UTF_8)?;
 /// // old.properties:2: -b=2
 /// // new.properties:1: +c=3
 /// ```
 pub fn diff(
     alloc: Global,
-    old_name: &str,
-    old: &[u8],
-    new_name: &str,
-    new: &[u8],
+    old: NamedSource<'_>,
+    new: NamedSource<'_>,
     encoding: Encoding,
 ) -> Result<Answer, DiffFailure>
-    ensures { Diffs old_name.now new_name.now (encoding_of encoding) old.now new.now result }
+    ensures { Diffs old.entry.name.now new.entry.name.now (encoding_of encoding) old.entry.bytes.now new.entry.bytes.now result }
 {
-    let form = NamedLines { old_name, new_name };
-    diff_in(alloc, &form, old, new, encoding)
+    let form = NamedLines {
+        old_name: old.name,
+        new_name: new.name,
+    };
+    diff_in(alloc, &form, old.bytes, new.bytes, encoding)
 }
 
 /// Compares two sources, and prints what differs in this form. The status is 1 if anything is printed.

@@ -35,9 +35,9 @@ pub enum Merged {
 ///
 /// ```text
 /// let mut pairs: &[u8] = b"port = 8080\n";
-/// match read_merge(alloc, asked, &mut pairs, &mut errors) {
-///     Ok(Merged::Printed(job)) => run(alloc, &job, &[], &mut input, &mut output, &mut errors),
-///     Ok(Merged::InPlace(file)) => edit_file(&rt, alloc, &file, &mut errors),
+/// match read_merge(alloc, asked, &mut pairs, &mut sinks.errors) {
+///     Ok(Merged::Printed(job)) => run(alloc, &job, &[], &mut input, &mut sinks),
+///     Ok(Merged::InPlace(file)) => edit_file(&rt, alloc, &file, &mut sinks.errors),
 ///     Err(status) => status,
 /// }
 /// ```

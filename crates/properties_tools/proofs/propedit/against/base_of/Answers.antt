@@ -17,5 +17,5 @@ returns c =
         text = c.reported.ensures.text;
         status = c.reported.ensures.status;
       },
-      base-kept c.args.name.now (encoding_of c.args.encoding) c.args.asked c.args.source.now r c.in_ok-text.ensures _ c.in_ok-from_str.ensures.ok refl refl,
+      base-kept c.args.source.name.now (encoding_of c.args.encoding) c.args.asked c.args.source.bytes.now r c.in_ok-text.ensures _ c.in_ok-from_str.ensures.ok refl refl,
     )

@@ -12,7 +12,7 @@ returns c =
     let both = rw (← c.base.view_is) at c.are_well_formed.ensures in
     record {
       report = _;
-      is_report = rw (← c.base.view_is) (said-against c.args.name.now (encoding_of c.args.encoding) c.args.asked c.args.source.now r c.in_ok-text.ensures
+      is_report = rw (← c.base.view_is) (said-against c.args.source.name.now (encoding_of c.args.encoding) c.args.asked c.args.source.bytes.now r c.in_ok-text.ensures
           (known_base c.base.inside) c.are_well_formed.result c.push_missing.new.text c.push_surplus.new.text both missing surplus);
       text = c.reported.ensures.text;
       status = c.reported.ensures.status;
