@@ -364,14 +364,14 @@ int todrenval_comment(uint8_t const *source, size_t source_length, uint32_t enco
 
 /* Writes the source with the comment of a key set: the comment lines directly above the last pair with it. The text is
  * UTF-8, and is divided at LF, CR and CR LF. A last empty line doesn't count, so what todrenval_comment gives can be
- * passed as it is, no bytes remove the comment, and "\n" makes the line `#`. If the comment has these lines already,
- * the result is the source. Otherwise new lines replace the old ones, and every other byte stays.
+ * passed as it is, an empty text removes the comment, and "\n" makes the line `#`. If the comment has these lines
+ * already, the result is the source. Otherwise new lines replace the old ones, and every other byte stays.
  *
  * New lines look like the first old one that has a text: its indent, its sign, the blank after it or none, and its line
- * ending. If there is none, they have the indent of the pair, `# `, and the line ending of the pair, or the last one
- * of the source if the pair has none. A blank is put before a text that begins with one, and none before an empty one.
- * Characters are escapes as in todrenval_edit with these flags; a backslash stays. If the result would begin like a
- * byte order mark, a line feed comes first.
+ * ending. If there is none, they have the indent of the pair, `# `, and the line ending of the pair. If the pair has
+ * none, they have the last one of the source, or a line feed. A blank is put before a text that begins with one, and
+ * none before an empty one. Characters are escapes as in todrenval_edit with these flags; a backslash stays. If the
+ * result would begin like a byte order mark, a line feed comes first.
  *
  * Returns what todrenval_edit returns, but for _BAD_LIST. If that would be TODRENVAL_OK, it returns _NO_KEY if no pair
  * has the key. */

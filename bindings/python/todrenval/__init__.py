@@ -819,8 +819,8 @@ def set_comment(
     lines already, nothing changes. Otherwise new lines replace the old ones, and every other line stays as it is.
 
     New lines look like the first old one that has a text: its indent, its sign, the blank after it or none, and its line
-    ending. If there is none, they have the indent of the pair, "# ", and the line ending of the pair, or the last one of the
-    file if the pair has none. A backslash stays.
+    ending. If there is none, they have the indent of the pair, "# ", and the line ending of the pair. If the pair has none,
+    they have the last one of the file, or a line feed. A backslash stays.
 
     Raises what `set_value` raises, and then KeyError if no pair has the key.
 
