@@ -224,7 +224,9 @@ module _ {r : Repertoire} {read now : List ℕ} {named : List ℕ → Bool} {gs 
       let text = subst (IsPairText f key value) (sym bytes_are) (pair-text t first key value s.in_force.editable k v) in
       let ends : ending_of by ≡ (if ends_in_cr now then cr else lf) = safe ∙ ap (λ b. if b then cr else lf) ends-now in
       let slots = slots-key_set r now key value all (editable s.in_force) k v (slots-own s) in
-      let slots_f = subst (λ e. AreSlotsIn r.encoding result (groups_put (in_encoding r e) now key value all (at_last key (put_change (in_encoding r e) key value) true all))) (encoding-own s.in_force) slots in
+      let slots_f = subst (λ e. AreSlotsIn r.encoding result
+      (groups_put (in_encoding r e) now key value all (at_last key (put_change (in_encoding r e) key value) true all)))
+      (encoding-own s.in_force) slots in
       let added = subst (λ o. AreSlotsIn r.encoding result (groups_put t now key value all o)) (plan-none key (put_change t key value) is none) slots_f in
       let by_now : LineEnding = if ends_in_cr now then cr else lf in
       let bytes_now : pair_bytes t (is_empty (groups_bytes all ++ separation_by (line_ending_text by_now) (final_group all))) key value ≡ bytes.items =
@@ -234,7 +236,8 @@ module _ {r : Repertoire} {read now : List ℕ} {named : List ℕ → Bool} {gs 
         edited = edited;
         parts = record {
           groups = _;
-          stand = source-added key value (put key value) result (put_in (in_encoding r F) now key value (held_groups_of F (byte_order_mark r.encoding now).body)) by code.LF bytes new h text is edited refl
+          stand = source-added key value (put key value) result
+              (put_in (in_encoding r F) now key value (held_groups_of F (byte_order_mark r.encoding now).body)) by code.LF bytes new h text is edited refl
               (subst (λ y. AreSlotsIn r.encoding result (groups_added f y bytes.items lf all)) (sym ends)
               (subst (λ x. AreSlotsIn r.encoding result (groups_added f by_now x lf all)) bytes_now added));
           sound = sound-added f s.in_force.editable key value bytes.items text (ending_of by) lf gs s.turn sound;

@@ -152,7 +152,9 @@ module _ {r : Repertoire} {read now : List ℕ} {named : List ℕ → Bool} {gs 
       let text = subst (IsPairText f key value) (sym bytes_are) (added-text t first key sep_now value s.in_force.editable k v fit) in
       let edited = (value_set-is_planned r now key value result (editable s.in_force)).1 refl in
       let slots = slots-value_set r now key value G (editable s.in_force) k v (slots-own s) in
-      let slots_f = subst (λ w. AreSlotsIn r.encoding result (groups_valued (in_encoding r w.encoding) (held_groups_of w.encoding w.body) key value G (at_last key (value_change (in_encoding r w.encoding) value) true G)))
+      let slots_f = subst (λ w. AreSlotsIn r.encoding result
+      (groups_valued (in_encoding r w.encoding) (held_groups_of w.encoding w.body) key value G
+      (at_last key (value_change (in_encoding r w.encoding) value) true G)))
       s.in_force.in_force slots in
       let added = subst (λ o. AreSlotsIn r.encoding result (groups_valued t all key value G o)) (plan-none s key (value_change t value) is none) slots_f in
       let whole : groups_bytes all ≡ groups_bytes G = held-body f body all s.in_force.editable (held_groups_of-meets f body) ∙ sym (source-slots s).bytes in

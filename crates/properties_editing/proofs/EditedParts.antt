@@ -245,7 +245,9 @@ source-put {r} {read} {now} {named} {gs} {old} s sound key value place bytes tex
     let is_text : IsPairText f key (characters text) bytes.items =
     subst (λ x. IsPairText f key x bytes.items) (sym said) (subst (IsPairText f key value) (sym bytes_are) (pair-text t first key value s.in_force.editable k v)) in
     let slots = slots-key_set r now key value all (editable s.in_force) k v (slots-own s) in
-    let slots_f = subst (λ e. AreSlotsIn r.encoding result (groups_put (in_encoding r e) now key value all (at_last key (put_change (in_encoding r e) key value) true all))) (encoding-own s.in_force) slots in
+    let slots_f = subst (λ e. AreSlotsIn r.encoding result
+    (groups_put (in_encoding r e) now key value all (at_last key (put_change (in_encoding r e) key value) true all)))
+    (encoding-own s.in_force) slots in
     record {
       result = result;
       edited = edited;

@@ -113,7 +113,8 @@ not-unsupported : {r : Repertoire} {source : List ℕ} {opened : BodyStart} → 
 not-unsupported h none = let yes = editable h in absurd (cc)
 
 -- The first fault of the groups is the refusal of their source, and what a `?` returns.
-pub refusal : {A : Type 0} (comments : Comments) {source : List ℕ} {r : Repertoire} {opened : BodyStart} {error : PropertiesError} {result : Result A PropertiesError} (Makes : List ℕ → Type 0) {made : List ℕ}
+pub refusal : {A : Type 0} (comments : Comments) {source : List ℕ} {r : Repertoire} {opened : BodyStart} {error : PropertiesError}
+    {result : Result A PropertiesError} (Makes : List ℕ → Type 0) {made : List ℕ}
     → IsBodyStartOf source r opened → Makes made
     → IsErrorOfGroups comments (held_groups_of (encoding_of opened.encoding) (take (length source - opened.start) (drop opened.start source))) error
     → IsErrAnd result (λ x. x ≡ error) → (x : PropertiesError) × (result ≡ Err x) × IsRefusal (IsResult comments r.encoding source Makes) x
@@ -121,7 +122,8 @@ refusal comments {source} {r} {opened} {result = result} Makes {made} h makes fa
     let back = err_from_is_err_and result returned in
     (back.0, back.1, subst (IsRefusal (IsResult comments r.encoding source Makes)) (sym back.2) (by (rw (take_rest source opened.start) at fault)))
   where
-    by : {error : PropertiesError} → IsErrorOfGroups comments (held_groups_of (encoding_of opened.encoding) (drop opened.start source)) error → IsRefusal (IsResult comments r.encoding source Makes) error
+    by : {error : PropertiesError} → IsErrorOfGroups comments (held_groups_of (encoding_of opened.encoding) (drop opened.start source)) error
+        → IsRefusal (IsResult comments r.encoding source Makes) error
     by (inl (before, g, after, division, sound, (passed, inl (how, broke, is)))) =
         let n = 1 + length (held_in before) in
         let first =

@@ -30,7 +30,8 @@ pub record HasRead (comments : Comments) (e : Encoding) (body : List ℕ) (group
   pub within : IsWithin body s
   pub encoding : encoding_of s.scanner.encoding ≡ e
 
-pub read-none : (comments : Comments) (body : List ℕ) (s : GroupReader) → s.scanner.at ≡ 0 → s.scanner.passed ≡ 0 → s.scanner.is_done ≡ false → IsWithin body s → HasRead comments (encoding_of s.scanner.encoding) body [] s
+pub read-none : (comments : Comments) (body : List ℕ) (s : GroupReader) → s.scanner.at ≡ 0 → s.scanner.passed ≡ 0 → s.scanner.is_done ≡ false → IsWithin body s
+    → HasRead comments (encoding_of s.scanner.encoding) body [] s
 read-none comments body s at passed going w = record {
   all = rw (going, at) refl;
   sound = tt;

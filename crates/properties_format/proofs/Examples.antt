@@ -1,5 +1,5 @@
--- A dozen examples, computed: each is what a definition gives for an input. The tables of crate properties_vectors have
--- all others: results are unique, so a row that the code meets is an example of the definition too.
+-- A dozen examples, computed: each is what a definition gives for an input. The tables of reading_vectors, writing_vectors
+-- and editing_vectors have all others: results are unique, so a row that the code meets is an example of the definition too.
 use Rattle.std.proofs.Common.{◌≡◌, List, [], ◌∷◌, refl}
 use Rattle.std.specs.Prelude.{codes}
 use Rattle.std.specs.Char.{encode_utf8}

@@ -19,7 +19,7 @@ use Rattle.properties_text.specs.Encoding.{encoding_of, FindsByteOrderMark}
 use Rattle.properties_text.specs.declared.encoding.byte_order_mark.ByteOrderMark.{ByteOrderMark}
 use Rattle.properties_text.specs.declared.encoding.byte_order_mark.ByteOrderMark.TheVariants.{Present, Absent, Undecided}
 use Rattle.properties_lines.specs.LineSearch.{unit_size, IsSearched}
-use Rattle.properties_lines.specs.Scanner.{is_decided, after_cr, scanner_state, front_of, Fits, Comes, IsAlike, SkipsFront, SkipsFeed, feed_size, is_undecided}
+use Rattle.properties_lines.specs.Scanner.{is_decided, after_cr, scanner_state, front_of, Fits, LinesCome, IsAlike, SkipsFront, SkipsFeed, feed_size, is_undecided}
 use Rattle.properties_lines.specs.declared.scanner.Front.TheVariants.{Mark, Feed, Nothing}
 use Rattle.properties_lines.specs.declared.scanner.Scanner.{Scanner}
 use Rattle.properties_lines.proofs.LineSearch.{nothing_searched, searched-grown, length-ascii_bytes, short-none}
@@ -60,16 +60,16 @@ fits-release s held count h k = record {
 
 -- ---- what comes
 
-pub comes-reads : (ended : Bool) {s t : ReaderState} {ls : List format.Line} → ReadsLines s [] ls t → Comes ended s ls t
+pub comes-reads : (ended : Bool) {s t : ReaderState} {ls : List format.Line} → ReadsLines s [] ls t → LinesCome ended s ls t
 comes-reads ended h = record { gives = λ d ending m. h.gives d ending }
 
-pub reads-comes : {s t : ReaderState} {ls : List format.Line} → Comes false s ls t → ReadsLines s [] ls t
+pub reads-comes : {s t : ReaderState} {ls : List format.Line} → LinesCome false s ls t → ReadsLines s [] ls t
 reads-comes h = record { gives = λ d ending. h.gives d ending tt }
 
-pub comes-then : {ended : Bool} {s t u : ReaderState} {ls ms : List format.Line} → Comes ended s ls t → Comes ended t ms u → Comes ended s (ls ++ ms) u
+pub comes-then : {ended : Bool} {s t u : ReaderState} {ls ms : List format.Line} → LinesCome ended s ls t → LinesCome ended t ms u → LinesCome ended s (ls ++ ms) u
 comes-then h k = record { gives = λ d ending m. gives-on (h.gives d ending m) (k.gives d ending m) }
 
-comes-decided : (ended : Bool) (s : ReaderState) → s.is_decided ≡ false → (ended ≡ false → awaits_bom s.held ≡ false) → Comes ended s [] (after_decided s)
+comes-decided : (ended : Bool) (s : ReaderState) → s.is_decided ≡ false → (ended ≡ false → awaits_bom s.held ≡ false) → LinesCome ended s [] (after_decided s)
 comes-decided false s d h = record { gives = λ x ending m. gives-decided s x ending d (h refl) }
 comes-decided true s d h = record {
   gives = λ x ending m. let P : List ℕ → Type 0 = λ v. Gives s v [] (after_decided s) v ending in subst P (sym m.0) (gives-decided_last s ending d);
@@ -87,7 +87,7 @@ some-units utf_16be (a ∷ []) h = absurd (omega arith)
 some-units utf_16be (a ∷ b ∷ d) h = omega arith
 
 comes-passed : (ended : Bool) (s : ReaderState) → s.is_decided ≡ true → begins_with_lf (units s.encoding s.held) ≡ false
-    → (ended ≡ false → unit_size s.encoding ≤ length s.held) → Comes ended s [] (after_passed s s.held)
+    → (ended ≡ false → unit_size s.encoding ≤ length s.held) → LinesCome ended s [] (after_passed s s.held)
 comes-passed false s d h k = record { gives = λ x ending m. gives-passed_none s x ending d (some-units s.encoding s.held (k refl)) h }
 comes-passed true s d h k = record {
   gives = λ x ending m. let P : List ℕ → Type 0 = λ v. Gives s v [] (after_passed s s.held) v ending in subst P (sym m.0) (gives-passed_last s ending d h);
@@ -125,17 +125,17 @@ feed-within e d = elim (cases_Bool (begins_with_lf (units e d))) [
 ]
 
 comes-feed : (ended : Bool) (s : ReaderState) → s.is_decided ≡ true → s.after_cr ≡ true → (ended ≡ false → unit_size s.encoding ≤ length s.held)
-    → Comes ended s [] (after_passed s (drop (feed_size s.encoding s.held) s.held))
+    → LinesCome ended s [] (after_passed s (drop (feed_size s.encoding s.held) s.held))
 comes-feed ended s d a k = elim (cases_Bool (begins_with_lf (units s.encoding s.held))) [
   | inl h ↦
-      let passed : Comes ended s [] (after_passed s (drop (unit_size s.encoding) s.held)) = record {
+      let passed : LinesCome ended s [] (after_passed s (drop (unit_size s.encoding) s.held)) = record {
         gives = λ x ending m. gives-passed_lf s (drop (unit_size s.encoding) s.held) x ending d a (feed-first s.encoding s.held h);
       } in
       rw h passed
   | inr h ↦ rw h (comes-passed ended s d h k)
 ]
 
-pub comes-last : (s t : ReaderState) → HoldsNoEnd s → t.is_done ≡ true → Comes true s (next_line s s.held ∷ []) t
+pub comes-last : (s t : ReaderState) → HoldsNoEnd s → t.is_done ≡ true → LinesCome true s (next_line s s.held ∷ []) t
 comes-last s t h k = record {
   gives = λ x ending m.
       let P : List ℕ → Type 0 = λ v. Gives s v (next_line s s.held ∷ []) t x ending in
@@ -173,7 +173,7 @@ pub skips-mark : (old new : Scanner) (held : List ℕ) (ended : Bool) → Fits o
     → IsAlike old held ended new
 skips-mark old new held ended h d waits is le same =
     let s = scanner_state old held in
-    let P : ReaderState → Type 0 = λ v. Comes ended s [] v in
+    let P : ReaderState → Type 0 = λ v. LinesCome ended s [] v in
     let undecided : s.is_decided ≡ false = ap is_decided d in
     let fresh : old.searched ≡ 0 = h.fresh (λ w. absurd (cc (d, w))) in
     let settled : new.front ≡ Nothing = ap (λ v. let w : Scanner = v in w.front) same in
@@ -213,7 +213,7 @@ passes-feed old held ended h a k =
     let after : s.after_cr ≡ true = ap after_cr a in
     let rest : drop count (drop old.at held) ≡ drop (old.at + count) held = drop-drop count old.at held in
     let fresh : old.searched ≡ 0 = h.fresh (λ w. absurd (cc (a, w))) in
-    let P : Bool → List ℕ → Type 0 = λ b v. Comes ended s [] (record s { is_decided = b; held = v; after_cr = false }) in
+    let P : Bool → List ℕ → Type 0 = λ b v. LinesCome ended s [] (record s { is_decided = b; held = v; after_cr = false }) in
     let passed : P s.is_decided (drop count s.held) = comes-feed ended s decided after k in
     record {
       comes = subst (λ v. P true v) rest (subst (λ b. P b (drop count s.held)) decided passed);

@@ -11,7 +11,7 @@ use Rattle.properties_format.specs.Computed.ItemsToCome.{HoldsNoEnd}
 use Rattle.properties_format.proofs.ItemsToCome.Lines.{natural-more}
 use Rattle.properties_text.specs.Encoding.{encoding_of}
 use Rattle.properties_lines.specs.LineSearch.{unit_size, whole_units}
-use Rattle.properties_lines.specs.Scanner.{is_decided, scanner_state, front_of, raw_line_bytes, Fits, Comes, IsCutOff, HasRightFlags, GivesScannedLine, AsksForMore, IsAlike, IsReady, ScansLine, LacksEnd, TakesLast}
+use Rattle.properties_lines.specs.Scanner.{is_decided, scanner_state, front_of, raw_line_bytes, Fits, LinesCome, IsCutOff, HasRightFlags, GivesScannedLine, AsksForMore, IsAlike, IsReady, ScansLine, LacksEnd, TakesLast}
 use Rattle.properties_lines.specs.declared.scanner.Front.{Front}
 use Rattle.properties_lines.specs.declared.scanner.Front.TheVariants.{Mark, Feed, Nothing}
 use Rattle.properties_lines.specs.declared.scanner.RawLine.{RawLine}
@@ -101,7 +101,7 @@ last-of old mid held line g n h holds starts ends told =
     let text : raw_line_bytes held line ≡ drop mid.at held = ap₂ (λ m n. take (m - n) (drop n held)) ends starts ∙ take_rest held mid.at in
     let nothing : drop (length held) held ≡ [] = drop_all (length held) held (omega arith) in
     let all = comes-then h.comes (comes-last (scanner_state mid held) (scanner_state new held) holds refl) in
-    let P : List ℕ → Type 0 = λ v. Comes true (scanner_state old held) (record { number = mid.passed + 1; text = decoded_line e v } ∷ []) (scanner_state new held) in
+    let P : List ℕ → Type 0 = λ v. LinesCome true (scanner_state old held) (record { number = mid.passed + 1; text = decoded_line e v } ∷ []) (scanner_state new held) in
     record {
       live = g;
       number = ap (λ m. m + 1) (as-many h);

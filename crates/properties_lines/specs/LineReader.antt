@@ -9,7 +9,7 @@ use Rattle.properties_format.specs.Computed.Encoding.{pieces_of}
 use Rattle.properties_format.specs.Items.{read_fault}
 use Rattle.properties_format.specs.ItemsToCome.{ReaderState}
 use Rattle.properties_format.specs.Computed.ItemsToCome.{natural_to_come, last_to_come, Gives, ReadsLines}
-use Rattle.properties_lines.specs.Scanner.{HasRightFlags, Comes, KeepsEncoding}
+use Rattle.properties_lines.specs.Scanner.{HasRightFlags, LinesCome, KeepsEncoding}
 use Rattle.properties_lines.specs.declared.error.LineError.TheVariants as why
 use Rattle.properties_lines.specs.declared.error.LineError.{LineError}
 use Rattle.properties_lines.specs.declared.reader.Read.{Read}
@@ -154,7 +154,7 @@ Finds reader old from false new to = (old.state.is_done ≡ true) × (new ≡ ol
 pub record HoldsLine (old : LineReading) (ended : Bool) (new : LineReading) : Type 0 where
   pub live : old.state.is_done ≡ false
   pub number : new.state.passed ≡ old.state.passed + 1
-  pub comes : Comes ended old.state (found_line new.state.passed new ∷ []) new.state
+  pub comes : LinesCome ended old.state (found_line new.state.passed new ∷ []) new.state
   pub going : (new.state.is_done ≡ false) ⊎ (new.state.is_done ≡ true) × (ended ≡ true)
   pub fits : new.state.passed < 2 ^ 64
   pub decided : new.state.is_decided ≡ true

@@ -76,7 +76,7 @@ MayCome false d ending = Unit {0}
 MayCome true d ending = (d ≡ []) × (ending ≡ end)
 
 -- Whatever may come, the reader first gives these lines, and after them what the new state gives.
-pub record Comes (ended : Bool) (old : ReaderState) (lines : List format.Line) (new : ReaderState) : Type 0 where
+pub record LinesCome (ended : Bool) (old : ReaderState) (lines : List format.Line) (new : ReaderState) : Type 0 where
   pub gives : (d : List ℕ) (ending : InputEnd) → MayCome ended d ending → Gives old d lines new d ending
 
 -- the size of an LF at the front, or 0 if there is none
@@ -131,7 +131,7 @@ pub record GivesScannedLine (old : Scanner) (held : List ℕ) (ended : Bool) (ne
   pub live : old.is_done ≡ false
   pub number : new.passed ≡ old.passed + 1
   pub numbered : old.passed + 1 < 2 ^ 64
-  pub comes : Comes ended (scanner_state old held) (scanned_line held new ∷ []) (scanner_state new held)
+  pub comes : LinesCome ended (scanner_state old held) (scanned_line held new ∷ []) (scanner_state new held)
   pub cut : IsCutOff (encoding_of new.encoding) held new.line new.at
   pub front : front_of (scanner_state old held) ≡ record { encoding = encoding_of new.encoding; body = drop new.line.start held }
   pub short : new.front ≡ Feed → length (drop new.at held) < unit_size (encoding_of new.encoding)
@@ -169,7 +169,7 @@ Scans old held ended TooMany new = (old.is_done ≡ false) × (old.passed + 1 �
 -- What may come before the line was skipped; or more bytes are needed to decide whether it is there, and no line ending
 -- is held.
 pub record IsAlike (old : Scanner) (held : List ℕ) (ended : Bool) (new : Scanner) : Type 0 where
-  pub comes : Comes ended (scanner_state old held) [] (scanner_state new held)
+  pub comes : LinesCome ended (scanner_state old held) [] (scanner_state new held)
   pub same : new ≡ record old { encoding = new.encoding; front = Nothing; at = new.at }
   pub fits : Fits new held
   pub front : front_of (scanner_state old held) ≡ record { encoding = encoding_of new.encoding; body = drop new.at held }

@@ -44,9 +44,9 @@ use Rattle.properties_format.proofs.Plan.Lines.{guarded-lines, lines_of, slots-l
 use Rattle.properties_format.proofs.Plan.Listed.{guarded}
 use Rattle.properties_format.proofs.Plan.Slots.{AreSlotsOf, last-empty, no_line, turn-cons}
 use Rattle.properties_format.proofs.Printing.Characters.{blank-ascii, blanks-ascii, printed_characters-append, printed_characters-encodable}
-use Rattle.properties_format.proofs.ReadBack.Bytes.{ascii-scalars, printed_characters-scalars}
-use Rattle.properties_format.proofs.ReadBack.Comments.{comment-read, literal-ascii, prefix-printed, sign-ascii}
-use Rattle.properties_format.proofs.ReadBack.Pairs.{blanks-plain}
+use Rattle.properties_format.proofs.ReadBack.Bytes.{ascii-scalars, printed_characters-scalars, scalars-append}
+use Rattle.properties_format.proofs.ReadBack.Comments.{comment-read, literal-ascii, prefix-printed, sign-ascii, slashes-right}
+use Rattle.properties_format.proofs.ReadBack.Pairs.{blanks-plain, blanks-slashes}
 use Rattle.properties_format.proofs.ReadBack.Spellings.{unicode-printed}
 use Rattle.properties_format.proofs.ReadBack.Texts.{rest-scalars, safe-plain}
 use Rattle.properties_format.proofs.Groups.Joined.{joined-comment_line}
@@ -265,13 +265,6 @@ pair-said key value g gs h =
 
 -- ---- new lines without a backslash
 
-blanks-clean : (x : List ℕ) → AreBlanks x → HoldsNoBackslash x
-blanks-clean [] h = tt
-blanks-clean (c ∷ x) h = (blank-clean c h.0, blanks-clean x h.1)
-  where
-    blank-clean : (c : ℕ) → is_blank c ≡ true → (c == backslash) ≡ false
-    blank-clean c h = grind (arith)
-
 clean-join : (x y : List ℕ) → HoldsNoBackslash x → HoldsNoBackslash y → HoldsNoBackslash (x ++ y)
 clean-join [] y h k = k
 clean-join (c ∷ x) y h k = (h.0, clean-join x y h.1 k)
@@ -279,14 +272,6 @@ clean-join (c ∷ x) y h k = (h.0, clean-join x y h.1 k)
 clean-first : (x y : List ℕ) → HoldsNoBackslash (x ++ y) → HoldsNoBackslash x
 clean-first [] y h = tt
 clean-first (c ∷ x) y h = (h.0, clean-first x y h.1)
-
-clean-rest : (x y : List ℕ) → HoldsNoBackslash (x ++ y) → HoldsNoBackslash y
-clean-rest [] y h = h
-clean-rest (c ∷ x) y h = clean-rest x y h.1
-
-scalars-join : (x y : List ℕ) → AllByRecursion scalar x → AllByRecursion scalar y → AllByRecursion scalar (x ++ y)
-scalars-join [] y h k = k
-scalars-join (c ∷ x) y h k = (h.0, scalars-join x y h.1 k)
 
 sign-clean : (c : ℕ) → is_comment_sign c ≡ true → (c == backslash) ≡ false
 sign-clean c h = grind (arith)
@@ -299,7 +284,7 @@ clean-lines : (ls : List Ended) (last : List ℕ) → HoldsNoBackslash (put_toge
 clean-lines [] last h = cond_both (is_empty last) [] (last ∷ []) AreCleanLines (λ k. tt) (λ k. (h, tt))
 clean-lines (l ∷ ls) last h = (
   clean-first l.text (line_ending_text l.by ++ put_together ls last) h,
-  clean-lines ls last (clean-rest (line_ending_text l.by) (put_together ls last) (clean-rest l.text (line_ending_text l.by ++ put_together ls last) h)),
+  clean-lines ls last (slashes-right (line_ending_text l.by) (put_together ls last) (slashes-right l.text (line_ending_text l.by ++ put_together ls last) h)),
 )
 
 blanks-printed : (r : Repertoire) (x : List ℕ) → AreBlanks x → printed_characters r in_prefix x ≡ x
@@ -323,10 +308,10 @@ module _ (r : Repertoire) (style : LineStyle) (by : LineEnding) (ok : is_editabl
         signed = look.is_sign;
         one_line = plain-append gap x (blanks-plain gap gap_blank) p;
       } in
-      let clean = clean-join style.indent (style.sign ∷ (gap ++ x)) (blanks-clean style.indent look.indent)
-      (sign-clean style.sign look.is_sign, clean-join gap x (blanks-clean gap gap_blank) n) in
-      let scalars = scalars-join style.indent (style.sign ∷ (gap ++ x)) (ascii-scalars style.indent (blanks-ascii style.indent look.indent))
-      ((ascii-scalars (style.sign ∷ []) (small.0, tt)).0, scalars-join gap x (ascii-scalars gap (blanks-ascii gap gap_blank)) s) in
+      let clean = clean-join style.indent (style.sign ∷ (gap ++ x)) (blanks-slashes style.indent look.indent)
+      (sign-clean style.sign look.is_sign, clean-join gap x (blanks-slashes gap gap_blank) n) in
+      let scalars = scalars-append style.indent (style.sign ∷ (gap ++ x)) (ascii-scalars style.indent (blanks-ascii style.indent look.indent))
+      ((ascii-scalars (style.sign ∷ []) (small.0, tt)).0, scalars-append gap x (ascii-scalars gap (blanks-ascii gap gap_blank)) s) in
       let read = comment-read r prefix [] good clean scalars tt in
       let text : joined (as_lines (new_group r style by x)) ≡ printed_characters r in_prefix prefix ++ [] =
       joined-comment_line (record { number = 0; text = decoded_line r.encoding (line_bytes r style x) }) [] (line-comment r style by ok look x s)

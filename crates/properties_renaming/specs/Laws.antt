@@ -74,7 +74,8 @@ RenamingAgainIsRefused options source old new =
 
 -- ---- the comment of a key
 
--- Comments directly above the last pair with the key are replaced by others, and all other contents are unchanged.
+-- Comments right before the last pair with the key are replaced by others, and all other contents are unchanged. Contents
+-- have no blank lines, so these may be comments beyond one.
 pub record IsCommentChanged (key : List ℕ) (old new : List Content) : Type 0 where
   pub before : List Content
   pub old_texts : List (List ℕ)
@@ -85,8 +86,8 @@ pub record IsCommentChanged (key : List ℕ) (old new : List Content) : Type 0 w
   pub no_later : HoldNoPair key after
   pub now : new ≡ before ++ (map comment new_texts ++ pair key value ∷ after)
 
--- The encoding in force stays. If no entry is malformed then either, which an escape in the text may be, all contents but
--- the comments above the pair are those of the source, in order.
+-- The encoding in force stays. If no entry of the result is malformed, as an escape in the text may be, all contents but
+-- comments right before the pair are those of the source, in order.
 abbrev pub SettingTheCommentKeepsTheRest : Repertoire → List ℕ → List ℕ → List ℕ → Type 0
 SettingTheCommentKeepsTheRest r source key text =
     All scalar text → (result : List ℕ) → IsCommentSet r source key text result → (before : List Entry) → HasSoundEntries r source before

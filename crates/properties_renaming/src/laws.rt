@@ -29,8 +29,8 @@ pub fn renaming()
 /// What a source says after the comment of a key was set, and after a key was removed with its comments, if none of its
 /// entries was malformed. The encoding in force stays.
 ///
-/// After [`set_comment`](crate::set_comment), the comments directly above the last pair with the key are others. All
-/// other comments, and the pairs with their values, are those of the source, in order, so every key keeps its value. This
+/// After [`set_comment`](crate::set_comment), comments right before the last pair with the key may be others. All other
+/// comments, and the pairs with their values, are those of the source, in order, so every key keeps its value. This
 /// holds if no entry of the result is malformed, and none is if the text holds no backslash.
 ///
 /// After [`remove_with_comment`](crate::remove_with_comment), no entry is malformed, and the pairs with other keys are

@@ -154,7 +154,7 @@ impl Failure {
         }
     }
 
-    // Returns whether the output is a pipe that nobody reads any more.
+    /// Returns whether the output is a pipe that nobody reads any more.
     pub fn is_closed_pipe(&self) -> bool
         ensures { result ≡ is_closed_pipe self.now }
     {

@@ -39,7 +39,6 @@ use crate::propedit::request::Job;
 use crate::propedit::streams::Sinks;
 use counted_io::{CountedRead, CountedWrite};
 use java_properties::{read_source, write_source};
-use properties_changing::change::change;
 pub use properties_changing::change::replacement;
 use properties_tables::error::{FAILED, Failure, NO_MEMORY, STANDARD_OUTPUT, print_failure};
 use properties_tables::messages::print_line;

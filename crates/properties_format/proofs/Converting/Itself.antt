@@ -87,7 +87,9 @@ windows-has [] h = tt
 windows-has (b ∷ d) h = (ap (λ o. is_some (one_byte o)) (windows_1252_byte-character b h.0), windows-has d h.1)
 
 pub kept-is-itself : (e : Encoding) (source : List ℕ) → KeptIsItself e source
-kept-is-itself e source h own f text d s = itself-converted e (all_of e) source (search (rules, decoded_of-unmarked, decodes, windows-has, recursion_from_All, utf_8-has)) (s ∙ ap (encoded_text e) (decoded_of-only e source text d)) f
+kept-is-itself e source h own f text d s = itself-converted e (all_of e) source
+    (search (rules, decoded_of-unmarked, decodes, windows-has, recursion_from_All, utf_8-has))
+    (s ∙ ap (encoded_text e) (decoded_of-only e source text d)) f
 
 -- ---- ASCII
 

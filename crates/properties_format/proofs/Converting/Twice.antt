@@ -50,7 +50,8 @@ readable-anyway e to readable source k own between h result =
         whole = h.whole;
         each = h.each;
         bytes = g.bytes
-            ∙ ap (λ v. encoded_text utf_8 (at_front utf_8 (converted_units (all_of utf_8) true v))) (units-only g.units f.units g.each f.each (sym g.whole ∙ decoded_of-only to.encoding between g.text g.decoded ∙ t))
+            ∙ ap (λ v. encoded_text utf_8 (at_front utf_8 (converted_units (all_of utf_8) true v)))
+            (units-only g.units f.units g.each f.each (sym g.whole ∙ decoded_of-only to.encoding between g.text g.decoded ∙ t))
             ∙ ap (λ v. encoded_text utf_8 (at_front utf_8 v)) (sym a);
       },
       λ g. record {

@@ -26,7 +26,7 @@ text-decoded e (c ∷ x) h k = search (rules, pieces_of-encoded) ∙ ap (λ v. c
 -- ---- what is printed consists of scalar values
 
 -- Two texts of scalar values together.
-scalars-append : (x y : List ℕ) → AllByRecursion scalar x → AllByRecursion scalar y → AllByRecursion scalar (x ++ y)
+pub scalars-append : (x y : List ℕ) → AllByRecursion scalar x → AllByRecursion scalar y → AllByRecursion scalar (x ++ y)
 scalars-append [] y h k = k
 scalars-append (c ∷ x) y h k = (h.0, scalars-append x y h.1 k)
 

@@ -80,7 +80,7 @@ prefix-printed r [] sign tail b m = ap (λ v. v ++ printed_characters r in_prefi
 prefix-printed r (c ∷ indent) sign tail b m = grind (arith, literal-ascii, blank-ascii, prefix-printed r indent sign tail b.1 m)
 
 -- The rest of a text without a backslash contains none.
-slashes-right : (x y : List ℕ) → HoldsNoBackslash (x ++ y) → HoldsNoBackslash y
+pub slashes-right : (x y : List ℕ) → HoldsNoBackslash (x ++ y) → HoldsNoBackslash y
 slashes-right [] y h = h
 slashes-right (c ∷ x) y h = slashes-right x y h.1
 

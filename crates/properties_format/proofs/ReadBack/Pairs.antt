@@ -64,7 +64,7 @@ blanks-plain [] h = tt
 blanks-plain (c ∷ x) h = (grind (arith), blanks-plain x h.1)
 
 -- Blanks contain no backslash.
-blanks-slashes : (x : List ℕ) → AreBlanks x → HoldsNoBackslash x
+pub blanks-slashes : (x : List ℕ) → AreBlanks x → HoldsNoBackslash x
 blanks-slashes [] h = tt
 blanks-slashes (c ∷ x) h = (blank-other c h.0, blanks-slashes x h.1)
 

@@ -400,7 +400,16 @@ front_in-only e first (i ∷ kept) line more p v q head ok d s k h u =
     let n : nat_le (length p) (length a) ≡ false = grind (arith) in
     let r : a ++ joined_by false (kept ++ line ∷ more) ≡ a ++ (j ++ v) = s ∙ ap (λ w. w ++ v) t ∙ append_assoc a j v in
     let rest : joined_by false (kept ++ line ∷ more) ≡ j ++ v = append_cancel_left a (joined_by false (kept ++ line ∷ more)) (j ++ v) r in
-    grind (arith, append_assoc, front_in-only e false kept line more j v q head ok d.1 rest (may-later a j p v some t k) (subst (λ b. IsHead e b line q head) (sym (after-later kept)) h) refl, may-later, after-later, drop-append_seam, front-later)
+    grind (
+      arith,
+      append_assoc,
+      front_in-only e false kept line more j v q head ok d.1 rest
+          (may-later a j p v some t k) (subst (λ b. IsHead e b line q head) (sym (after-later kept)) h) refl,
+      may-later,
+      after-later,
+      drop-append_seam,
+      front-later,
+    )
 
 -- ---- the front of a pair
 

@@ -90,7 +90,11 @@ same-fronts e (d ∷ u) [] c y z ok l s w h = grind (arith, append-nil, ascii-am
 same-fronts e (b ∷ u) (d ∷ v) c y z ok l s w h =
     let k : b ≡ d = cc in
     let r : u ++ c ∷ y ≡ v ++ c ∷ z = cc in
-    search (same-fronts e u v c y z ok l r (w ++ b ∷ []) (ap (decoded_line e) (append_assoc w (b ∷ []) u) ∙ h ∙ ap (λ p. decoded_line e (w ++ p ∷ v)) (sym k) ∙ ap (decoded_line e) (sym (append_assoc w (b ∷ []) v))), append_assoc)
+    search (
+      same-fronts e u v c y z ok l r (w ++ b ∷ [])
+          (ap (decoded_line e) (append_assoc w (b ∷ []) u) ∙ h ∙ ap (λ p. decoded_line e (w ++ p ∷ v)) (sym k) ∙ ap (decoded_line e) (sym (append_assoc w (b ∷ []) v))),
+      append_assoc,
+    )
 
 -- Two heads with the same text, which ends in an ASCII character.
 heads-ascii : (e : Encoding) (d x y a b : List ℕ) → is_editable e ≡ true → EndsInAscii x → IsHeadOf e d x y a → IsHeadOf e d x y b → a ≡ b
