@@ -8,17 +8,16 @@ use Rattle.std.proofs.lemmas.Bool.{cases_Bool, cond_both}
 use Rattle.std.proofs.lemmas.List.{append_cancel_left}
 use Rattle.std.proofs.lemmas.Slice.Eq.{bytes_eq-Decides}
 use Rattle.std.proofs.lemmas.List.Elements.{recursion_from_All}
-use Rattle.properties_format.specs.Text.{LineEnding, backslash, begins, is_blank, is_comment_sign, is_empty, is_line_ending, lf, line_ending_text, line_feed, scalar, space, without_leading_blanks}
+use Rattle.properties_format.specs.Text.{LineEnding, backslash, begins, is_blank, is_comment_sign, is_empty, is_line_ending, lf, line_ending_text, line_feed, scalar, space}
 use Rattle.properties_format.specs.Encoding.{Encoding, InForce, Repertoire, begins_like_bom, byte_order_mark, repertoire_in_force}
 use Rattle.properties_format.specs.Lines.{AreLines, Ended, HoldsNoLineEnding, end, is_comment_line, joined, put_together}
 use Rattle.properties_format.specs.Split.{AreBlanks, IsSplit, Logical}
 use Rattle.properties_format.specs.Escapes.{Meaning, breaks, means}
 use Rattle.properties_format.specs.Printing.{encoded_text, in_prefix, literal, may_be_unescaped, printed_characters, unicode_escape}
-use Rattle.properties_format.specs.Items.{AreItems, Content, Entry, IsItems, IsOutcome, Outcome, broken, comment, given, ignored, pair}
-use Rattle.properties_format.specs.Maps.{IsMap}
-use Rattle.properties_format.specs.Changed.{HoldNoPair, contents, line_before}
-use Rattle.properties_format.specs.Body.{HasKey, HeldLine, NoneHasKey, as_lines, ending_bytes, group_bytes, groups_bytes, held_in, last_ending}
-use Rattle.properties_format.specs.Edited.{bom_of, guarding_lf, is_editable}
+use Rattle.properties_format.specs.Items.{AreItems, Content, IsOutcome, Outcome, broken, comment, given, ignored, pair}
+use Rattle.properties_format.specs.Changed.{contents, line_before}
+use Rattle.properties_format.specs.Body.{HasKey, HeldLine, NoneHasKey, as_lines, group_bytes, groups_bytes, held_in, last_ending}
+use Rattle.properties_format.specs.Edited.{guarding_lf, is_editable}
 use Rattle.properties_format.specs.Valued.{ending_among, ending_in}
 use Rattle.properties_format.specs.Settings.{IsGoodPrefix}
 use Rattle.properties_format.specs.Writing.{HoldsNoBackslash}
@@ -26,7 +25,7 @@ use Rattle.properties_format.specs.Computed.Body.{held_groups_of}
 use Rattle.properties_format.specs.Computed.Edited.{IsSoundOutcome}
 use Rattle.properties_format.specs.Computed.Cut.{decoded_line}
 use Rattle.properties_format.specs.Computed.Escapes.{meaning_of}
-use Rattle.properties_format.specs.Computed.Items.{comment_outcome, items_of, outcome_of, split_outcome}
+use Rattle.properties_format.specs.Computed.Items.{comment_outcome, outcome_of, split_outcome}
 use Rattle.properties_format.specs.Computed.Split.{split_of}
 use Rattle.properties_format.proofs.Body.Decoded.{decoded-nil, plain-bytes}
 use Rattle.properties_format.proofs.Body.Groups.{groups_bytes-append, held-body, held_groups_of-meets, held_groups_of-only}
@@ -60,8 +59,8 @@ use Rattle.properties_format.proofs.Valued.Heads.{ascii-among}
 use Rattle.properties_format.proofs.Valued.Revalued.{text-own}
 use Rattle.properties_renaming.specs.CommentLines.{AreCommentGroups, IsCommentGroup}
 use Rattle.properties_renaming.specs.Commenting.{HasNewLines, IsCommentSet, IsStyleFor, LineStyle, comment_line, ending_or, gap_before, texts_of}
-use Rattle.properties_renaming.specs.Commented.{AreOthers, IsRemovedWithComments, LeadTo}
-use Rattle.properties_renaming.specs.Laws.{AreOthersIn, HasSoundEntries, IsCommentChanged, RemovingWithTheCommentKeepsTheRest, RemovingWithTheCommentTakesTheValue, SettingAPlainCommentBreaksNothing, SettingTheCommentKeepsTheMap, SettingTheCommentKeepsTheRest}
+use Rattle.properties_renaming.specs.Commented.{AreOthers, LeadTo}
+use Rattle.properties_renaming.specs.Laws.{AreOthersIn, IsCommentChanged, RemovingWithTheCommentKeepsTheRest, RemovingWithTheCommentTakesTheValue, SettingAPlainCommentBreaksNothing, SettingTheCommentKeepsTheMap, SettingTheCommentKeepsTheRest}
 use Rattle.properties_renaming.proofs.CommentGroups.{lead-next, line-blank, line-pair}
 use Rattle.properties_renaming.proofs.KeyPlaces.{decoded-past}
 use Rattle.properties_renaming.proofs.RenamedKeys.{bytes-front}

@@ -1,4 +1,8 @@
 pub mod KeyPlaces
+pub mod ManyRenames
+pub mod RenamedMarks
+pub mod RenamesAtOnce
+pub mod RenamesInTurn
 pub mod NewPairs
 pub mod RenamedContents
 pub mod RenamedKeys

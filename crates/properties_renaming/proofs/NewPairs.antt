@@ -104,7 +104,7 @@ key-closed key (d ∷ v) k c = ap is_open k.whole ∙ units-closed k.units (d �
 -- ---- what is behind a key
 
 -- the text begins with an ASCII character
-abbrev BeginsInAscii : List ℕ → Type 0
+abbrev pub BeginsInAscii : List ℕ → Type 0
 BeginsInAscii y = (c : ℕ) × (w : List ℕ) × (y ≡ c ∷ w) × (c < 0x80)
 
 -- A text is at most a backslash, if nothing is left of it without its open backslash.
@@ -112,7 +112,7 @@ little : (x : List ℕ) → without_open_backslash x ≡ [] → IsLittle x
 little x q = grind (arith, shut-whole x)
 
 -- What is left of a line begins as what follows the key does, or is at most a backslash.
-left-begins : (x j v : List ℕ) → without_open_backslash x ++ j ≡ v → (v ≡ []) ⊎ (begins ends_key v ≡ true) → IsLittle x ⊎ BeginsInAscii x
+pub left-begins : (x j v : List ℕ) → without_open_backslash x ++ j ≡ v → (v ≡ []) ⊎ (begins ends_key v ≡ true) → IsLittle x ⊎ BeginsInAscii x
 left-begins x j v s f = of (without_open_backslash x) refl s
   where
     of : (w : List ℕ) → without_open_backslash x ≡ w → w ++ j ≡ v → IsLittle x ⊎ BeginsInAscii x
@@ -123,25 +123,25 @@ left-begins x j v s f = of (without_open_backslash x) refl s
         first v t f = grind (arith)
 
 -- What is behind a key: the tail of a line, and the lines after it, which add this text.
-record IsBehindKey (e : Encoding) (g : List HeldLine) (back v : List ℕ) : Type 0 where
-  before : List HeldLine
-  line : HeldLine
-  more : List HeldLine
-  second : g ≡ before ++ line ∷ more
-  tail : List ℕ
-  tail_text : List ℕ
-  is_tail : decoded_line e tail ≡ tail_text
-  adds : without_open_backslash tail_text ++ joined_by false more ≡ v
-  same_open : is_open tail_text ≡ is_open line.text
-  plain_tail : HoldsNoLineEnding line.bytes → HoldsNoLineEnding tail
-  bytes : back ≡ tail ++ (ending_bytes line.ending ++ group_bytes more)
+pub record IsBehindKey (e : Encoding) (g : List HeldLine) (back v : List ℕ) : Type 0 where
+  pub before : List HeldLine
+  pub line : HeldLine
+  pub more : List HeldLine
+  pub second : g ≡ before ++ line ∷ more
+  pub tail : List ℕ
+  pub tail_text : List ℕ
+  pub is_tail : decoded_line e tail ≡ tail_text
+  pub adds : without_open_backslash tail_text ++ joined_by false more ≡ v
+  pub same_open : is_open tail_text ≡ is_open line.text
+  pub plain_tail : HoldsNoLineEnding line.bytes → HoldsNoLineEnding tail
+  pub bytes : back ≡ tail ++ (ending_bytes line.ending ++ group_bytes more)
 
-lines-first : (e : Encoding) (o : Option LineEnding) (h : HeldLine) (hs : List HeldLine) → AreLinesBy e o (h ∷ hs)
+pub lines-first : (e : Encoding) (o : Option LineEnding) (h : HeldLine) (hs : List HeldLine) → AreLinesBy e o (h ∷ hs)
     → HoldsNoLineEnding h.bytes × (h.text ≡ decoded_line e h.bytes)
 lines-first e o h [] a = (a.0, a.1)
 lines-first e o h (i ∷ hs) a = (a.0, a.1)
 
-lines-later : (e : Encoding) (o : Option LineEnding) (a : List HeldLine) (h : HeldLine) (hs : List HeldLine) → AreLinesBy e o (a ++ h ∷ hs) → AreLinesBy e o (h ∷ hs)
+pub lines-later : (e : Encoding) (o : Option LineEnding) (a : List HeldLine) (h : HeldLine) (hs : List HeldLine) → AreLinesBy e o (a ++ h ∷ hs) → AreLinesBy e o (h ∷ hs)
 lines-later e o [] h hs a = a
 lines-later e o (x ∷ []) h hs a = a.3
 lines-later e o (x ∷ y ∷ xs) h hs a = lines-later e o (y ∷ xs) h hs a.3
@@ -183,7 +183,7 @@ module _ (e : Encoding) (o : Option LineEnding) (i : HeldLine) (is : List HeldLi
       }
 
   -- Behind a key that isn't empty.
-  behind-some : key ≢ [] → (cut : IsCutBehind e (i ∷ is) (p.indent ++ key)) → front ++ old ≡ group_bytes cut.kept ++ cut.head → IsBehindKey e (i ∷ is) back v
+  pub behind-some : key ≢ [] → (cut : IsCutBehind e (i ∷ is) (p.indent ++ key)) → front ++ old ≡ group_bytes cut.kept ++ cut.head → IsBehindKey e (i ∷ is) back v
   behind-some some cut q =
       let first = is_first_after true cut.kept in
       let u : IsUnmarked (cut.kept ++ cut.line ∷ cut.more) = subst IsUnmarked cut.division unmarked in
@@ -206,7 +206,7 @@ module _ (e : Encoding) (o : Option LineEnding) (i : HeldLine) (is : List HeldLi
       ∙ sym (append_assoc p.indent key v)))
 
   -- Behind an empty key.
-  behind-none : key ≡ [] → old ≡ [] → (b : IsBeforeKey (i ∷ is) front) → IsBehindKey e (i ∷ is) back v
+  pub behind-none : key ≡ [] → old ≡ [] → (b : IsBeforeKey (i ∷ is) front) → IsBehindKey e (i ∷ is) back v
   behind-none none_key none_old b =
       let x = decoded_line e b.rest in
       let u : IsUnmarked (b.kept ++ b.line ∷ b.more) = subst IsUnmarked b.division unmarked in
@@ -385,7 +385,7 @@ group-mark : (e : Encoding) (o : Option LineEnding) (h : HeldLine) (hs : List He
     → begins_like_bom (group_bytes (h ∷ hs)) ≡ begins_like_bom h.bytes
 group-mark e o h hs a = grind (arith, ending-cut, append-nil)
 
-blanks-mark : (b : List ℕ) → AreBlanks b → begins_like_bom b ≡ false
+pub blanks-mark : (b : List ℕ) → AreBlanks b → begins_like_bom b ≡ false
 blanks-mark b h = grind (arith, byte_order_mark-cut)
 
 -- Nor does a line with what is left behind the key.

@@ -43,7 +43,7 @@ use Rattle.properties_format.proofs.Maps.{first-none, map-only, value_in, value_
 
 -- ---- the groups with the new key
 
-abbrev AreNamed : List ℕ → List ℕ → List (List HeldLine) → List (List HeldLine) → Type 0
+abbrev pub AreNamed : List ℕ → List ℕ → List (List HeldLine) → List (List HeldLine) → Type 0
 AreNamed old new [] hs = hs ≡ []
 AreNamed old new (g ∷ gs) hs = (h : List HeldLine) × (more : List (List HeldLine)) × (hs ≡ h ∷ more) × IsNamed old new g h × AreNamed old new gs more
 
@@ -56,7 +56,7 @@ record AreNewGroups (e : Encoding) (first : Bool) (old new : List ℕ) (gs : Lis
   no_mark : first ≡ true → begins_like_bom (groups_bytes gs) ≡ false → begins_like_bom bytes ≡ false
 
 -- Whether a group with a line ending begins like a byte order mark doesn't depend on what follows it.
-ended-mark : (e : Encoding) (by : LineEnding) (g : List HeldLine) (y : List ℕ) → AreLinesBy e (Some by) g
+pub ended-mark : (e : Encoding) (by : LineEnding) (g : List HeldLine) (y : List ℕ) → AreLinesBy e (Some by) g
     → begins_like_bom (group_bytes g ++ y) ≡ begins_like_bom (group_bytes g)
 ended-mark e by g y a = grind (arith, bytes-of, append_assoc, ending-cut, append-nil)
 
@@ -70,7 +70,7 @@ no-bytes e o key g a k =
     has_key-false key g (lf-no_key e o key g a (no-front (unended_bytes g) (ending_bytes (last_ending g)) (sym (bytes-unended g) ∙ is-nil (group_bytes g) k)))
 
 module _ (r : Repertoire) (old : List ℕ) (c : ℕ) (cs : List ℕ) (ok : is_editable r.encoding ≡ true) (scalars : All scalar (c ∷ cs)) where
-  new-group : (o : Option LineEnding) (first : Bool) (g : List HeldLine) (made : List ℕ) → AreLinesBy r.encoding o g
+  pub new-group : (o : Option LineEnding) (first : Bool) (g : List HeldLine) (made : List ℕ) → AreLinesBy r.encoding o g
       → HasKey old g × IsRekeyed r first g (c ∷ cs) made ⊎ ¬ (HasKey old g) × (made ≡ group_bytes g)
       → IsNewGroup r.encoding o first old (c ∷ cs) g made
   new-group o first [] made a (inl (k, m)) = absurd a
@@ -157,17 +157,17 @@ lines-renamed old new (g ∷ gs) hs (h, more, q, inr (n, same), rest) sound =
 -- ---- a source
 
 -- The groups of a source and of the result, in which a key is renamed.
-record AreRenamedGroups (r : Repertoire) (source old new result : List ℕ) : Type 0 where
-  all : List (List HeldLine)
-  slots : AreSlotsOf (byte_order_mark r.encoding source).encoding (byte_order_mark r.encoding source).body all
-  own : all ≡ held_groups_of (byte_order_mark r.encoding source).encoding (byte_order_mark r.encoding source).body
-  groups : List (List HeldLine)
-  body : List ℕ
-  in_force : byte_order_mark r.encoding result ≡ record { encoding = (byte_order_mark r.encoding source).encoding; body = body }
-  new_slots : AreSlotsOf (byte_order_mark r.encoding source).encoding body groups
-  named : AreNamed old new all groups
+pub record AreRenamedGroups (r : Repertoire) (source old new result : List ℕ) : Type 0 where
+  pub all : List (List HeldLine)
+  pub slots : AreSlotsOf (byte_order_mark r.encoding source).encoding (byte_order_mark r.encoding source).body all
+  pub own : all ≡ held_groups_of (byte_order_mark r.encoding source).encoding (byte_order_mark r.encoding source).body
+  pub groups : List (List HeldLine)
+  pub body : List ℕ
+  pub in_force : byte_order_mark r.encoding result ≡ record { encoding = (byte_order_mark r.encoding source).encoding; body = body }
+  pub new_slots : AreSlotsOf (byte_order_mark r.encoding source).encoding body groups
+  pub named : AreNamed old new all groups
 
-renamed-groups : (r : Repertoire) (source old : List ℕ) (new result : List ℕ) → is_editable (byte_order_mark r.encoding source).encoding ≡ true
+pub renamed-groups : (r : Repertoire) (source old : List ℕ) (new result : List ℕ) → is_editable (byte_order_mark r.encoding source).encoding ≡ true
     → IsName new → IsRenamed r source old new result → AreRenamedGroups r source old new result
 renamed-groups r source old [] result ok (some, s) h = absurd (some refl)
 renamed-groups r source old (c ∷ cs) result ok (some, s) h =
@@ -298,7 +298,7 @@ none-all e key [] a n = tt
 none-all e key (g ∷ []) a n = grind (arith, no-bytes e None key g a.0)
 none-all e key (g ∷ h ∷ gs) a n = (n.0, none-all e key (h ∷ gs) a.1 n.1)
 
-none-given : (key : List ℕ) (all : List (List HeldLine)) → NoneHasKey key all → NoneHasKey key (with_bytes all)
+pub none-given : (key : List ℕ) (all : List (List HeldLine)) → NoneHasKey key all → NoneHasKey key (with_bytes all)
 none-given key [] n = tt
 none-given key (g ∷ []) n = grind (arith)
 none-given key (g ∷ h ∷ gs) n = (n.0, none-given key (h ∷ gs) n.1)

@@ -47,9 +47,9 @@ use Rattle.properties_editing.specs.declared.source.Comments.TheVariants.{Passed
 use Rattle.properties_editing.specs.Views.{GivesNext, AreGiven, AreOfPair, IsViewOf, ArePlaces, OpenView, TakesNext, viewed_line, past_group, size_before, with_bytes}
 use Rattle.properties_editing.specs.declared.group.PartPlaces.{PartPlaces}
 use Rattle.properties_editing.specs.declared.group.ViewedGroup.{ViewedGroup}
-use Rattle.properties_renaming.specs.Renaming.{AreAlike, ArePrinted, AreRekeyed, IsRekeyed, IsRenamed, Replaced, with_new, with_old, key_text}
+use Rattle.properties_renaming.specs.Renaming.{AreIn, AreAlike, ArePrinted, AreRekeyed, IsRekeyed, IsRenamed, Replaced, with_new, with_old, key_text}
 use Rattle.properties_renaming.specs.Private.Copied.{IsNew, IsReplacedIn, copied_to}
-use Rattle.properties_renaming.specs.Private.Renaming.{IsAmong, Names, PrintsKeys, IsAnyPair, IsRekeyedIn, IsSlice, TellsTaken, TellsThere, AreRenamed, is_join, later, past_joins}
+use Rattle.properties_renaming.specs.Private.Renaming.{AreMade, IsAmong, Names, PrintsKeys, IsAnyPair, IsRekeyedIn, IsSlice, TellsTaken, TellsThere, AreRenamed, is_join, later, past_joins}
 use Rattle.properties_renaming.proofs.KeyPlaces.{IsPlaced}
 use Rattle.properties_renaming.specs.declared.copied.Copied.{Copied}
 use Rattle.properties_renaming.specs.declared.renaming.Named.{Named}
@@ -184,11 +184,11 @@ pub none-append : (key : List ℕ) (gs : List (List HeldLine)) (g : List HeldLin
 none-append key [] g h k = (k, tt)
 none-append key (f ∷ gs) g h k = (h.0, none-append key gs g h.1 k)
 
-none-front : (key : List ℕ) (gs hs : List (List HeldLine)) → NoneHasKey key (gs ++ hs) → NoneHasKey key gs
+pub none-front : (key : List ℕ) (gs hs : List (List HeldLine)) → NoneHasKey key (gs ++ hs) → NoneHasKey key gs
 none-front key [] hs h = tt
 none-front key (f ∷ gs) hs h = (h.0, none-front key gs hs h.1)
 
-none-last : (key : List ℕ) (gs : List (List HeldLine)) (g : List HeldLine) → NoneHasKey key (gs ++ g ∷ []) → ¬ (HasKey key g)
+pub none-last : (key : List ℕ) (gs : List (List HeldLine)) (g : List HeldLine) → NoneHasKey key (gs ++ g ∷ []) → ¬ (HasKey key g)
 none-last key [] g h = h.0
 none-last key (f ∷ gs) g h = none-last key gs g h.1
 
@@ -222,9 +222,8 @@ bytes-front (f ∷ i ∷ all) (d ∷ before) g after h =
     let m = bytes-front (i ∷ all) before g after (cc) in
     (m.0, ap₂ (λ v w. v ∷ w) t m.1)
 
--- What was copied, and found, of the groups that a view gave so far.
-pub record IsUpTo (characters : Characters) (source old new : List ℕ) (v now : OpenView) (c : Copied) (is_there : Bool) (taken : Option ℕ)
-    (first : Bool) : Type 0 where
+-- What was copied of the groups that a view gave so far, given what is made of a group.
+pub record IsUpTo (Makes : Bool → List HeldLine → List ℕ → Type 0) (source : List ℕ) (v now : OpenView) (c : Copied) (first : Bool) : Type 0 where
   pub passed : List (List HeldLine)
   pub division : v.to_come ≡ passed ++ now.to_come
   pub rest : groups_bytes now.to_come ≡ drop (past_group now).start source
@@ -235,11 +234,7 @@ pub record IsUpTo (characters : Characters) (source old new : List ℕ) (v now :
   pub done : c.done ≤ (past_group now).start
   pub made : List ℕ
   pub copied : copied_to c (past_group now).start ≡ take v.start source ++ made
-  pub rekeyed : (more : List ℕ)
-      → AreRekeyed (record { encoding = v.encoding; characters = characters }) old new first now.to_come more
-      → AreRekeyed (record { encoding = v.encoding; characters = characters }) old new true v.to_come (made ++ more)
-  pub there : TellsThere old passed is_there
-  pub tells_taken : TellsTaken old new passed taken
+  pub goes_on : (more : List ℕ) → AreMade Makes first now.to_come more → AreMade Makes true v.to_come (made ++ more)
 
 -- Whether the next group has the keys.
 pub there-next : (old : List ℕ) (gs : List (List HeldLine)) (g : List HeldLine) (is_there : Bool) → TellsThere old gs is_there → ¬ (HasKey old g)
@@ -275,18 +270,17 @@ taken-now old new gs g number apart h k is =
 pub one-key : (old new : List ℕ) (g : List HeldLine) → has_key old g ≡ true → old ≢ new → ¬ (HasKey new g)
 one-key old new g h apart k = apart (grind (arith, HasKey-test new g k, bytes_eq-Decides))
 
-module _ {characters : Characters} {source old new : List ℕ} {v : OpenView} where
+module _ {Makes : Bool → List HeldLine → List ℕ → Type 0} {source : List ℕ} {v : OpenView} where
   -- the next group is one of the groups of the source, and a slice of it
-  pub next-among : {requested : Encoding} {now next : OpenView} {c : Copied} {is_there first : Bool} {taken : Option ℕ} → IsViewOf requested source v
-      → IsUpTo characters source old new v now c is_there taken first → (group : ViewedGroup) → TakesNext now group next → IsAmong next.encoding next.group
+  pub next-among : {requested : Encoding} {now next : OpenView} {c : Copied} {first : Bool} → IsViewOf requested source v
+      → IsUpTo Makes source v now c first → (group : ViewedGroup) → TakesNext now group next → IsAmong next.encoding next.group
   next-among {now = now} {next = next} o h group t =
       let encoding : next.encoding ≡ v.encoding = ap (λ w. let o : OpenView = w in o.encoding) t.moves ∙ h.encoding in
       let m = bytes-front o.given.all h.passed next.group next.to_come (sym o.given.are ∙ h.division ∙ ap (λ w. h.passed ++ w) t.takes) in
       subst (λ e. IsAmong e next.group) (sym encoding)
       (record { editable = o.editable; body = drop v.start source; groups = o.given.all; are = o.given.division; before = h.passed; after = m.0; division = m.1 })
 
-  pub next-slice : {now next : OpenView} {c : Copied} {is_there first : Bool} {taken : Option ℕ}
-      → IsUpTo characters source old new v now c is_there taken first → (group : List HeldLine)
+  pub next-slice : {now next : OpenView} {c : Copied} {first : Bool} → IsUpTo Makes source v now c first → (group : List HeldLine)
       → now.to_come ≡ next.group ∷ next.to_come → next.start ≡ (past_group now).start → IsSlice next c.source.now
   next-slice {now} {next} {c} h group takes start =
       let gb = group_bytes next.group in
@@ -304,15 +298,13 @@ module _ {characters : Characters} {source old new : List ℕ} {v : OpenView} wh
       }
 
   -- Another group was copied, as it stands or with another key.
-  pub next-up : {now next : OpenView} {c c' : Copied} {is_there is_there' first : Bool} {taken taken' : Option ℕ} (group : ViewedGroup) (made : List ℕ)
-      → (h : IsUpTo characters source old new v now c is_there taken first) → TakesNext now group next → c'.source.now ≡ c.source.now
+  pub next-up : {now next : OpenView} {c c' : Copied} {first : Bool} (group : ViewedGroup) (made : List ℕ)
+      → (h : IsUpTo Makes source v now c first) → TakesNext now group next → c'.source.now ≡ c.source.now
       → c'.done ≤ next.start + length (group_bytes next.group)
       → copied_to c' (next.start + length (group_bytes next.group)) ≡ copied_to c next.start ++ made
-      → HasKey old next.group × IsRekeyed (record { encoding = next.encoding; characters = characters }) first next.group new made
-      ⊎ ¬ (HasKey old next.group) × (made ≡ group_bytes next.group)
-      → TellsThere old (h.passed ++ next.group ∷ []) is_there' → TellsTaken old new (h.passed ++ next.group ∷ []) taken'
-      → IsUpTo characters source old new v next c' is_there' taken' false
-  next-up {now} {next} {c} {c'} {first = first} group made h t same done copied step there taken =
+      → Makes first next.group made
+      → (up : IsUpTo Makes source v next c' false) × (up.passed ≡ h.passed ++ next.group ∷ [])
+  next-up {now} {next} {c} {c'} {first = first} group made h t same done copied step =
       let gb = group_bytes next.group in
       let start : next.start ≡ (past_group now).start = ap (λ w. let o : OpenView = w in o.start) t.moves in
       let passed : next.passed ≡ (past_group now).passed = ap (λ w. let o : OpenView = w in o.passed) t.moves in
@@ -322,57 +314,53 @@ module _ {characters : Characters} {source old new : List ℕ} {v : OpenView} wh
       let whole : drop next.start source ≡ gb ++ groups_bytes next.to_come = ap (λ k. drop k source) start ∙ sym h.rest ∙ ap groups_bytes t.takes in
       let counted = held-push h.passed next.group in
       let numbers = h.number in
-      let within = slice.within in
-      let Step : Encoding → Type 0 = λ e.
-      HasKey old next.group × IsRekeyed (record { encoding = e; characters = characters }) first next.group new made
-      ⊎ ¬ (HasKey old next.group) × (made ≡ gb) in
-      let r : Repertoire = record { encoding = v.encoding; characters = characters } in
-      record {
-        passed = h.passed ++ next.group ∷ [];
-        division = h.division ∙ ap (λ w. h.passed ++ w) t.takes ∙ sym (append_assoc h.passed (next.group ∷ []) next.to_come);
-        rest = sym (sym (drop-drop (length gb) next.start source) ∙ ap (drop (length gb)) whole ∙ drop-append_seam gb (groups_bytes next.to_come));
-        within = omega arith;
-        number = omega arith;
-        encoding = encoding;
-        source_is = same ∙ h.source_is;
-        done = done;
-        made = h.made ++ made;
-        copied = copied ∙ ap (λ w. w ++ made) (ap (copied_to c) start ∙ h.copied) ∙ append_assoc (take v.start source) h.made made;
-        rekeyed = λ more k.
-            subst (AreRekeyed r old new true v.to_come) (sym (append_assoc h.made made more))
-            (h.rekeyed (made ++ more) (subst (λ w. AreRekeyed r old new first w (made ++ more)) (sym t.takes) (made, more, subst Step encoding step, refl, k)));
-        there = there;
-        tells_taken = taken;
-      }
+      let within = slice.within in (
+        record {
+          passed = h.passed ++ next.group ∷ [];
+          division = h.division ∙ ap (λ w. h.passed ++ w) t.takes ∙ sym (append_assoc h.passed (next.group ∷ []) next.to_come);
+          rest = sym (sym (drop-drop (length gb) next.start source) ∙ ap (drop (length gb)) whole ∙ drop-append_seam gb (groups_bytes next.to_come));
+          within = omega arith;
+          number = omega arith;
+          encoding = encoding;
+          source_is = same ∙ h.source_is;
+          done = done;
+          made = h.made ++ made;
+          copied = copied ∙ ap (λ w. w ++ made) (ap (copied_to c) start ∙ h.copied) ∙ append_assoc (take v.start source) h.made made;
+          goes_on = λ more k.
+              subst (AreMade Makes true v.to_come) (sym (append_assoc h.made made more))
+              (h.goes_on (made ++ more) (subst (λ w. AreMade Makes first w (made ++ more)) (sym t.takes) (made, more, step, refl, k)));
+        },
+        refl,
+      )
 
   -- Nothing was copied yet,
   pub none-yet : {requested : Encoding} {c : Copied} → IsViewOf requested source v → IsNew source c
-      → IsUpTo characters source old new v v c false None true
+      → (up : IsUpTo Makes source v v c true) × (up.passed ≡ [])
   none-yet {c = c} h k =
       let none : length (group_bytes v.group) ≡ 0 = ap (λ g. length (group_bytes g)) h.none_given in
       let place : (past_group v).start ≡ v.start = omega arith in
       let none_given : length v.group ≡ 0 = ap length h.none_given in
       let none_passed = h.none_passed in
       let within = h.within in
-      let zero_off : v.start - 0 ≡ v.start = omega arith in
-      record {
-        passed = [];
-        division = refl;
-        rest = h.given.together ∙ ap (λ n. drop n source) (sym place);
-        within = omega arith;
-        number = omega arith;
-        encoding = refl;
-        source_is = k.source_is;
-        done = let d = k.done in omega arith;
-        made = [];
-        copied = ap₂ (λ b s. b ++ take ((past_group v).start - c.done) (drop c.done s)) k.nothing k.source_is
-            ∙ ap₂ (λ n d. take (n - d) (drop d source)) place k.done
-            ∙ ap (λ n. take n source) zero_off
-            ∙ sym (append-nil (take v.start source));
-        rekeyed = λ more k. k;
-        there = tt;
-        tells_taken = λ apart. tt;
-      }
+      let zero_off : v.start - 0 ≡ v.start = omega arith in (
+        record {
+          passed = [];
+          division = refl;
+          rest = h.given.together ∙ ap (λ n. drop n source) (sym place);
+          within = omega arith;
+          number = omega arith;
+          encoding = refl;
+          source_is = k.source_is;
+          done = let d = k.done in omega arith;
+          made = [];
+          copied = ap₂ (λ b s. b ++ take ((past_group v).start - c.done) (drop c.done s)) k.nothing k.source_is
+              ∙ ap₂ (λ n d. take (n - d) (drop d source)) place k.done
+              ∙ ap (λ n. take n source) zero_off
+              ∙ sym (append-nil (take v.start source));
+          goes_on = λ more k. k;
+        },
+        refl,
+      )
 
 -- The mark comes before the first group.
 pub mark-front : {e : Encoding} {source : List ℕ} {v : OpenView} → IsViewOf e source v → bom_of source ≡ take v.start source
@@ -385,34 +373,104 @@ mark-front {e} {source} {v} h =
     let n : v.start ≡ length (bom_of source) = omega arith in
     sym (ap₂ take n whole ∙ take-append_seam (bom_of source) body)
 
--- or all groups were copied.
-pub all-up : {r : Repertoire} {source old new : List ℕ} {v now : OpenView} {c : Copied} {is_there first : Bool} {taken : Option ℕ} (bytes : Vec ℕ)
-    → IsViewOf r.encoding source v → IsUpTo r.characters source old new v now c is_there taken first → now.to_come ≡ []
-    → bytes.items ≡ copied_to c (length c.source.now)
-    → AreRenamed r source old new (record { bytes = bytes; is_there = is_there; taken = taken })
-all-up {r} {source} {old} {new} {v} {now} {c} {is_there} {first} {taken} bytes o h none is =
+-- All groups were copied.
+pub record AreAllMade (Makes : Bool → List HeldLine → List ℕ → Type 0) (e : Encoding) (source bytes : List ℕ) (groups : List (List HeldLine)) : Type 0 where
+  pub held : AreIn e source groups
+  pub body : List ℕ
+  pub made : AreMade Makes true groups body
+  pub whole : bytes ≡ bom_of source ++ body
+
+pub all-up : {Makes : Bool → List HeldLine → List ℕ → Type 0} {e : Encoding} {source : List ℕ} {v now : OpenView} {c : Copied} {first : Bool} (bytes : List ℕ)
+    → IsViewOf e source v → (h : IsUpTo Makes source v now c first) → now.to_come ≡ [] → bytes ≡ copied_to c (length c.source.now)
+    → AreAllMade Makes e source bytes h.passed
+all-up {Makes} {e} {source} {v} {now} {c} {first} bytes o h none is =
     let left : drop (past_group now).start source ≡ [] = sym h.rest ∙ ap groups_bytes none in
     let sizes : length source - (past_group now).start ≡ 0 = sym (length-drop (past_group now).start source) ∙ ap length left in
     let within = h.within in
     let place : length c.source.now ≡ (past_group now).start = ap length h.source_is ∙ omega arith in
-    let all : h.passed ≡ v.to_come = sym (append-nil h.passed) ∙ ap (λ w. h.passed ++ w) (sym none) ∙ sym h.division in
-    let t : Repertoire = record { encoding = v.encoding; characters = r.characters } in
-    let e : repertoire_in_force r source ≡ t = ap (λ w. let f : InForce = w in in_encoding r f.encoding) o.in_force in
+    let all : v.to_come ≡ h.passed = h.division ∙ ap (λ w. h.passed ++ w) none ∙ append-nil h.passed in
     record {
-      groups = v.to_come;
-      held = subst (λ w. let f : InForce = w in AreGiven f.encoding f.body v.to_come) (sym o.in_force) o.given;
-      there = subst (λ gs. TellsThere old gs is_there) all h.there;
-      taken = subst (λ gs. TellsTaken old new gs taken) all h.tells_taken;
+      held =
+          subst (AreIn e source) all
+          (subst (λ w. let f : InForce = w in AreGiven f.encoding f.body v.to_come) (sym o.in_force) o.given);
       body = h.made;
-      rekeyed = subst (λ w. AreRekeyed w old new true v.to_come h.made) (sym e)
-          (subst (AreRekeyed t old new true v.to_come) (append-nil h.made)
-          (h.rekeyed [] (subst (λ gs. AreRekeyed t old new first gs []) (sym none) refl)));
+      made =
+          subst (λ gs. AreMade Makes true gs h.made) all
+          (subst (AreMade Makes true v.to_come) (append-nil h.made)
+          (h.goes_on [] (subst (λ gs. AreMade Makes first gs []) (sym none) refl)));
       whole = is ∙ ap (copied_to c) place ∙ h.copied ∙ ap (λ w. w ++ h.made) (sym (mark-front o));
+    }
+
+-- the repertoire of a view, with these characters
+abbrev pub viewed : Characters → OpenView → Repertoire
+viewed characters v = record { encoding = v.encoding; characters = characters }
+
+-- It is that in force.
+pub viewed-force : {r : Repertoire} {source : List ℕ} {v : OpenView} → IsViewOf r.encoding source v → viewed r.characters v ≡ repertoire_in_force r source
+viewed-force {r} {source} {v} o = sym (ap (λ w. let f : InForce = w in in_encoding r f.encoding) o.in_force)
+
+-- ---- one key
+
+-- What is made of a group: a pair with the old key gets the new one.
+abbrev pub IsMadeOf : Repertoire → List ℕ → List ℕ → Bool → List HeldLine → List ℕ → Type 0
+IsMadeOf r old new first g made = HasKey old g × IsRekeyed r first g new made ⊎ ¬ (HasKey old g) × (made ≡ group_bytes g)
+
+are-rekeyed : (r : Repertoire) (old new : List ℕ) (first : Bool) (gs : List (List HeldLine)) (bytes : List ℕ)
+    → AreMade (IsMadeOf r old new) first gs bytes → AreRekeyed r old new first gs bytes
+are-rekeyed r old new first [] bytes h = h
+are-rekeyed r old new first (g ∷ gs) bytes (made, more, k, s, q) = (made, more, k, s, are-rekeyed r old new false gs more q)
+
+-- What was copied, and found.
+pub record IsRenamedUpTo (characters : Characters) (source old new : List ℕ) (v now : OpenView) (c : Copied) (is_there : Bool) (taken : Option ℕ)
+    (first : Bool) : Type 0 where
+  pub up : IsUpTo (IsMadeOf (viewed characters v) old new) source v now c first
+  pub there : TellsThere old up.passed is_there
+  pub tells_taken : TellsTaken old new up.passed taken
+
+module _ {characters : Characters} {source old new : List ℕ} {v : OpenView} where
+  pub renamed-next : {now next : OpenView} {c c' : Copied} {is_there is_there' first : Bool} {taken taken' : Option ℕ} (group : ViewedGroup) (made : List ℕ)
+      → (h : IsRenamedUpTo characters source old new v now c is_there taken first) → TakesNext now group next → c'.source.now ≡ c.source.now
+      → c'.done ≤ next.start + length (group_bytes next.group)
+      → copied_to c' (next.start + length (group_bytes next.group)) ≡ copied_to c next.start ++ made
+      → IsMadeOf (viewed characters next) old new first next.group made
+      → TellsThere old (h.up.passed ++ next.group ∷ []) is_there' → TellsTaken old new (h.up.passed ++ next.group ∷ []) taken'
+      → IsRenamedUpTo characters source old new v next c' is_there' taken' false
+  renamed-next {now} {next} {is_there' = is_there'} {first = first} {taken' = taken'} group made h t same done copied step there taken =
+      let encoding : next.encoding ≡ v.encoding = ap (λ w. let o : OpenView = w in o.encoding) t.moves ∙ h.up.encoding in
+      let n = next-up group made h.up t same done copied
+      (subst (λ e. IsMadeOf (record { encoding = e; characters = characters }) old new first next.group made) encoding step) in
+      record {
+        up = n.0;
+        there = subst (λ gs. TellsThere old gs is_there') (sym n.1) there;
+        tells_taken = subst (λ gs. TellsTaken old new gs taken') (sym n.1) taken;
+      }
+
+  pub renamed-none : {requested : Encoding} {c : Copied} → IsViewOf requested source v → IsNew source c
+      → IsRenamedUpTo characters source old new v v c false None true
+  renamed-none o k =
+      let n = none-yet o k in
+      record { up = n.0; there = subst (NoneHasKey old) (sym n.1) tt; tells_taken = λ apart. subst (NoneHasKey new) (sym n.1) tt }
+
+pub renamed-all : {r : Repertoire} {source old new : List ℕ} {v now : OpenView} {c : Copied} {is_there first : Bool} {taken : Option ℕ} (bytes : Vec ℕ)
+    → IsViewOf r.encoding source v → IsRenamedUpTo r.characters source old new v now c is_there taken first → now.to_come ≡ []
+    → bytes.items ≡ copied_to c (length c.source.now)
+    → AreRenamed r source old new (record { bytes = bytes; is_there = is_there; taken = taken })
+renamed-all {r} {source} {old} {new} {v} bytes o h none is =
+    let k = all-up bytes.items o h.up none is in
+    record {
+      groups = h.up.passed;
+      held = k.held;
+      there = h.there;
+      taken = h.tells_taken;
+      body = k.body;
+      rekeyed =
+          subst (λ t. AreRekeyed t old new true h.up.passed k.body) (viewed-force {r = r} o) (are-rekeyed (viewed r.characters v) old new true h.up.passed k.body k.made);
+      whole = k.whole;
     }
 
 -- ---- which key a logical line has
 
-abbrev first-of : List ℕ × List ℕ → Option (List ℕ × List ℕ) → List ℕ
+abbrev pub first-of : List ℕ × List ℕ → Option (List ℕ × List ℕ) → List ℕ
 first-of p None = p.0
 first-of p (Some q) = q.0
 
@@ -452,11 +510,6 @@ pub edited-editable : (r : Repertoire) (source : List ℕ) (bytes : Vec ℕ) (co
     → is_editable (byte_order_mark r.encoding source).encoding ≡ true
 edited-editable r source bytes Read h = h.edit.result.0
 edited-editable r source bytes PassedOver h = h.result.0
-
-pub edited-same : (r : Repertoire) (source : List ℕ) (bytes : Vec ℕ) (comments : Comments) → MakesEditsFor comments r source [] (Ok bytes)
-    → bytes.items ≡ source
-edited-same r source bytes Read h = h.edit.result.2
-edited-same r source bytes PassedOver h = h.result.2
 
 -- ---- what is printed
 

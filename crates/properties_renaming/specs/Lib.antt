@@ -3,4 +3,5 @@ pub mod Commented
 pub mod Commenting
 pub mod Laws
 pub mod Private
+pub mod Renames
 pub mod Renaming

@@ -1,5 +1,6 @@
 pub mod Copied
 pub mod Renaming
+pub mod Renames
 pub mod Commented
 pub mod CommentTexts
 pub mod Commenting

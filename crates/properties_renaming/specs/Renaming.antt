@@ -153,13 +153,16 @@ pub record IsTaken (e : Encoding) (source old new : List ℕ) (number : ℕ) : T
 abbrev pub IsEditable : SourceOptions → List ℕ → Type 0
 IsEditable options source = (bytes : Vec ℕ) × EditsWith options source [] (Ok bytes)
 
+-- The result is the source with a key renamed, or the source if the key is to have the name that it has.
+abbrev pub HasNewName : SourceOptions → List ℕ → List ℕ → List ℕ → List ℕ → Type 0
+HasNewName options source old new result =
+    (old ≢ new) × IsRenamed (asked_for options) source old new result × AreAlike (repertoire_in_force (asked_for options) source) new source result
+    ⊎ (old ≡ new) × IsKept (asked_for options).encoding source old result
+
 -- The source with a key renamed; or no pair has the key, or one has the new key, which is looked at after the other; or
 -- an edit would be refused with this error, or memory ran out.
 abbrev pub RenamesKey : SourceOptions → List ℕ → List ℕ → List ℕ → Result (Vec ℕ) RenameError → Type 0
-RenamesKey options source old new (Ok bytes) =
-    IsEditable options source
-    × ((old ≢ new) × IsRenamed (asked_for options) source old new bytes.items × AreAlike (repertoire_in_force (asked_for options) source) new source bytes.items
-    ⊎ (old ≡ new) × IsKept (asked_for options).encoding source old bytes.items)
+RenamesKey options source old new (Ok bytes) = IsEditable options source × HasNewName options source old new bytes.items
 RenamesKey options source old new (Err NoKey) = IsEditable options source × LacksKey (asked_for options).encoding source old
 RenamesKey options source old new (Err (KeyTaken number)) =
     IsEditable options source × (old ≢ new) × IsTaken (asked_for options).encoding source old new number

@@ -1,9 +1,21 @@
 // The bytes of a source, copied with some of them replaced.
 
-ghost use Rattle.std.specs.Prelude.{◌≡◌, ◌≤◌, ◌++◌, length, IfOk, OnOk};
+ghost use Rattle.std.specs.Prelude.{◌≡◌, ◌≤◌, ◌++◌, length, IfErr, IfOk, OnOk};
+ghost use Rattle.properties_items.specs.Errors.{IsBareError};
+ghost use Rattle.properties_items.specs.declared.error.ErrorKind.TheVariants as kind;
 ghost use Rattle.properties_renaming.specs.Private.Copied.{IsNew, copied_to, IsReplacedIn};
 
+use properties_items::error::PropertiesError;
 use std::alloc::{AllocError, Global};
+
+/// Returns a copy of a source.
+pub(crate) fn copy_of(alloc: Global, source: &[u8]) -> Result<Vec<u8>, PropertiesError>
+    ensures same { IfOk result (λ copy. copy.items ≡ source.now) }
+    ensures memory { IfErr result (IsBareError kind.Memory) }
+{
+    let copy = source.to_vec(alloc)?;
+    Ok(copy)
+}
 
 /// What was copied of a source so far, and put in.
 #[derive(Drop)]

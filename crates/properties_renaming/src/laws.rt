@@ -1,6 +1,6 @@
 //! The laws of renaming, for use in callers' proofs.
 //!
-//! The function does nothing: it states the laws as its contract.
+//! The functions do nothing: each states laws as its contract.
 
 ghost use Rattle.std.specs.Prelude.{ℕ, List};
 ghost use Rattle.properties_format.specs.Encoding.{Repertoire};

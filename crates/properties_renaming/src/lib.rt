@@ -1,5 +1,5 @@
-//! Renames a key of a `.properties` source where it stands, sets its comment, or removes both, and keeps every other
-//! byte.
+//! Renames keys of a `.properties` source where they stand, sets the comment of a key, or removes a key with its comment,
+//! and keeps all other bytes.
 //!
 //! ```text
 //! let options = SourceOptions::new(Encoding::UTF_8);
@@ -16,6 +16,7 @@ mod commenting;
 mod comments;
 mod copied;
 pub mod laws;
+mod renames;
 mod renaming;
 
 pub use commenting::set_comment;
@@ -23,4 +24,5 @@ pub use comments::remove_with_comment;
 pub use properties_editing::{Comments, SourceOptions};
 pub use properties_items::error::{ErrorKind, PropertiesError};
 pub use properties_text::encoding::Encoding;
+pub use renames::{Rename, RenamesError, rename_keys};
 pub use renaming::{RenameError, rename_key};

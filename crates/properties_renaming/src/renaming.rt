@@ -10,9 +10,10 @@ ghost use Rattle.properties_text.specs.Encoding.{encoding_of};
 ghost use Rattle.properties_editing.specs.Editing.{asked_for};
 ghost use Rattle.properties_editing.specs.Views.{IsGroup, viewed_line};
 ghost use Rattle.properties_renaming.specs.Renaming.{RenamesKey};
+ghost use Rattle.properties_renaming.specs.Private.Renames.{RenamesIn};
 ghost use Rattle.properties_renaming.specs.Private.Renaming.{AppendsKey, IsAmong, IsAnyPair, IsSlice, Names, PrintsKeys, RekeysIn, RenamesGroups, TellsSign, is_join, later, past_joins};
 
-use crate::copied::Copied;
+use crate::copied::{Copied, copy_of};
 use properties_editing::{SourceOptions, View, ViewedGroup, edit_with};
 use properties_items::error::{ErrorKind, PropertiesError};
 use properties_items::found::{find_item, pair_texts};
@@ -89,7 +90,21 @@ pub fn rename_key(
 ) -> Result<Vec<u8>, RenameError>
     ensures { RenamesKey options source.now (chars old.now) (chars new.now) result }
 {
-    let same = edit_with(alloc, source, options, &[])?;
+    // Refuses a source that an edit would refuse.
+    edit_with(alloc, source, options, &[])?;
+    rename_editable(alloc, source, options, old, new)
+}
+
+/// Renames a key, and refuses no malformed escape.
+pub(crate) fn rename_editable(
+    alloc: Global,
+    source: &[u8],
+    options: SourceOptions,
+    old: &str,
+    new: &str,
+) -> Result<Vec<u8>, RenameError>
+    ensures { RenamesIn options source.now (chars old.now) (chars new.now) result }
+{
     let renamed = rename_groups(alloc, source, options, old, new)?;
     if !renamed.is_there {
         return Err(RenameError::NoKey);
@@ -98,6 +113,7 @@ pub fn rename_key(
         return Err(RenameError::KeyTaken(number));
     }
     if old == new {
+        let same = copy_of(alloc, source)?;
         return Ok(same);
     }
     Ok(renamed.bytes)
@@ -198,14 +214,14 @@ fn name_by(key: &str, old: &str, new: &str) -> Named
 
 // A key that is put in: how it is printed, and whether it is in the first group.
 #[derive(Clone, Copy)]
-struct NewKey<'a> {
-    repertoire: Repertoire,
-    first: bool,
-    text: &'a str,
+pub(crate) struct NewKey<'a> {
+    pub(crate) repertoire: Repertoire,
+    pub(crate) first: bool,
+    pub(crate) text: &'a str,
 }
 
 // Puts a key in place of that of the pair that the view gave last.
-fn put_key(
+pub(crate) fn put_key(
     alloc: Global,
     copied: &mut Copied<'_>,
     view: &View<'_>,

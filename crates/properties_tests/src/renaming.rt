@@ -1,8 +1,8 @@
 // Sources in which a key is renamed, its comment set, or both removed, and what comes of each.
 
 use java_properties::{
-    Comments, Encoding, ErrorKind, RenameError, SourceOptions, comment_of, remove_with_comment,
-    rename_key, set_comment,
+    Comments, Encoding, ErrorKind, Rename, RenameError, RenamesError, SourceOptions, comment_of,
+    remove_with_comment, rename_key, rename_keys, set_comment,
 };
 use std::alloc::Global;
 use std::process::Abort;
@@ -162,6 +162,137 @@ fn others_are_refused(rt: HostRuntime) {
     ];
     let options = SourceOptions::new(Encoding::UTF_8);
     check_refused(&rt, rt.alloc(), options, rows.as_slice());
+}
+
+// Keys and their new names.
+type Names = &'static [(&'static str, &'static str)];
+
+fn renames_of(alloc: Global, names: Names) -> Result<Vec<Rename>, Fail> {
+    let mut renames = Vec::new(alloc);
+    for (old, new) in names {
+        renames.push(Rename {
+            old: String::from_str(alloc, old)?,
+            new: String::from_str(alloc, new)?,
+        })?;
+    }
+    Ok(renames)
+}
+
+#[test]
+fn keys_are_renamed_in_turn(rt: HostRuntime) -> Result<(), Fail> {
+    let rows: [(&'static [u8], Names, &'static [u8]); 8] = [
+        (
+            b"a=1\n b : 2\na",
+            &[("a", "c"), ("b", "d")],
+            b"c=1\n d : 2\nc",
+        ),
+        (
+            b"a=1\nb=2\n",
+            &[("a", "b c"), ("b", "a.b")],
+            b"b\\ c=1\na.b=2\n",
+        ),
+        (b"a=1\n", &[("a", "b"), ("b", "c")], b"c=1\n"),
+        (
+            b"a=1\nb=2\n",
+            &[("a", "t"), ("b", "a"), ("t", "b")],
+            b"b=1\na=2\n",
+        ),
+        (
+            b"a=1\nb=2\n",
+            &[("b", "c"), ("a", "\u{feff}k")],
+            b"\\ufeffk=1\nc=2\n",
+        ),
+        (b"a = 1\nb=2\n", &[("a", ""), ("b", "a")], b" = 1\na=2\n"),
+        (b"a=1\n", &[("a", "a")], b"a=1\n"),
+        (b"a=1\n", &[], b"a=1\n"),
+    ];
+    let options = SourceOptions::new(Encoding::UTF_8);
+    for (row, (source, names, wanted)) in rows.iter().enumerate() {
+        let renames = renames_of(rt.alloc(), names)?;
+        let renamed = rename_keys(rt.alloc(), source, options, &renames)?;
+        same(&rt, row, renamed.as_slice(), *wanted);
+    }
+    Ok(())
+}
+
+#[test]
+fn a_refused_rename_is_told(rt: HostRuntime) -> Result<(), Fail> {
+    let rows: [(&'static [u8], Names, usize, Why); 10] = [
+        (b"a=1\n", &[("a", "b"), ("c", "d")], 1, Why::NoKey),
+        // The first rename that is refused is told, and not the first pair that refuses one.
+        (
+            b"d=1\nf=2\na=3\nc=4\n",
+            &[("a", "b"), ("c", "d"), ("e", "f")],
+            1,
+            Why::KeyTaken(1),
+        ),
+        (
+            b"f=1\na=2\ne=3\n",
+            &[("a", "b"), ("c", "d"), ("e", "f")],
+            1,
+            Why::NoKey,
+        ),
+        (b"a=1\n", &[("a", "b"), ("a", "c")], 1, Why::NoKey),
+        (
+            b"a=1\nb=2\n",
+            &[("a", "c"), ("b", "c")],
+            1,
+            Why::KeyTaken(1),
+        ),
+        (
+            b"a=1\nb=2\n",
+            &[("a", "b"), ("b", "a")],
+            0,
+            Why::KeyTaken(2),
+        ),
+        (b"b=1\n\na=2\n", &[("a", "b")], 0, Why::KeyTaken(1)),
+        (
+            b"a=1\n#\nb=2\n",
+            &[("a", "c"), ("c", "b")],
+            1,
+            Why::KeyTaken(3),
+        ),
+        // What the first rename leaves has a line less.
+        (
+            b"a\\\n b=1\nc=2\n",
+            &[("ab", "x"), ("x", "c")],
+            1,
+            Why::KeyTaken(2),
+        ),
+        (
+            b"a=1\nb=\\u12\n",
+            &[("a", "c")],
+            0,
+            Why::Source(ErrorKind::NotEnoughDigits, Some(2)),
+        ),
+    ];
+    let options = SourceOptions::new(Encoding::UTF_8);
+    for (row, (source, names, index, wanted)) in rows.iter().enumerate() {
+        let renames = renames_of(rt.alloc(), names)?;
+        match rename_keys(rt.alloc(), source, options, &renames) {
+            Ok(_) => panic!(rt; "row {row}"),
+            Err(RenamesError::Source(error)) => {
+                same(
+                    &rt,
+                    row,
+                    Why::Source(error.kind(), error.line_number()),
+                    *wanted,
+                );
+            }
+            Err(RenamesError::NoKey(refused)) => {
+                same(&rt, row, (refused, Why::NoKey), (*index, *wanted));
+            }
+            Err(RenamesError::KeyTaken(refused, number)) => {
+                same(
+                    &rt,
+                    row,
+                    (refused, Why::KeyTaken(number)),
+                    (*index, *wanted),
+                );
+            }
+        }
+    }
+    Ok(())
 }
 
 // A source, a key, and the source after it was removed with its comment.

@@ -101,6 +101,11 @@ RekeysIn v old key new =
 
 -- ---- all groups
 
+-- The bytes are made of the groups, in order; the flag says whether the next group is the first of a body.
+abbrev pub AreMade : (Bool → List HeldLine → List ℕ → Type 0) → Bool → List (List HeldLine) → List ℕ → Type 0
+AreMade Makes first [] bytes = bytes ≡ []
+AreMade Makes first (g ∷ gs) bytes = (made : List ℕ) × (more : List ℕ) × Makes first g made × (bytes ≡ made ++ more) × AreMade Makes false gs more
+
 -- The first of these groups that has the key has this number.
 pub record IsFirstWith (key : List ℕ) (groups : List (List HeldLine)) (number : ℕ) : Type 0 where
   pub before : List (List HeldLine)

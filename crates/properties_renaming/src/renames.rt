@@ -1,0 +1,380 @@
+// Renames many keys of a source, and keeps every other byte.
+
+ghost use Rattle.std.specs.Prelude.{◌≡◌, ◌<◌, ◌≤◌, ℕ, false, true, get_or, IfErr, IfOk, OnOk, is_some, length, replicate};
+ghost use Rattle.std.specs.Str.{chars};
+ghost use Rattle.properties_format.specs.Computed.Items.{outcome_of};
+ghost use Rattle.properties_editing.specs.Editing.{asked_for};
+ghost use Rattle.properties_renaming.specs.Renames.{RenamesKeys, names_in, new_name};
+ghost use Rattle.properties_items.specs.Errors.{IsBareError};
+ghost use Rattle.properties_items.specs.declared.error.ErrorKind.TheVariants as kind;
+ghost use Rattle.properties_renaming.specs.Private.Renames.{AddsNames, AreRolesOf, GivesRole, HasRoles, IsInEditableEncoding, RenamesAtOnce, RenamesFront, RenamesInTurn, RenamesSome, error_at, role_at, role_of};
+
+use crate::copied::{Copied, copy_of};
+use crate::renaming::{NewKey, RenameError, put_key, rename_editable, repertoire_for};
+use properties_editing::{SourceOptions, View, edit_with};
+use properties_items::error::{ErrorKind, PropertiesError};
+use properties_items::found::{find_item, pair_texts};
+use std::alloc::{AllocError, Global};
+use std::collections::BTreeMap;
+use std::error::Error;
+use std::fmt;
+
+/// A key, and the key that it becomes.
+#[derive(Debug, Drop)]
+pub struct Rename {
+    /// The key that pairs have.
+    pub old: String,
+    /// The key that they get.
+    pub new: String,
+}
+
+/// Why [`rename_keys`] renamed nothing. Renames are counted from 0.
+#[derive(Debug, Drop)]
+pub enum RenamesError {
+    /// The source can't be edited, or memory ran out.
+    Source(PropertiesError),
+    /// No pair has the old key of the rename with this index.
+    NoKey(usize),
+    /// A pair has the new key of the rename with this index already. The second number is the line of the first such pair,
+    /// in what the renames before it left.
+    KeyTaken(usize, usize),
+}
+
+impl From<PropertiesError> for RenamesError {
+    ghost use Rattle.properties_renaming.specs.declared.renames.RenamesError.TheVariants.{Source};
+
+    ghost from_gives = { λ error from. from ≡ Source error };
+
+    fn from(error: PropertiesError) -> RenamesError {
+        RenamesError::Source(error)
+    }
+}
+
+impl fmt::Display for RenamesError {
+    fn fmt<W: fmt::Write>(&self, f: &mut fmt::Formatter<W>) -> fmt::Result {
+        match self {
+            RenamesError::Source(error) => write!(f, "{error}"),
+            RenamesError::NoKey(index) => write!(f, "no pair has the key (rename = {index})"),
+            RenamesError::KeyTaken(index, number) => {
+                write!(
+                    f,
+                    "the new key is there already (rename = {index}, line_number = {number})"
+                )
+            }
+        }
+    }
+}
+
+impl Error for RenamesError {}
+
+/// Returns the source with keys renamed where they stand, one rename after another: each as [`rename_key`] renames in
+/// what those before it left.
+///
+/// The source is read once to check it, and once for each run of renames. A run ends before a rename that has one of its
+/// names again, old or new. A rename of a key to itself, or to the empty name, is a run of its own. So a list whose names
+/// all differ takes two passes if no new one is empty, and a chain (`a` to `b`, `b` to `c`) one for each rename and one
+/// more. A refused rename costs up to five more passes.
+///
+/// Fails as [`rename_key`] does, and then nothing is renamed. The error tells which rename was refused.
+///
+/// [`rename_key`]: crate::rename_key
+///
+/// ```text
+/// let renames = [Rename { old: host, new: server }, Rename { old: port, new: server_port }];
+/// let renamed = rename_keys(alloc, b"host = a\nport = 80\n", options, &renames)?;
+/// // It is `server = a` and `server_port = 80`, each with a line feed.
+/// ```
+pub fn rename_keys(
+    alloc: Global,
+    source: &[u8],
+    options: SourceOptions,
+    renames: &[Rename],
+) -> Result<Vec<u8>, RenamesError>
+    ensures { RenamesKeys options source.now (names_in renames.now) result }
+{
+    // Refuses a source that an edit would refuse.
+    edit_with(alloc, source, options, &[])?;
+    rename_in_turn(alloc, source, options, renames)
+}
+
+// Makes renames in turn, a run of them in each pass.
+fn rename_in_turn(
+    alloc: Global,
+    source: &[u8],
+    options: SourceOptions,
+    renames: &[Rename],
+) -> Result<Vec<u8>, RenamesError>
+    requires { IsInEditableEncoding options source.now }
+    ensures { RenamesInTurn options source.now (names_in renames.now) result }
+{
+    let mut left = copy_of(alloc, source)?;
+    let mut index = 0;
+    while index < renames.len() {
+        match rename_some(alloc, &left, options, &renames[index..]) {
+            Ok(Run { bytes, count }) => {
+                left = bytes;
+                index += count;
+            }
+            Err(error) => return Err(error_at(index, error)),
+        }
+    }
+    Ok(left)
+}
+
+// Returns the error of the rename with this index.
+fn error_at(index: usize, error: RenameError) -> RenamesError
+    ensures { result ≡ error_at index error }
+{
+    match error {
+        RenameError::Source(error) => RenamesError::Source(error),
+        RenameError::NoKey => RenamesError::NoKey(index),
+        RenameError::KeyTaken(number) => RenamesError::KeyTaken(index, number),
+    }
+}
+
+// A source after the first renames of a list, and how many these are.
+#[derive(Drop)]
+struct Run {
+    bytes: Vec<u8>,
+    count: usize,
+}
+
+// Makes the first rename of a list, and those after it that the same pass can make.
+fn rename_some(
+    alloc: Global,
+    source: &[u8],
+    options: SourceOptions,
+    renames: &[Rename],
+) -> Result<Run, RenameError>
+    requires read { IsInEditableEncoding options source.now }
+    requires some { 0 < length renames.now }
+    ensures { RenamesSome options source.now renames.now result }
+{
+    if let Some(run) = rename_front(alloc, source, options, renames)? {
+        return Ok(run);
+    }
+    let count = first_refused(alloc, source, options, renames)?;
+    if let Some(run) = rename_front(alloc, source, options, &renames[..count])? {
+        return Ok(run);
+    }
+    rename_first(alloc, source, options, renames)
+}
+
+// Makes the first rename of a list.
+fn rename_first(
+    alloc: Global,
+    source: &[u8],
+    options: SourceOptions,
+    renames: &[Rename],
+) -> Result<Run, RenameError>
+    requires { 0 < length renames.now }
+    ensures { RenamesSome options source.now renames.now result }
+{
+    let first = &renames[0];
+    let bytes = rename_editable(alloc, source, options, &first.old, &first.new)?;
+    Ok(Run { bytes, count: 1 })
+}
+
+// Makes the first renames of a list in one pass: those before the first that has one of their names again, is to itself,
+// or has an empty new name. Returns `None` if there are none, or if the source refuses one.
+fn rename_front(
+    alloc: Global,
+    source: &[u8],
+    options: SourceOptions,
+    renames: &[Rename],
+) -> Result<Option<Run>, PropertiesError>
+    requires { IsInEditableEncoding options source.now }
+    ensures { RenamesFront options source.now renames.now result }
+{
+    let Roles { names, count } = roles_of(alloc, renames)?;
+    if count == 0 {
+        return Ok(None);
+    }
+    match rename_by_roles(alloc, source, options, &renames[..count], &names)? {
+        Some(bytes) => Ok(Some(Run { bytes, count })),
+        None => Ok(None),
+    }
+}
+
+// Makes renames in one pass, given the roles of their names, or returns `None` if the source refuses one.
+fn rename_by_roles(
+    alloc: Global,
+    source: &[u8],
+    options: SourceOptions,
+    renames: &[Rename],
+    roles: &BTreeMap<String, Role>,
+) -> Result<Option<Vec<u8>>, PropertiesError>
+    requires { AreRolesOf (names_in renames.now) roles.now.entries }
+    ensures { RenamesAtOnce (asked_for options) source.now (names_in renames.now) result }
+{
+    let mut view = View::open(alloc, source, options.encoding)?;
+    let repertoire = repertoire_for(options, view.encoding());
+    let mut copied = Copied::new(alloc, source)?;
+    let mut found = none_found(alloc, renames.len())?;
+    let mut first = true;
+    while let Some(group) = view.next()? {
+        match role_of(alloc, roles, view.line())? {
+            Some(Role::Old(index)) => {
+                let key = NewKey {
+                    repertoire,
+                    first,
+                    text: &renames[index].new,
+                };
+                put_key(alloc, &mut copied, &view, group, key)?;
+                found[index] = true;
+            }
+            Some(Role::New(_)) => return Ok(None),
+            None => {}
+        }
+        first = false;
+    }
+    if !all_found(&found) {
+        return Ok(None);
+    }
+    let bytes = copied.finish()?;
+    Ok(Some(bytes))
+}
+
+// Returns the index of the first rename that the source refuses, or that one pass can't make with those before it.
+fn first_refused(
+    alloc: Global,
+    source: &[u8],
+    options: SourceOptions,
+    renames: &[Rename],
+) -> Result<usize, PropertiesError>
+    requires { IsInEditableEncoding options source.now }
+    ensures within { IfOk result (λ index. index ≤ length renames.now) }
+    ensures memory { IfErr result (IsBareError kind.Memory) }
+{
+    let Roles { names, count } = roles_of(alloc, renames)?;
+    if count == 0 {
+        return Ok(0);
+    }
+    let mut view = View::open(alloc, source, options.encoding)?;
+    let mut found = none_found(alloc, count)?;
+    let mut taken = count;
+    while let Some(_) = view.next()? {
+        match role_of(alloc, &names, view.line())? {
+            Some(Role::Old(index)) => found[index] = true,
+            Some(Role::New(index)) => taken = taken.min(index),
+            None => {}
+        }
+    }
+    let missing = found.iter().position(|found| !found).unwrap_or(count);
+    Ok(missing.min(taken))
+}
+
+// Returns a mark for each rename: no old key was found yet.
+fn none_found(alloc: Global, count: usize) -> Result<Vec<bool>, AllocError>
+    ensures { IfOk result (λ found. found.items ≡ replicate count false) }
+{
+    vec![in alloc; false; count]
+}
+
+// Returns whether each old key was found.
+fn all_found(found: &[bool]) -> bool
+    ensures { result ≡ true → (i : ℕ) → i < length found.now → get_or found.now i false ≡ true }
+{
+    !found.contains(&false)
+}
+
+// What a name is to a list of renames: the old key, or the new one, of the rename with this index.
+#[derive(Clone, Copy)]
+enum Role {
+    Old(usize),
+    New(usize),
+}
+
+// The roles of the names of the first renames of a list, and how many these are.
+#[derive(Drop)]
+struct Roles {
+    names: BTreeMap<String, Role>,
+    count: usize,
+}
+
+// Returns the roles of the names in a list, up to the first rename that has one of them again, renames a key to itself, or
+// has an empty new name.
+fn roles_of(alloc: Global, renames: &[Rename]) -> Result<Roles, AllocError>
+    ensures { IfOk result (HasRoles renames.now) }
+{
+    let mut names = BTreeMap::new(alloc);
+    for (index, rename) in renames.iter().enumerate() {
+        if !add_names(alloc, &mut names, index, &rename.old, &rename.new)? {
+            return Ok(Roles {
+                names,
+                count: index,
+            });
+        }
+    }
+    Ok(Roles {
+        names,
+        count: renames.len(),
+    })
+}
+
+// Gives both names of a rename their roles, if they differ, have none yet, and the new one isn't empty. Returns whether it
+// did.
+fn add_names(
+    alloc: Global,
+    roles: &mut BTreeMap<String, Role>,
+    index: usize,
+    old: &str,
+    new: &str,
+) -> Result<bool, AllocError>
+    ensures { AddsNames roles.old.entries index (new_name (chars old.now) (chars new.now))
+        result roles.new.entries }
+{
+    if new.is_empty() || old == new || has_role(roles, old) || has_role(roles, new) {
+        return Ok(false);
+    }
+    give_role(alloc, roles, old, Role::Old(index))?;
+    give_role(alloc, roles, new, Role::New(index))?;
+    Ok(true)
+}
+
+// Returns whether a name has a role.
+fn has_role(roles: &BTreeMap<String, Role>, name: &str) -> bool
+    ensures { result ≡ is_some (role_at roles.now.entries (chars name.now)) }
+{
+    roles.contains_key(name)
+}
+
+fn give_role(
+    alloc: Global,
+    roles: &mut BTreeMap<String, Role>,
+    name: &str,
+    role: Role,
+) -> Result<(), AllocError>
+    ensures { OnOk result (GivesRole roles.old.entries (chars name.now) role roles.new.entries) }
+{
+    roles.insert(String::from_str(alloc, name)?, role)?;
+    Ok(())
+}
+
+// Returns the role of a logical line's key, if the line is a pair and its key has one.
+fn role_of(
+    alloc: Global,
+    roles: &BTreeMap<String, Role>,
+    line: &str,
+) -> Result<Option<Role>, AllocError>
+    ensures { IfOk result (λ role. role ≡ role_of roles.now.entries (outcome_of (chars line.now))) }
+{
+    match find_item(alloc, 1, line) {
+        Ok(Some(found)) => match pair_texts(&found, line) {
+            Some((key, _)) => Ok(role_at(roles, key)),
+            None => Ok(None),
+        },
+        Ok(None) => Ok(None),
+        Err(error) => match error.kind() {
+            ErrorKind::Memory => Err(AllocError),
+            _ => Ok(None),
+        },
+    }
+}
+
+// Returns the role of a name, if it has one.
+fn role_at(roles: &BTreeMap<String, Role>, name: &str) -> Option<Role>
+    ensures { result ≡ role_at roles.now.entries (chars name.now) }
+{
+    roles.get(name).copied()
+}
