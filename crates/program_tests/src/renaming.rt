@@ -57,6 +57,12 @@ const LISTS: &[Row] = &[
     ("rename a b rename b c", b"a=1", 0, b"c=1"),
     ("rename a b rename b a", b"\\u0061=1", 0, b"a=1"),
     (
+        "rename b y rename a x",
+        b"a=1\nb=2\na: 3\n",
+        0,
+        b"x=1\ny=2\nx: 3\n",
+    ),
+    (
         "rename a c rename b a rename c b",
         b"a=1\nb=2\n",
         0,
@@ -64,6 +70,7 @@ const LISTS: &[Row] = &[
     ),
     ("set a 1 rename a b", b"c=0\n", 0, b"c=0\nb=1\n"),
     ("remove b rename a b", b"a=1\nb=2", 0, b"b=1\n"),
+    ("rename a b set a 2 rename a c", b"a=1\n", 0, b"b=1\nc=2\n"),
     (
         "rename a b set b 2 remove c rename d c set d 4",
         b"a=1\nc=3\nd=5\n",
@@ -110,6 +117,12 @@ const REFUSED: &[(&str, &[u8], u8, &str)] = &[
         b"a=1",
         1,
         " no pair has the key 'a'",
+    ),
+    (
+        "rename ab x rename c d rename e f",
+        b"a\\\nb=1\nc=2\nd=3\n",
+        1,
+        "3: the key 'd' is there already",
     ),
     (
         "set b 1 rename a b",

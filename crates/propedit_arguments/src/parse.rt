@@ -12,7 +12,7 @@ use crate::kinds::ignored_in;
 use crate::mistake::{Hint, Mistake, NoRequest};
 use crate::options::{Options, STANDARD_INPUT, options_in, source_named};
 use counted_io::CountedWrite;
-use java_properties::Edit;
+use java_properties::{Edit, Rename};
 use properties_tools::propedit::kinds::Ignored;
 use properties_tools::propedit::request::{
     Allowed, Change, Check, CheckedFiles, Command, Comparison, Conversion, Destination, Edits,
@@ -410,69 +410,61 @@ fn edit<'a>(
     change(alloc, row, options, change_by(alloc, options, list)?)
 }
 
-// Returns the change that edits are. Some are steps of their own, and so are all edits between two of them.
+// Returns the change that edits are. Edits that set or remove a key are one step as long as no other comes between them,
+// and so are those that rename one.
 fn change_by(
     alloc: Global,
     options: &Options<'_>,
     list: Vec<AskedEdit>,
 ) -> Result<Change, AllocError> {
     let mut steps = Vec::new(alloc);
-    let mut edits = Vec::new(alloc);
     for asked in list {
-        match part_for(options, asked) {
-            Part::Edit(edit) => edits.push(edit)?,
-            Part::Step(step) => {
-                if !edits.is_empty() {
-                    steps.push(Step::Edits(edits_with(options, edits)))?;
-                    edits = Vec::new(alloc);
-                }
-                steps.push(step)?;
-            }
-        }
+        add_edit(alloc, options, &mut steps, asked)?;
     }
-    let edits = edits_with(options, edits);
     if steps.is_empty() {
-        return Ok(Change::Edits(edits));
-    }
-    if !edits.list.is_empty() {
-        steps.push(Step::Edits(edits))?;
+        return Ok(Change::Edits(edits_with(options, Vec::new(alloc))));
     }
     let first = steps.remove(0);
-    Ok(Change::Steps(Steps {
-        first,
-        others: steps,
-    }))
-}
-
-// What an edit is of a change.
-#[derive(Drop)]
-enum Part {
-    // One of the edits of a step.
-    Edit(Edit),
-    // A step of its own.
-    Step(Step),
-}
-
-// Returns what an edit is of a change that is made as the options say.
-fn part_for(options: &Options<'_>, asked: AskedEdit) -> Part {
-    match asked {
-        AskedEdit::Edit(Edit::Remove(key)) if options.has(OptionName::WithComment) => {
-            Part::Step(Step::Removal(Removal {
-                key,
-                absent: options.absent(),
-            }))
-        }
-        AskedEdit::Edit(edit) => Part::Edit(edit),
-        AskedEdit::Rename(old, new) => {
-            Part::Step(Step::Renaming(renaming_with(options, old, new)))
-        }
-        AskedEdit::SetComment(key, text) => Part::Step(Step::NewComment(NewComment {
-            key,
-            text,
-            ascii_only: options.has(OptionName::Ascii),
-            latin_1: options.is_latin_1(),
+    match first {
+        Step::Edits(edits) if steps.is_empty() => Ok(Change::Edits(edits)),
+        first => Ok(Change::Steps(Steps {
+            first,
+            others: steps,
         })),
     }
+}
+
+// Adds an edit to the last step, if that has edits of its kind, or else as a step of its own.
+fn add_edit(
+    alloc: Global,
+    options: &Options<'_>,
+    steps: &mut Vec<Step>,
+    asked: AskedEdit,
+) -> Result<(), AllocError> {
+    match (asked, steps.last_mut()) {
+        (AskedEdit::Edit(Edit::Remove(key)), _) if options.has(OptionName::WithComment) => {
+            steps.push(Step::Removal(Removal {
+                key,
+                absent: options.absent(),
+            }))?;
+        }
+        (AskedEdit::Edit(edit), Some(Step::Edits(edits))) => edits.list.push(edit)?,
+        (AskedEdit::Edit(edit), _) => {
+            let list = vec![in alloc; edit]?;
+            steps.push(Step::Edits(edits_with(options, list)))?;
+        }
+        (AskedEdit::Rename(old, new), Some(Step::Renaming(renaming))) => {
+            renaming.list.push(Rename { old, new })?;
+        }
+        (AskedEdit::Rename(old, new), _) => {
+            let list = vec![in alloc; Rename { old, new }]?;
+            steps.push(Step::Renaming(renaming_with(options, list)))?;
+        }
+        (AskedEdit::SetComment(key, text), _) => {
+            steps.push(Step::NewComment(comment_with(options, key, text)))?;
+        }
+    }
+    Ok(())
 }
 
 // Returns edits that are made as the options say.
@@ -485,11 +477,20 @@ fn edits_with(options: &Options<'_>, list: Vec<Edit>) -> Edits {
     }
 }
 
-// Returns a renaming that is made as the options say.
-fn renaming_with(options: &Options<'_>, old: String, new: String) -> Renaming {
+// Returns renames that are made as the options say.
+fn renaming_with(options: &Options<'_>, list: Vec<Rename>) -> Renaming {
     Renaming {
-        old,
-        new,
+        list,
+        ascii_only: options.has(OptionName::Ascii),
+        latin_1: options.is_latin_1(),
+    }
+}
+
+// Returns a comment of a key that is set as the options say.
+fn comment_with(options: &Options<'_>, key: String, text: String) -> NewComment {
+    NewComment {
+        key,
+        text,
         ascii_only: options.has(OptionName::Ascii),
         latin_1: options.is_latin_1(),
     }

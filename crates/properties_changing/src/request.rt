@@ -1,6 +1,6 @@
 // What a change is asked for.
 
-use java_properties::{Edit, Encoding, Repertoire, Spelling};
+use java_properties::{Edit, Encoding, Rename, Repertoire, Spelling};
 
 /// A file that is changed in place.
 #[derive(Drop)]
@@ -40,20 +40,20 @@ pub enum Step {
     Edits(Edits),
     /// Remove a key with its comments.
     Removal(Removal),
-    /// Rename a key.
+    /// Rename keys.
     Renaming(Renaming),
     /// Set the comment of a key.
     NewComment(NewComment),
 }
 
-/// A key that is renamed where it stands, and how it is written then.
+/// Keys that are renamed where they stand, and how the new ones are written.
 #[derive(Drop)]
 pub struct Renaming {
-    pub old: String,
-    pub new: String,
-    /// Whether the new key is ASCII-only.
+    /// They are renamed in order.
+    pub list: Vec<Rename>,
+    /// Whether the new keys are ASCII-only.
     pub ascii_only: bool,
-    /// Whether it has only characters whose bytes ISO 8859-1 reads alike.
+    /// Whether they have only characters whose bytes ISO 8859-1 reads alike.
     pub latin_1: bool,
 }
 
