@@ -21,7 +21,9 @@ use std::fmt;
 pub struct Counts {
     /// Those whose key has another value.
     pub changed: usize,
+    /// Those whose key only the new source has.
     pub added: usize,
+    /// Those whose key only the old one has.
     pub removed: usize,
 }
 

@@ -107,16 +107,18 @@ pub fn report(
     Ok(checked(alloc, name, source, encoding, asked)?.text)
 }
 
-// What is wrong in a source, as lines, and the keys of its pairs.
+/// What is wrong in a source, and the keys of its pairs.
 #[derive(Drop)]
 pub struct Reported {
+    /// What is wrong, as [`report`] returns it.
     pub text: String,
+    /// The keys of its pairs.
     pub keys: KeyTable,
-    // Whether no line is ill-formed.
+    /// Whether no line is ill-formed.
     pub is_well_formed: bool,
 }
 
-// Returns what is wrong in a source, and the keys of its pairs.
+/// Returns what is wrong in a source, as [`report`] does, and the keys of its pairs.
 pub fn checked(
     alloc: Global,
     name: &str,
@@ -314,11 +316,14 @@ fn sort(findings: &mut Vec<Finding>) -> Result<(), AllocError>
     Ok(())
 }
 
-// How findings are printed: under this name, in this form, and but for these kinds.
+/// How findings are printed.
 #[derive(Clone, Copy)]
 pub struct Heading<'a> {
+    /// The name of the source.
     pub name: &'a str,
+    /// Whether they are lines or objects.
     pub report: Report,
+    /// The kinds of findings that are left out.
     pub ignored: Ignored,
 }
 

@@ -62,8 +62,8 @@ impl Kind {
     }
 }
 
-/// The kinds that a check leaves out. Those for which an edit refuses a source can't be left out: U+0000, ill-formed
-/// lines, and malformed escapes in pairs.
+/// The kinds that a check leaves out: those whose fields are true. Those for which an edit refuses a source can't be
+/// left out, and have no field: U+0000, ill-formed lines, and malformed escapes in pairs.
 #[derive(Clone, Copy, Debug, PartialEq, Eq)]
 pub struct Ignored {
     pub looks_like_utf_8: bool,

@@ -85,6 +85,7 @@ fn has_utf_32_mark(source: &[u8]) -> bool
 }
 
 impl Misread {
+    // Returns what is said of it, in words.
     pub(crate) fn words(self) -> &'static str
         ensures { result.now ≡ misread_words self }
     {
@@ -101,7 +102,8 @@ impl Misread {
         }
     }
 
-    pub fn kind(self) -> Kind
+    // Returns the kind of such a finding.
+    pub(crate) fn kind(self) -> Kind
         ensures { result ≡ misread_kind self }
     {
         match self {

@@ -9,7 +9,7 @@ ghost use Rattle.properties_checking.specs.Private.Objects.{member_tokens, membe
 use json::Writer;
 use std::alloc::{AllocError, Global};
 
-// A member of an object: its name, and a text, a number or a truth value.
+/// A member of an object: its name, and a text, a number or a truth value.
 #[derive(Clone, Copy)]
 pub enum Member<'a> {
     Text(&'a str, &'a str),
@@ -17,7 +17,7 @@ pub enum Member<'a> {
     Truth(&'a str, bool),
 }
 
-// Appends the object that has these members, and a line feed.
+/// Appends the object that has these members, and a line feed.
 pub fn push_object(
     alloc: Global,
     text: &mut String,

@@ -5,11 +5,13 @@ use crate::kinds::Ignored;
 /// How a source is checked.
 #[derive(Clone, Copy, Debug, PartialEq, Eq)]
 pub struct Check {
+    /// The characters that aren't reported.
     pub allowed: Allowed,
     /// The kinds of findings that are left out.
     pub ignored: Ignored,
     /// Whether nothing is printed: the status alone tells whether anything is wrong.
     pub quiet: bool,
+    /// Whether the findings are lines or objects.
     pub report: Report,
 }
 

@@ -235,7 +235,7 @@ fn holds_zero(bytes: &[u8]) -> bool
     holds(bytes, 0)
 }
 
-// Returns whether this byte is among some.
+/// Returns whether this byte is among some.
 #[tactic(auto, using(crate::proofs::FlawedLines::tells_byte))]
 pub fn holds(bytes: &[u8], byte: u8) -> bool
     ensures { result ≡ spec.holds_byte byte bytes.now }

@@ -22,18 +22,21 @@ const FACTOR: u64 = 6_364_136_223_846_793_005;
 // A slot holds a row below this one.
 const ROWS_IN_SLOTS: usize = 4_294_967_295;
 
-/// Where a key is in the text, and the number of the line in which its first pair begins.
+/// A key, and its first pair.
 #[derive(Clone, Copy)]
 pub struct KeyRow {
+    /// Where the key is.
     pub place: Place,
+    /// The line in which its first pair begins.
     pub first_line: usize,
 }
 
 /// Keys, each once, in the order of their first pairs, with the lines of these.
 #[derive(Drop)]
 pub struct Keys {
-    /// The keys.
+    /// The keys, one after another.
     pub text: Vec<u8>,
+    /// Where each is, and its first line.
     pub rows: Vec<KeyRow>,
 }
 
@@ -43,9 +46,11 @@ pub struct Keys {
 /// map, so that no choice of keys makes it slow.
 #[derive(Drop)]
 pub struct KeyTable {
+    /// The keys.
     pub keys: Keys,
     /// One more than a row, or 0.
     pub slots: Vec<u32>,
+    /// The rows of keys whose slot has another key.
     pub others: BTreeMap<String, usize>,
 }
 

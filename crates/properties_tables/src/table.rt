@@ -14,10 +14,12 @@ use crate::texts::{Place, append, text_at};
 use java_properties::{Encoding, MalformedEscape};
 use std::alloc::{AllocError, Global};
 
-/// Where the value of a key is, and the number of the line in which the last pair with the key begins.
+/// The last pair with a key.
 #[derive(Clone, Copy)]
 pub struct LastPair {
+    /// Where its value is.
     pub value: Place,
+    /// The line in which it begins.
     pub line: usize,
 }
 
@@ -27,6 +29,7 @@ pub struct LastPair {
 /// Each value is appended, and stays if another takes its place: all of them are no longer than the text of the source.
 #[derive(Drop)]
 pub struct Table {
+    /// The keys, each with its first line.
     pub keys: KeyTable,
     /// The last pair of each key.
     pub lasts: Vec<LastPair>,

@@ -9,7 +9,9 @@ use std::str;
 /// Where a text is.
 #[derive(Clone, Copy)]
 pub struct Place {
+    /// Where it begins, in bytes.
     pub start: usize,
+    /// How many bytes it has.
     pub length: usize,
 }
 

@@ -311,7 +311,9 @@ fn push_came<F: DiffForm>(
 /// A row of a table.
 #[derive(Clone, Copy)]
 pub(crate) struct Side<'a> {
+    /// The table.
     pub table: &'a Table,
+    /// The number of the row.
     pub row: usize,
 }
 

@@ -1,8 +1,10 @@
 // Sources with names.
 
-/// The bytes of a source, and what messages call it.
+/// A source with its name.
 #[derive(Clone, Copy)]
 pub struct NamedSource<'a> {
+    /// What messages call it.
     pub name: &'a str,
+    /// Its bytes.
     pub bytes: &'a [u8],
 }

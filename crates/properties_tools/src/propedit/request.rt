@@ -28,7 +28,9 @@ pub enum Request {
 pub struct Job {
     /// The encoding of the source. A byte order mark overrides it.
     pub encoding: Encoding,
+    /// Where its source is read from.
     pub source: Source,
+    /// What is to be done.
     pub command: Command,
 }
 
@@ -37,6 +39,7 @@ pub struct Job {
 pub struct CheckedFiles {
     /// The encoding of each. A byte order mark overrides it.
     pub encoding: Encoding,
+    /// How they are checked.
     pub check: Check,
     /// The file whose keys theirs are compared with.
     pub base: Option<Source>,
@@ -47,9 +50,11 @@ pub struct CheckedFiles {
 /// A base, which is checked before the files whose keys are compared with its own.
 #[derive(Drop)]
 pub struct CheckedBase {
+    /// Where it is read from.
     pub source: Source,
     /// Its encoding. A byte order mark overrides it.
     pub encoding: Encoding,
+    /// How it is checked.
     pub check: Check,
 }
 
@@ -58,8 +63,11 @@ pub struct CheckedBase {
 pub struct Comparison {
     /// The encoding of each. A byte order mark overrides it.
     pub encoding: Encoding,
+    /// Where the first is read from.
     pub old: Source,
+    /// Where the second is read from.
     pub new: Source,
+    /// Whether the differences are lines or objects.
     pub report: Report,
 }
 
@@ -68,6 +76,7 @@ pub struct Comparison {
 pub struct Merge {
     /// Where the pairs come from. It is named.
     pub pairs: Source,
+    /// How they are written there.
     pub form: Form,
     /// The encoding of both. A byte order mark overrides it.
     pub encoding: Encoding,

@@ -1,8 +1,10 @@
 // What the program prints on.
 
-/// What a run prints on: its answer, and what is to be said of it or went wrong.
+/// What a run prints on.
 #[derive(Drop)]
 pub struct Sinks<W, E> {
+    /// Takes its answer.
     pub output: W,
+    /// Takes what is to be said of it, or went wrong.
     pub errors: E,
 }
