@@ -5,6 +5,7 @@ pub mod Splitting
 pub mod ListFronts
 pub mod Slices
 pub mod Refusals
+pub mod AnsweredCalls
 pub mod IllFormedLines
 pub mod GivenLines
 pub mod GivenItems

@@ -27,16 +27,16 @@ IsGivenBy Gives e f outcome = (encoding : code.Encoding) × (encoding_of encodin
 
 -- What a renaming or a new comment returned crosses: the bytes; or that no pair has the key, or the line of the first
 -- pair with the new one; or its error.
-abbrev pub RenamedCrosses : Result (Vec ℕ) RenameError → Crossing → Type 0
-RenamedCrosses (Ok bytes) x = Delivers bytes.items Done 0 x
-RenamedCrosses (Err error.NoKey) x = RefusesCall NoKey 0 x
-RenamedCrosses (Err (error.KeyTaken number)) x = RefusesCall KeyTaken number x
-RenamedCrosses (Err (error.Source e)) x = Fails e x
+abbrev pub ChangedCrosses : Result (Vec ℕ) RenameError → Crossing → Type 0
+ChangedCrosses (Ok bytes) x = Delivers bytes.items Done 0 x
+ChangedCrosses (Err error.NoKey) x = RefusesCall NoKey 0 x
+ChangedCrosses (Err (error.KeyTaken number)) x = RefusesCall KeyTaken number x
+ChangedCrosses (Err (error.Source e)) x = Fails e x
 
 -- A renaming returned a result, and the result crosses.
 abbrev pub GivesRenamed : Encoding → Flags → List ℕ → List ℕ → List ℕ → Crossing → Type 0
 GivesRenamed e f source old new x =
-    (outcome : Result (Vec ℕ) RenameError) × IsGivenBy (λ o. RenamesKey o source old new) e f outcome × RenamedCrosses outcome x
+    (outcome : Result (Vec ℕ) RenameError) × IsGivenBy (λ o. RenamesKey o source old new) e f outcome × ChangedCrosses outcome x
 
 abbrev pub RenamesAcross : List ℕ → ℕ → ℕ → List ℕ → List ℕ → Crossing → Type 0
 RenamesAcross source encoding flags old new x =
@@ -46,7 +46,7 @@ RenamesAcross source encoding flags old new x =
 
 abbrev pub GivesCommented : Encoding → Flags → List ℕ → List ℕ → List ℕ → Crossing → Type 0
 GivesCommented e f source key text x =
-    (outcome : Result (Vec ℕ) RenameError) × IsGivenBy (λ o. SetsComment o source key text) e f outcome × RenamedCrosses outcome x
+    (outcome : Result (Vec ℕ) RenameError) × IsGivenBy (λ o. SetsComment o source key text) e f outcome × ChangedCrosses outcome x
 
 abbrev pub SetsAcross : List ℕ → ℕ → ℕ → List ℕ → List ℕ → Crossing → Type 0
 SetsAcross source encoding flags key text x =

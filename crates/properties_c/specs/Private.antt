@@ -1,2 +1,3 @@
 pub mod Lists
 pub mod Results
+pub mod KeyCalls

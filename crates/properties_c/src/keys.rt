@@ -7,13 +7,11 @@ ghost use Rattle.properties_format.specs.Text.{line_feed};
 ghost use Rattle.properties_items.specs.Texts.{characters};
 ghost use Rattle.properties_text.specs.Encoding.{encoding_of};
 ghost use Rattle.properties_c.specs.Crossing.{crossing};
-ghost use Rattle.properties_c.specs.Keys.{RemovesAcross, RenamedCrosses, RenamesAcross, SetsAcross, TellsAcross, TellsCommentLines, text_line};
+ghost use Rattle.properties_c.specs.Keys.{ChangedCrosses, CommentCrosses, RemovesAcross, RenamesAcross, SetsAcross, TellsAcross, TellsCommentLines, text_line};
 
-use crate::encoding::{
-    FOR_COMMENTS, FOR_EDITS, FOR_KEYS, encoding_numbered, flags_numbered, options_for, text_of,
-};
-use crate::out::{fail, refuse, refuse_source, set_outputs, write_bytes, write_result};
-use crate::sound::refused_line;
+use crate::encoding::{FOR_COMMENTS, FOR_EDITS, FOR_KEYS};
+use crate::key_call::{KeyCall, NO_TEXT};
+use crate::out::{fail, refuse, refuse_call, set_outputs, write_bytes, write_result};
 use crate::status::Status;
 use java_properties::{
     Encoding, PropertiesError, RenameError, comment_of, remove_with_comment, rename_key,
@@ -37,23 +35,19 @@ pub extern "C" fn todrenval_rename_key(
     ensures { let x = crossing out.old result length.new line.new out.new in
         RenamesAcross source.now encoding flags old.now new.now x }
 {
-    let Some(encoding) = encoding_numbered(encoding) else {
-        return refuse(Status::UnknownEncoding, length, line);
+    let call = KeyCall {
+        source,
+        encoding,
+        flags,
+        key: old,
+        text: new,
     };
-    let Some(flags) = flags_numbered(flags, FOR_EDITS) else {
-        return refuse(Status::UnknownFlags, length, line);
+    let asked = match call.asked(FOR_EDITS) {
+        Ok(asked) => asked,
+        Err(refusal) => return refuse_call(refusal, length, line),
     };
-    let Some(old) = text_of(old) else {
-        return refuse(Status::NotUtf8, length, line);
-    };
-    let Some(new) = text_of(new) else {
-        return refuse(Status::NotUtf8, length, line);
-    };
-    if let Some(number) = refused_line(flags.strict, source, encoding) {
-        return refuse_source(number, length, line);
-    }
-    let renamed = rename_key(alloc, source, options_for(encoding, flags), old, new);
-    write_renamed(renamed, out, length, line)
+    let renamed = rename_key(alloc, source, asked.options, asked.key, asked.text);
+    write_changed(renamed, out, length, line)
 }
 
 /// Gives the source with the comment of a key set: a comment line directly above the last pair with it for each line of
@@ -73,33 +67,29 @@ pub extern "C" fn todrenval_set_comment(
     ensures { let x = crossing out.old result length.new line.new out.new in
         SetsAcross source.now encoding flags key.now text.now x }
 {
-    let Some(encoding) = encoding_numbered(encoding) else {
-        return refuse(Status::UnknownEncoding, length, line);
+    let call = KeyCall {
+        source,
+        encoding,
+        flags,
+        key,
+        text,
     };
-    let Some(flags) = flags_numbered(flags, FOR_EDITS) else {
-        return refuse(Status::UnknownFlags, length, line);
+    let asked = match call.asked(FOR_EDITS) {
+        Ok(asked) => asked,
+        Err(refusal) => return refuse_call(refusal, length, line),
     };
-    let Some(key) = text_of(key) else {
-        return refuse(Status::NotUtf8, length, line);
-    };
-    let Some(text) = text_of(text) else {
-        return refuse(Status::NotUtf8, length, line);
-    };
-    if let Some(number) = refused_line(flags.strict, source, encoding) {
-        return refuse_source(number, length, line);
-    }
-    let commented = set_comment(alloc, source, options_for(encoding, flags), key, text);
-    write_renamed(commented, out, length, line)
+    let commented = set_comment(alloc, source, asked.options, asked.key, asked.text);
+    write_changed(commented, out, length, line)
 }
 
 // Answers with the bytes that a renaming or a new comment gave, or with why it gave none.
-fn write_renamed(
+fn write_changed(
     outcome: Result<Vec<u8>, RenameError>,
     out: &mut [u8],
     length: &mut usize,
     line: &mut usize,
 ) -> i32
-    ensures { RenamedCrosses outcome (crossing out.old result length.new line.new out.new) }
+    ensures { ChangedCrosses outcome (crossing out.old result length.new line.new out.new) }
 {
     match outcome {
         Ok(bytes) => write_bytes(&bytes, out, length, line),
@@ -126,19 +116,18 @@ pub extern "C" fn todrenval_remove_with_comment(
     ensures { let x = crossing out.old result length.new line.new out.new in
         RemovesAcross source.now encoding flags key.now x }
 {
-    let Some(encoding) = encoding_numbered(encoding) else {
-        return refuse(Status::UnknownEncoding, length, line);
+    let call = KeyCall {
+        source,
+        encoding,
+        flags,
+        key,
+        text: NO_TEXT,
     };
-    let Some(flags) = flags_numbered(flags, FOR_KEYS) else {
-        return refuse(Status::UnknownFlags, length, line);
+    let asked = match call.asked(FOR_KEYS) {
+        Ok(asked) => asked,
+        Err(refusal) => return refuse_call(refusal, length, line),
     };
-    let Some(key) = text_of(key) else {
-        return refuse(Status::NotUtf8, length, line);
-    };
-    if let Some(number) = refused_line(flags.strict, source, encoding) {
-        return refuse_source(number, length, line);
-    }
-    let removed = remove_with_comment(alloc, source, options_for(encoding, flags), key);
+    let removed = remove_with_comment(alloc, source, asked.options, asked.key);
     write_result(removed, out, length, line)
 }
 
@@ -158,19 +147,31 @@ pub extern "C" fn todrenval_comment(
     ensures { let x = crossing out.old result length.new line.new out.new in
         TellsAcross source.now encoding flags key.now x }
 {
-    let Some(encoding) = encoding_numbered(encoding) else {
-        return refuse(Status::UnknownEncoding, length, line);
+    let call = KeyCall {
+        source,
+        encoding,
+        flags,
+        key,
+        text: NO_TEXT,
     };
-    let Some(flags) = flags_numbered(flags, FOR_COMMENTS) else {
-        return refuse(Status::UnknownFlags, length, line);
+    let asked = match call.asked(FOR_COMMENTS) {
+        Ok(asked) => asked,
+        Err(refusal) => return refuse_call(refusal, length, line),
     };
-    let Some(key) = text_of(key) else {
-        return refuse(Status::NotUtf8, length, line);
-    };
-    if let Some(number) = refused_line(flags.strict, source, encoding) {
-        return refuse_source(number, length, line);
-    }
-    match comment_lines(alloc, source, encoding, key) {
+    let lines = comment_lines(alloc, source, asked.options.encoding, asked.key);
+    write_comment(lines, out, length, line)
+}
+
+// Answers with the lines of a comment, or with why there are none.
+fn write_comment(
+    lines: Result<Option<Vec<u8>>, PropertiesError>,
+    out: &mut [u8],
+    length: &mut usize,
+    line: &mut usize,
+) -> i32
+    ensures { CommentCrosses lines (crossing out.old result length.new line.new out.new) }
+{
+    match lines {
         Ok(Some(lines)) => write_bytes(&lines, out, length, line),
         Ok(None) => refuse(Status::NoKey, length, line),
         Err(error) => fail(&error, length, line),

@@ -20,6 +20,7 @@ pub mod edit;
 mod encoding;
 mod findings;
 mod items;
+mod key_call;
 pub mod keys;
 pub mod label;
 mod lists;

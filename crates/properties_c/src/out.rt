@@ -3,9 +3,11 @@
 ghost use Rattle.std.specs.Prelude.{◌≡◌};
 ghost use Rattle.properties_c.specs.Statuses.{error_line, status_of_kind};
 ghost use Rattle.properties_c.specs.Crossing.{crossing, AnswersCall, Crosses, Delivers};
+ghost use Rattle.properties_c.specs.Private.KeyCalls.{refusal_line, refusal_status};
 ghost use Rattle.properties_c.specs.declared.status.Status.TheVariants.{Done, NoRoom, NotText};
 ghost use Rattle.properties_items.specs.Errors.{kind_of};
 
+use crate::key_call::Refusal;
 use crate::status::{Status, number_of, status_of};
 use java_properties::PropertiesError;
 
@@ -36,6 +38,16 @@ pub fn refuse_source(number: usize, length: &mut usize, line: &mut usize) -> i32
     ensures { AnswersCall NotText 0 number result length.new line.new }
 {
     set_outputs(Status::NotText, 0, number, length, line)
+}
+
+/// Returns why a call is refused.
+pub fn refuse_call(refusal: Refusal, length: &mut usize, line: &mut usize) -> i32
+    ensures { AnswersCall (refusal_status refusal) 0 (refusal_line refusal) result length.new line.new }
+{
+    match refusal {
+        Refusal::Arguments(status) => refuse(status, length, line),
+        Refusal::Source(number) => refuse_source(number, length, line),
+    }
 }
 
 /// Returns `NoRoom` with the size that is needed.

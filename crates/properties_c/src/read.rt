@@ -2,18 +2,21 @@
 
 ghost use Rattle.properties_c.specs.Crossing.{crossing};
 ghost use Rattle.properties_c.specs.Items.{ItemsAcross};
-ghost use Rattle.properties_c.specs.Reading.{FindingsAcross, GetsAcross};
+ghost use Rattle.properties_c.specs.Reading.{FindingsAcross, GetsAcross, ValueCrosses};
 
 use crate::asked::asked_numbered;
-use crate::encoding::{FOR_KEYS, encoding_numbered, flags_numbered, options_for, text_of};
+use crate::encoding::{FOR_KEYS, encoding_numbered};
 use crate::findings::findings_in;
 use crate::items::items_in;
-use crate::out::{fail, refuse, refuse_source, write_bytes, write_result, write_up_to};
+use crate::key_call::{KeyCall, NO_TEXT};
+use crate::out::{
+    fail, refuse, refuse_call, refuse_source, write_bytes, write_result, write_up_to,
+};
 use crate::part::give_part;
 use crate::sound::refused_line;
 use crate::spans::spanned_items;
 use crate::status::Status;
-use java_properties::value_with;
+use java_properties::{PropertiesError, value_with};
 use std::alloc::Global;
 
 /// Gives the value of a key: that of the last pair with it.
@@ -31,19 +34,31 @@ pub extern "C" fn todrenval_get(
     ensures { let x = crossing out.old result length.new line.new out.new in
         GetsAcross source.now encoding flags key.now x }
 {
-    let Some(encoding) = encoding_numbered(encoding) else {
-        return refuse(Status::UnknownEncoding, length, line);
+    let call = KeyCall {
+        source,
+        encoding,
+        flags,
+        key,
+        text: NO_TEXT,
     };
-    let Some(flags) = flags_numbered(flags, FOR_KEYS) else {
-        return refuse(Status::UnknownFlags, length, line);
+    let asked = match call.asked(FOR_KEYS) {
+        Ok(asked) => asked,
+        Err(refusal) => return refuse_call(refusal, length, line),
     };
-    let Some(key) = text_of(key) else {
-        return refuse(Status::NotUtf8, length, line);
-    };
-    if let Some(number) = refused_line(flags.strict, source, encoding) {
-        return refuse_source(number, length, line);
-    }
-    match value_with(alloc, source, options_for(encoding, flags), key) {
+    let value = value_with(alloc, source, asked.options, asked.key);
+    write_value(value, out, length, line)
+}
+
+// Answers with a value, or with why there is none.
+fn write_value(
+    value: Result<Option<String>, PropertiesError>,
+    out: &mut [u8],
+    length: &mut usize,
+    line: &mut usize,
+) -> i32
+    ensures { ValueCrosses value (crossing out.old result length.new line.new out.new) }
+{
+    match value {
         Ok(Some(value)) => write_bytes(value.as_str().as_bytes(), out, length, line),
         Ok(None) => refuse(Status::NoKey, length, line),
         Err(error) => fail(&error, length, line),

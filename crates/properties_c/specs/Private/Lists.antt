@@ -1,5 +1,5 @@
 -- What taking a packed list apart returns.
-use Rattle.std.specs.Prelude.{◌≡◌, ◌+◌, ◌++◌, ℕ, List, length, ◌<◌, ◌^◌, Option, Some, None, Result, Ok, Err}
+use Rattle.std.specs.Prelude.{◌≡◌, ◌++◌, ℕ, List, length, ◌<◌, ◌^◌, Option, Some, None, Result, Ok, Err}
 use Rattle.properties_c.specs.Packed.{number_bytes, IsPackedText, Meaning, edits, lines, IsPackedList, IsBadList, LacksText, HasNoRecord, HasNoText, Record, packed, record_in, IsSized}
 use Rattle.properties_c.specs.declared.lists.Line.{Line}
 use Rattle.properties_c.specs.declared.lists.Line.TheVariants.{Comment, Pair}

@@ -1,71 +1,20 @@
-use Rattle.std.proofs.Common.{refl, rules, inl, inr, None, Some}
-use Rattle.std.specs.Prelude.{Ok, Err}
+use Rattle.std.proofs.Common.{◌≡◌, refl, subst, rules, to_z, of_z, w32}
+use Rattle.std.specs.Str.{chars}
 use Rattle.properties_text.specs.Encoding.{encoding_of}
+use Rattle.properties_c.specs.Keys.{GivesComment, TellsCommentLines}
+use Rattle.properties_c.proofs.AnsweredCalls.{key-answered, key-refused}
 use Rattle.properties_c.proofs.keys.todrenval_comment.Goals as goal
-
-pub returns-in-Ok-Some : goal.returns-in-Ok-Some
-returns-in-Ok-Some c =
-    inl (
-      encoding_of c.in-Some.encoding,
-      search rules,
-      inl (
-        c.in-Some-flags_numbered.flags,
-        search rules,
-        inl (search rules, inl (c.in_default-refused_line.ensures, (Ok (Some c.in-Ok-Some.lines), search rules, search rules))),
-      ),
-    )
-
-pub returns-in-Ok-None : goal.returns-in-Ok-None
-returns-in-Ok-None c =
-    inl (
-      encoding_of c.in-Some.encoding,
-      search rules,
-      inl (
-        c.in-Some-flags_numbered.flags,
-        search rules,
-        inl (search rules, inl (c.in_default-refused_line.ensures, (Ok None, search rules, record { answers = search rules; kept = refl }))),
-      ),
-    )
 
 pub returns-in-Err : goal.returns-in-Err
 returns-in-Err c =
-    inl (
-      encoding_of c.in-Some.encoding,
-      search rules,
-      inl (
-        c.in-Some-flags_numbered.flags,
-        search rules,
-        inl (search rules, inl (c.in_default-refused_line.ensures, (Err c.in-Err.error, search rules, record { answers = search rules; kept = refl }))),
-      ),
-    )
+    let plain : to_z w32 (of_z w32 c.refuse_call.result) ≡ c.refuse_call.result = search rules in
+    rw plain (key-refused _ _ _ (λ x e f k. GivesComment e c.args.source.now k x) c.in-Err.refusal c.in-Err.ensures (record { answers = c.refuse_call.ensures; kept = refl }) refl)
 
-pub returns-in_default-text_of : goal.returns-in_default-text_of
-returns-in_default-text_of c =
-    inl (
-      encoding_of c.in-Some.encoding,
-      search rules,
-      inl (
-        c.in-Some-flags_numbered.flags,
-        search rules,
-        inr (search rules, record { answers = search rules; kept = refl }),
-      ),
-    )
-
-pub returns-in-Some-refused_line : goal.returns-in-Some-refused_line
-returns-in-Some-refused_line c =
-    inl (
-      encoding_of c.in-Some.encoding,
-      search rules,
-      inl (
-        c.in-Some-flags_numbered.flags,
-        search rules,
-        inl (
-          search rules,
-          inr (
-            c.in-Some-refused_line.number,
-            c.in-Some-refused_line.ensures,
-            record { answers = search rules; kept = refl },
-          ),
-        ),
-      ),
-    )
+pub returns : goal.returns
+returns c =
+    let a = c.in-Ok.asked in
+    let h = c.in-Ok.ensures in
+    let outcome = c.comment_lines-lines.result in
+    let tells = subst (λ o. TellsCommentLines (encoding_of o.encoding) c.args.source.now (chars a.key.now) outcome) h.options c.comment_lines-lines.ensures in
+    let plain : to_z w32 (of_z w32 c.write_comment.result) ≡ c.write_comment.result = search rules in
+    rw plain (key-answered _ _ _ (λ x e f k. GivesComment e c.args.source.now k x) a h (outcome, tells, c.write_comment.ensures))

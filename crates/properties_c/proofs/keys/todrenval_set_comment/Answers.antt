@@ -1,79 +1,20 @@
-use Rattle.std.proofs.Common.{refl, rules, subst, inl, inr}
+use Rattle.std.proofs.Common.{◌≡◌, refl, subst, rules, to_z, of_z, w32}
 use Rattle.std.specs.Str.{chars}
-use Rattle.properties_text.specs.Encoding.{encoding_of}
 use Rattle.properties_renaming.specs.Commenting.{SetsComment}
+use Rattle.properties_c.specs.Keys.{GivesCommented}
+use Rattle.properties_c.proofs.AnsweredCalls.{texts-answered, texts-refused}
 use Rattle.properties_c.proofs.keys.todrenval_set_comment.Goals as goal
+
+pub returns-in-Err : goal.returns-in-Err
+returns-in-Err c =
+    let plain : to_z w32 (of_z w32 c.refuse_call.result) ≡ c.refuse_call.result = search rules in
+    rw plain (texts-refused _ _ _ (λ x e f k t. GivesCommented e f c.args.source.now k t x) c.in-Err.refusal c.in-Err.ensures (record { answers = c.refuse_call.ensures; kept = refl }))
 
 pub returns : goal.returns
 returns c =
-    let source = c.args.source.now in
-    let key = chars c.args.key.now in
-    let text = chars c.args.text.now in
-    inl (
-      encoding_of c.in-Some.encoding,
-      search rules,
-      inl (
-        c.in-Some-flags_numbered.flags,
-        search rules,
-        inl (
-          search rules,
-          inl (
-            search rules,
-            inl (
-              c.in_default-refused_line.ensures,
-              (
-                c.set_comment-commented.result,
-                (c.in-Some.encoding, refl, subst (λ o. SetsComment o source key text c.set_comment-commented.result) c.options_for.ensures (search rules)),
-                search rules,
-              ),
-            ),
-          ),
-        ),
-      ),
-    )
-
-pub returns-in_default-text_of : goal.returns-in_default-text_of
-returns-in_default-text_of c =
-    inl (
-      encoding_of c.in-Some.encoding,
-      search rules,
-      inl (
-        c.in-Some-flags_numbered.flags,
-        search rules,
-        inr (search rules, record { answers = search rules; kept = refl }),
-      ),
-    )
-
-pub returns-in_default-text_of-2 : goal.returns-in_default-text_of-2
-returns-in_default-text_of-2 c =
-    inl (
-      encoding_of c.in-Some.encoding,
-      search rules,
-      inl (
-        c.in-Some-flags_numbered.flags,
-        search rules,
-        inl (search rules, inr (search rules, record { answers = search rules; kept = refl })),
-      ),
-    )
-
-pub returns-in-Some-refused_line : goal.returns-in-Some-refused_line
-returns-in-Some-refused_line c =
-    inl (
-      encoding_of c.in-Some.encoding,
-      search rules,
-      inl (
-        c.in-Some-flags_numbered.flags,
-        search rules,
-        inl (
-          search rules,
-          inl (
-            search rules,
-            inr (
-              c.in-Some-refused_line.number,
-              c.in-Some-refused_line.ensures,
-              record { answers = search rules; kept = refl },
-            ),
-          ),
-        ),
-      ),
-    )
+    let a = c.in-Ok.asked in
+    let h = c.in-Ok.ensures in
+    let outcome = c.set_comment-commented.result in
+    let gives = subst (λ o. SetsComment o c.args.source.now (chars a.key.now) (chars a.text.now) outcome) h.options c.set_comment-commented.ensures in
+    let plain : to_z w32 (of_z w32 c.write_changed.result) ≡ c.write_changed.result = search rules in
+    rw plain (texts-answered _ _ _ (λ x e f k t. GivesCommented e f c.args.source.now k t x) a h (outcome, (h.encoding, refl, gives), c.write_changed.ensures))
