@@ -1,11 +1,15 @@
 -- How the keys that only one of two tables has are computed.
 use Rattle.std.specs.Prelude.{ℕ, ◌&&◌, not, bytes_eq, if◌then◌else◌, Bool, true, false, List, [], ◌∷◌, filter, string_bytes}
+use Rattle.json.specs.Json.{Json}
 use Rattle.java_properties.specs.Findings.{KeyPlace}
 use Rattle.properties_tables.specs.Private.Table.{place_keys, table_places, IsKeyTable}
 use Rattle.properties_tools.specs.Propedit.Against.{is_compared, missing_line, missing_value, surplus_line, surplus_value, KnownBase}
 use Rattle.properties_checking.specs.Private.Objects.{AddsReport}
 use Rattle.properties_checking.specs.Kinds.{reported}
+use Rattle.properties_tools.specs.declared.propedit.against.LackingKey.{LackingKey}
+use Rattle.properties_tools.specs.declared.propedit.against.LackingKey.TheVariants.{Missing, Surplus}
 use Rattle.properties_tools.specs.declared.propedit.against.Sides.{Sides}
+use Rattle.properties_checking.specs.declared.kinds.Kind.{Kind}
 use Rattle.properties_checking.specs.declared.kinds.Kind.TheVariants.{MissingKey, SurplusKey}
 use Rattle.std.specs.Global.{Global}
 use Rattle.std.specs.declared.string.String.{String}
@@ -38,19 +42,30 @@ lacking are_well_formed keys places = filter (λ p. is_lacking are_well_formed k
 
 pub record HaveTables (s : Sides) : Type 0 where
   pub keys : IsKeyTable s.keys.now
-  pub base_keys : IsKeyTable s.base_keys.now
+  pub others : IsKeyTable s.others.now
 
-abbrev pub missing_places : Sides → List KeyPlace
-missing_places s = reported s.heading.ignored (λ p. MissingKey) (lacking s.are_well_formed (place_keys (table_places s.keys.now)) (table_places s.base_keys.now))
+abbrev pub lacking_kind : LackingKey → Kind
+lacking_kind Missing = MissingKey
+lacking_kind Surplus = SurplusKey
 
-abbrev pub surplus_places : Sides → List KeyPlace
-surplus_places s = reported s.heading.ignored (λ p. SurplusKey) (lacking s.are_well_formed (place_keys (table_places s.base_keys.now)) (table_places s.keys.now))
+-- the places of the keys that are lacking among the others, unless that is ignored
+abbrev pub lacking_places : Sides → List KeyPlace
+lacking_places s =
+    reported s.heading.ignored (λ p. lacking_kind s.lacking) (lacking s.are_well_formed (place_keys (table_places s.others.now)) (table_places s.keys.now))
 
--- What is said of these keys of a base that are missing was added, and of these of a source that are surplus.
-abbrev pub AddsMissing : Sides → List KeyPlace → String Global → String Global → Type 0
-AddsMissing s places old new =
-    AddsReport s.heading.report (missing_line s.heading.name.now s.base_name.now) (missing_value s.heading.name.now s.base_name.now) places old new
+-- the line and the object of a key, under the names of the source and of the base
+abbrev pub lacking_line : LackingKey → List ℕ → List ℕ → KeyPlace → List ℕ
+lacking_line Missing = missing_line
+lacking_line Surplus = surplus_line
 
-abbrev pub AddsSurplus : Sides → List KeyPlace → String Global → String Global → Type 0
-AddsSurplus s places old new =
-    AddsReport s.heading.report (surplus_line s.heading.name.now s.base_name.now) (surplus_value s.heading.name.now s.base_name.now) places old new
+abbrev pub lacking_value : LackingKey → List ℕ → List ℕ → KeyPlace → Json
+lacking_value Missing = missing_value
+lacking_value Surplus = surplus_value
+
+-- What is said of these keys was added.
+abbrev pub AddsLacking : LackingKey → Sides → List KeyPlace → String Global → String Global → Type 0
+AddsLacking lacks s places old new =
+    AddsReport s.heading.report (lacking_line lacks s.heading.name.now s.base_name.now) (lacking_value lacks s.heading.name.now s.base_name.now) places old new
+
+abbrev pub key_place : List ℕ → ℕ → KeyPlace
+key_place key line = record { key = key; number = line }

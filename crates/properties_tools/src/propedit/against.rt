@@ -1,11 +1,10 @@
 // The keys of a source, beside those of a base.
 
-ghost use Rattle.std.specs.Prelude.{◌≡◌, ◌<◌, ◌&&◌, ◌∷◌, [], get_or, length, OnOk};
+ghost use Rattle.std.specs.Prelude.{◌≡◌, ◌&&◌, ◌∷◌, [], OnOk};
 ghost use Rattle.std.specs.Str.{chars};
-ghost use Rattle.java_properties.specs.Findings.{KeyPlace};
 ghost use Rattle.properties_text.specs.Encoding.{encoding_of};
 ghost use Rattle.properties_tools.specs.Propedit.{ChecksAgainst, ChecksBase};
-ghost use Rattle.properties_tools.specs.Private.Lacking.{is_lacking, missing_places, surplus_places, AddsMissing, AddsSurplus, HaveTables};
+ghost use Rattle.properties_tools.specs.Private.Lacking.{is_lacking, lacking_kind, lacking_places, key_place, AddsLacking, HaveTables};
 ghost use Rattle.properties_tables.specs.Private.Table.{place_keys, table_places, IsKeyTable};
 
 use crate::propedit::answer::{Answer, reported};
@@ -99,19 +98,26 @@ pub fn check_against<'a>(
         keys,
         is_well_formed,
     } = checked(alloc, source.name, source.bytes, encoding, asked)?;
-    let sides = Sides {
+    let surplus = Sides {
         heading: Heading {
             name: source.name,
             report: asked.report,
             ignored: asked.ignored,
         },
-        keys: &keys,
         base_name: base.name.as_str(),
-        base_keys: &base.keys,
+        lacking: LackingKey::Surplus,
+        keys: &keys,
+        others: &base.keys,
         are_well_formed: are_well_formed(base, is_well_formed),
     };
-    push_missing(alloc, &mut text, &sides)?;
-    push_surplus(alloc, &mut text, &sides)?;
+    let missing = Sides {
+        lacking: LackingKey::Missing,
+        keys: &base.keys,
+        others: &keys,
+        ..surplus
+    };
+    push_lacking(alloc, &mut text, &missing)?;
+    push_lacking(alloc, &mut text, &surplus)?;
     Ok(reported(alloc, text, asked.quiet))
 }
 
@@ -122,44 +128,51 @@ fn are_well_formed(base: &Base, is_well_formed: bool) -> bool
     base.is_well_formed && is_well_formed
 }
 
-// The keys of a source, those of a base, and how what only one of them has is printed.
+// What a key is that only one of a source and its base has.
+#[derive(Clone, Copy)]
+enum LackingKey {
+    // One of the base.
+    Missing,
+    // One of the source.
+    Surplus,
+}
+
+impl LackingKey {
+    fn kind(self) -> Kind
+        ensures { result ≡ lacking_kind self }
+    {
+        match self {
+            LackingKey::Missing => Kind::MissingKey,
+            LackingKey::Surplus => Kind::SurplusKey,
+        }
+    }
+}
+
+// The keys of a source or of its base, those of the other one, and how what is lacking there is printed.
 #[derive(Clone, Copy)]
 struct Sides<'a> {
     heading: Heading<'a>,
-    keys: &'a KeyTable,
     base_name: &'a str,
-    base_keys: &'a KeyTable,
+    // What a key is that is lacking among the others.
+    lacking: LackingKey,
+    keys: &'a KeyTable,
+    others: &'a KeyTable,
     // Whether no line of either is ill-formed.
     are_well_formed: bool,
 }
 
-// Appends what is said of each key of a base that is lacking in a source, unless that is ignored.
-fn push_missing(alloc: Global, text: &mut String, sides: &Sides<'_>) -> Result<(), AllocError>
+// Appends what is said of each key that is lacking among the others, unless that is ignored.
+fn push_lacking(alloc: Global, text: &mut String, sides: &Sides<'_>) -> Result<(), AllocError>
     requires { HaveTables sides.now }
-    ensures { OnOk result (AddsMissing sides.now (missing_places sides.now) text.old text.new) }
+    ensures { OnOk result (AddsLacking sides.now.lacking sides.now (lacking_places sides.now) text.old text.new) }
 {
-    if sides.heading.ignored.contains(Kind::MissingKey) {
-        return Ok(());
-    }
-    for row in 0..sides.base_keys.len() {
-        if is_lacking(sides.base_keys.key(row), sides.keys, sides.are_well_formed) {
-            push_missing_row(alloc, text, sides, row)?;
-        }
-    }
-    Ok(())
-}
-
-// Appends what is said of each key of a source that is lacking in a base, unless that is ignored.
-fn push_surplus(alloc: Global, text: &mut String, sides: &Sides<'_>) -> Result<(), AllocError>
-    requires { HaveTables sides.now }
-    ensures { OnOk result (AddsSurplus sides.now (surplus_places sides.now) text.old text.new) }
-{
-    if sides.heading.ignored.contains(Kind::SurplusKey) {
+    if sides.heading.ignored.contains(sides.lacking.kind()) {
         return Ok(());
     }
     for row in 0..sides.keys.len() {
-        if is_lacking(sides.keys.key(row), sides.base_keys, sides.are_well_formed) {
-            push_surplus_row(alloc, text, sides, row)?;
+        let key = sides.keys.key(row);
+        if is_lacking(key, sides.others, sides.are_well_formed) {
+            push_key(alloc, text, sides, key, sides.keys.first_line(row))?;
         }
     }
     Ok(())
@@ -174,20 +187,33 @@ fn is_lacking(key: &str, keys: &KeyTable, are_well_formed: bool) -> bool
     keys.find(key).is_none() && (are_well_formed || !may_stand_for_bytes(key))
 }
 
-// Appends what is said of a key that is missing, which has this row of the base.
+// Appends what is said of a key that is lacking, whose first pair begins in this line.
 #[inline(never)]
-fn push_missing_row(
+fn push_key<'a>(
     alloc: Global,
     text: &mut String,
-    sides: &Sides<'_>,
-    row: usize,
+    sides: &Sides<'a>,
+    key: &'a str,
+    line: usize,
 ) -> Result<(), AllocError>
-    requires tables { HaveTables sides.now }
-    requires within { row < length (table_places sides.now.base_keys.now) }
-    ensures { OnOk result ((d : KeyPlace) → AddsMissing sides.now (get_or (table_places sides.now.base_keys.now) row d ∷ []) text.old text.new) }
+    ensures { OnOk result (AddsLacking sides.now.lacking sides.now (key_place (chars key.now) line ∷ []) text.old text.new) }
 {
-    let key = sides.base_keys.key(row);
-    let base_line = sides.base_keys.first_line(row);
+    match sides.lacking {
+        LackingKey::Missing => push_missing(alloc, text, sides, key, line),
+        LackingKey::Surplus => push_surplus(alloc, text, sides, key, line),
+    }
+}
+
+// Appends what is said of a key of the base.
+fn push_missing<'a>(
+    alloc: Global,
+    text: &mut String,
+    sides: &Sides<'a>,
+    key: &'a str,
+    base_line: usize,
+) -> Result<(), AllocError>
+    ensures { OnOk result (AddsLacking LackingKey.Missing sides.now (key_place (chars key.now) base_line ∷ []) text.old text.new) }
+{
     let name = Escaped(sides.heading.name);
     let words = MissingKey {
         key,
@@ -212,20 +238,16 @@ fn push_missing_row(
     Ok(())
 }
 
-// Appends what is said of a key that the base lacks, which has this row of the source.
-#[inline(never)]
-fn push_surplus_row(
+// Appends what is said of a key of the source.
+fn push_surplus<'a>(
     alloc: Global,
     text: &mut String,
-    sides: &Sides<'_>,
-    row: usize,
+    sides: &Sides<'a>,
+    key: &'a str,
+    line: usize,
 ) -> Result<(), AllocError>
-    requires tables { HaveTables sides.now }
-    requires within { row < length (table_places sides.now.keys.now) }
-    ensures { OnOk result ((d : KeyPlace) → AddsSurplus sides.now (get_or (table_places sides.now.keys.now) row d ∷ []) text.old text.new) }
+    ensures { OnOk result (AddsLacking LackingKey.Surplus sides.now (key_place (chars key.now) line ∷ []) text.old text.new) }
 {
-    let key = sides.keys.key(row);
-    let line = sides.keys.first_line(row);
     let name = Escaped(sides.heading.name);
     let words = SurplusKey {
         key,

@@ -7,13 +7,13 @@ use Rattle.properties_tools.proofs.propedit.against.check_against.Goals as goal
 pub returns : goal.returns
 returns c =
     let r : Reported = c.in_ok-text.field-0 in
-    let missing = rw c.as_str.ensures.value at c.in_ok-push_missing.ensures in
-    let surplus = rw c.as_str.ensures.value at c.in_ok-push_surplus.ensures in
+    let missing = rw c.as_str.ensures.value at c.in_ok-push_lacking.ensures in
+    let surplus = rw c.as_str.ensures.value at c.in_ok-push_lacking-2.ensures in
     let both = rw (← c.base.view_is) at c.are_well_formed.ensures in
     record {
       report = _;
       is_report = rw (← c.base.view_is) (said-against c.args.source.name.now (encoding_of c.args.encoding) c.args.asked c.args.source.bytes.now r c.in_ok-text.ensures
-          (known_base c.base.inside) c.are_well_formed.result c.push_missing.new.text c.push_surplus.new.text both missing surplus);
+          (known_base c.base.inside) c.are_well_formed.result c.push_lacking.new.text c.push_lacking-2.new.text both missing surplus);
       text = c.reported.ensures.text;
       status = c.reported.ensures.status;
     }

@@ -1,57 +1,29 @@
-use Rattle.std.proofs.Common.{◌≡◌, ◌<◌, ◌≤◌, ◌∙◌, ap, arith, length, subst, sym, take}
-use Rattle.std.specs.Prelude.{get_or}
-use Rattle.std.proofs.lemmas.List.{get_or_default, take_all}
-use Rattle.properties_tools.specs.Private.Lacking.{is_lacking, lacking, AddsSurplus}
-use Rattle.properties_tables.specs.Private.Table.{place_keys, table_places}
-use Rattle.properties_tools.specs.Propedit.Against.{surplus_line, surplus_value}
-use Rattle.properties_tools.specs.declared.propedit.against.Sides.{Sides}
+use Rattle.std.proofs.Common.{◌≡◌, ℕ, List, ◌∙◌, codes, refl, subst, sym}
+use Rattle.std.specs.Prelude.{decimal, encode_utf8_all}
+use Rattle.std.specs.Str.{chars}
+use Rattle.std.proofs.lemmas.Str.{encodes-chars}
+use Rattle.json.specs.Json.{member, no_members, number, object, string}
+use Rattle.java_properties.specs.Findings.{KeyPlace}
+use Rattle.properties_tools.specs.Private.Lacking.{key_place}
+use Rattle.properties_tools.specs.Propedit.Against.{surplus_line, surplus_value, surplus_words}
+use Rattle.properties_checking.specs.Kinds.{kind_name}
 use Rattle.properties_checking.specs.declared.kinds.Kind.TheVariants.{SurplusKey}
-use Rattle.properties_checking.proofs.Json.{adds-both, adds-none}
-use Rattle.properties_tables.proofs.KeyTables.{none}
-use Rattle.properties_checking.proofs.LeftOut.{all-reported, none-reported}
-use Rattle.properties_tools.proofs.PrintedLists.{kept, left_out}
+use Rattle.properties_checking.specs.Private.Objects.{AddsJsonLine}
+use Rattle.properties_tools.specs.declared.propedit.against.Sides.{Sides}
+use Rattle.properties_checking.proofs.Json.{adds-object}
 use Rattle.properties_tools.proofs.propedit.against.push_surplus.Goals as goal
-use Rattle.properties_tools.proofs.propedit.against.push_surplus.Goals.{then-is_lacking+in_ok-push_surplus_row, else-is_lacking}
 
-pub loop-row-preserved : goal.loop-row-preserved
-loop-row-preserved c =
-    let s : Sides = c.args.sides.now in
-    let places = table_places s.keys.now in
-    let row = c.loop-row.row in
-    let lacks = is_lacking s.are_well_formed (place_keys (table_places s.base_keys.now)) in
-    let size = c.len-row-end.ensures in
-    let test = c.loop-row-test.true in
-    let within : row < length places = omega arith in
-    let place = get_or places row none in
-    let is : get_or places row place ≡ place = get_or_default places row place none within in
-    let told : lacks place.key ≡ c.is_lacking.result = ap lacks (sym (c.key.ensures none)) ∙ sym c.is_lacking.ensures in
-    elim c.if-is_lacking.branch [
-      | then-is_lacking+in_ok-push_surplus_row w ↦
-          rw (w.text-is, kept (λ p. lacks p.key) places row place within is (told ∙ w.if-is_lacking.true)) (
-          adds-both (surplus_line s.heading.name.now s.base_name.now) (surplus_value s.heading.name.now s.base_name.now) s.heading.report _ _
-          c.loop-row.invariant (w.in_ok-push_surplus_row.ensures none)
-          )
-      | else-is_lacking w ↦
-          rw (w.text-is, left_out (λ p. lacks p.key) places row place within is (told ∙ w.if-is_lacking.false)) c.loop-row.invariant
-    ]
+members : (name base : List ℕ) (p : KeyPlace) {kind k m : List ℕ} → kind ≡ kind_name SurplusKey → k ≡ encode_utf8_all p.key → m ≡ surplus_words base p.key
+    → object (member (codes "file") (string name) (member (codes "line") (number (decimal p.number)) (member (codes "kind") (string kind) (member (codes "key") (string k)
+    (member (codes "base") (string base) (member (codes "message") (string m) no_members)))))) ≡ surplus_value name base p
+members name base p is key words = rw (is, key, words) refl
 
-pub returns-then-contains : goal.returns-then-contains
-returns-then-contains c =
+pub returns-in_ok-push_object-in-Json : goal.returns-in_ok-push_object-in-Json
+returns-in_ok-push_object-in-Json c =
     let s : Sides = c.args.sides.now in
-    let told = sym c.contains.ensures ∙ c.if-contains.true in
-    subst (λ v. AddsSurplus s v c.args.text.now c.args.text.now)
-    (sym (none-reported s.heading.ignored SurplusKey (lacking s.are_well_formed (place_keys (table_places s.base_keys.now)) (table_places s.keys.now)) told))
-    (adds-none (surplus_line s.heading.name.now s.base_name.now) (surplus_value s.heading.name.now s.base_name.now) s.heading.report c.args.text.now)
-
-pub returns : goal.returns
-returns c =
-    let s : Sides = c.args.sides.now in
-    let places = table_places s.keys.now in
-    let size = c.len-row-end.ensures in
-    let test = c.loop-row-test.false in
-    let past : length places ≤ c.loop-row.row = omega arith in
-    let whole : take c.loop-row.row places ≡ places = take_all c.loop-row.row places past in
-    let told = sym c.contains.ensures ∙ c.if-contains.false in
-    subst (λ v. AddsSurplus s v c.args.text.now c.loop-row.text)
-    (sym (all-reported s.heading.ignored SurplusKey (lacking s.are_well_formed (place_keys (table_places s.base_keys.now)) places) told))
-    (rw whole at c.loop-row.invariant)
+    let name = s.heading.name.now in
+    let base = s.base_name.now in
+    let p = key_place (chars c.args.key.now) c.args.line in
+    let value = members name base p c.name.ensures (sym (encodes-chars c.args.key.now c.utf8.key)) (c.as_str.ensures.value ∙ c.in_ok-words-in-Json.ensures.ok) in
+    rw c.in-Json.is (adds-object (surplus_line name base) (surplus_value name base) p
+    (subst (λ v. AddsJsonLine v c.args.text.now c.push_object.new.text) value c.in_ok-push_object-in-Json.ensures))

@@ -1,9 +1,0 @@
-use Rattle.std.proofs.Common.{take}
-use Rattle.properties_tools.specs.Private.Lacking.{lacking, AddsSurplus}
-use Rattle.properties_tables.specs.Private.Table.{place_keys, table_places}
-use Rattle.properties_tools.proofs.propedit.against.push_surplus.Given as goal
-
-abbrev pub invariant-loop-row : goal.invariant-loop-row
-invariant-loop-row l =
-    let others = place_keys (table_places l.sides.base_keys.now) in
-    AddsSurplus l.sides (lacking l.sides.are_well_formed others (take l.row (table_places l.sides.keys.now))) l.fn.text l.text
