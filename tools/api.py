@@ -42,11 +42,12 @@ def files(crate):
     return sorted(found, key=lambda path: path.name != "lib.rt")
 
 
-def uses(path):
-    """The names that a file re-exports, each with the file of the module that it has them from."""
+def uses(path, module=""):
+    """The names that a file re-exports, or a module within it, each with the file of the module that it has them from."""
     source = source_of(path)
     folder = source if path.stem == "lib" else path.with_suffix("")
-    for use in re.findall(r"^pub use ([^;]+);", path.read_text(), re.M):
+    text = dict(modules_within(path))[module] if module else path.read_text()
+    for use in re.findall(r"^pub use ([^;]+);", text, re.M):
         modules, group = re.match(r"((?:\w+::)*)(.*)", use, re.S).groups()
         first, *rest = modules.split("::")[:-1]
         if first == "crate":
@@ -58,6 +59,11 @@ def uses(path):
         yield from ((name, of.with_suffix(".rt")) for name in re.findall(r"(\w+)\s*(?:,|\}|$)", group))
 
 
+def modules_within(path):
+    """The public modules whose braces stand in a file, each with the text between these."""
+    return [(name, re.sub("^    ", "", text, flags=re.M)) for name, text in re.findall(r"^pub mod (\w+) {\n(.*?)^}", path.read_text(), re.M | re.S)]
+
+
 def exported(crate):
     """The module from which a caller has each name that the root of the crate and its public modules re-export, by the
     name and its file, and the module of each of their files. The root is the empty text."""
@@ -66,11 +72,12 @@ def exported(crate):
     while left:
         path, module = left.pop(0)
         pages[path] = module
-        for name, of in uses(path):
-            # A module may re-export what it has from another.
-            while of and of.exists():
-                names.setdefault((name, of), module)
-                of = dict(uses(of)).get(name)
+        for inner in ["", *(name for name, _ in modules_within(path))]:
+            for name, of in uses(path, inner):
+                # A module may re-export what it has from another.
+                while of and of.exists():
+                    names.setdefault((name, of), f"{module}::{inner}".strip(":"))
+                    of = dict(uses(of)).get(name)
         folder = source if path.stem == "lib" else path.with_suffix("")
         for inner in re.findall(r"^pub mod (\w+);", path.read_text(), re.M):
             left.append((folder / (inner + ".rt"), f"{module}::{inner}".removeprefix("::")))

@@ -254,9 +254,11 @@ class Repository:
         for item in self.files[crate, file]:
             if item.kind == 'mod' and item.is_public and not item.body:
                 self.exported(crate, self.module(crate, (base + '/' if base else '') + item.name), seen)
-            elif item.kind == 'use' and item.is_public:
-                for path in paths_of(item.head):
-                    self.hand_on(crate, base, path, seen)
+            elif item.kind in ('mod', 'use') and item.is_public:
+                # A module whose braces stand here has only lines `pub use` of other crates.
+                for use in item.inner if item.kind == 'mod' else [item]:
+                    for path in paths_of(use.head):
+                        self.hand_on(crate, base, path, seen)
             elif item.is_public:
                 self.shown.add((file, item.name))
 

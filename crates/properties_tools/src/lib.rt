@@ -13,6 +13,10 @@
 
 pub mod arguments;
 pub mod filter;
-pub mod messages;
 pub mod propedit;
 pub mod propfilter;
+
+/// Prints lines on an error stream.
+pub mod messages {
+    pub use properties_tables::messages::{Escaped, print_error, print_line};
+}

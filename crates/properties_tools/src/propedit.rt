@@ -4,27 +4,63 @@ pub mod against;
 pub mod answer;
 pub mod answers;
 pub mod base_run;
-pub mod change;
-pub mod check;
 pub mod comment;
-pub mod counts;
 pub mod diff;
 pub mod diff_json;
-pub mod error;
 pub mod get;
 pub mod hint;
-pub mod ill_formed;
-pub mod in_place;
-pub mod kinds;
 pub mod list;
 pub mod list_json;
 pub mod merge;
 pub mod named;
 pub mod pairs;
 pub mod request;
-pub mod same_file;
-pub mod sound;
 pub mod streams;
+
+/// A source after a change.
+pub mod change {
+    pub use properties_changing::change::change;
+}
+
+/// What is wrong in a source, as lines.
+pub mod check {
+    pub use properties_checking::check::report;
+}
+
+/// How the pairs of a source change.
+pub mod counts {
+    pub use properties_changing::counts::{Counts, count_changes};
+}
+
+/// Why `propedit` fails, and what it prints then.
+pub mod error {
+    pub use properties_tables::error::{Failure, STANDARD_OUTPUT, TextFlaw, print_failure};
+}
+
+/// The lines of a source whose bytes are not those of a text.
+pub mod ill_formed {
+    pub use properties_tables::ill_formed::{Flaw, ill_formed_lines};
+}
+
+/// Files that are edited in place, whole or not at all.
+pub mod in_place {
+    pub use properties_changing::in_place::{ReplaceError, Target, edit_file};
+}
+
+/// The kinds of what a check finds, and those that it leaves out.
+pub mod kinds {
+    pub use properties_checking::kinds::{Ignored, Kind};
+}
+
+/// Names of the same file.
+pub mod same_file {
+    pub use properties_changing::same_file::{INPUT, refuse_output};
+}
+
+/// Refuses a source for its bytes, or for a malformed escape in a pair.
+pub mod sound {
+    pub use properties_tables::sound::{refuse_bytes, refuse_unsound};
+}
 
 ghost use Rattle.std.specs.Prelude.{◌≡◌, map};
 ghost use Rattle.counted_io.specs.Streams.{IsSameReader, IsSameSink};

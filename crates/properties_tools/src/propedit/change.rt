@@ -1,3 +1,0 @@
-// A source after a change.
-
-pub use properties_changing::change::change;

@@ -1,3 +1,0 @@
-// What is wrong in a source, as lines.
-
-pub use properties_checking::check::report;
