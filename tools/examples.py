@@ -148,7 +148,8 @@ def is_free(name, text):
     # A variant of `Call` or of `Edit` is made of texts, and not matched.
     is_made = name in ("key", "value") and "Call::Pair(key, value)" in text
     is_made = is_made or name in ("port", "price", "host", "value") and re.search(r"Edit::(Put|SetValue)\(", text)
-    return re.search(rf"(?<![.\w]){name}\b(?!\()", text) and (is_made or not is_bound)
+    # A call isn't the name that it calls, and neither is a field of a record that gets a value.
+    return re.search(rf"(?<![.\w]){name}\b(?!\(|: )", text) and (is_made or not is_bound)
 
 
 def main():
