@@ -1,7 +1,8 @@
 #!/usr/bin/env python3
-"""Compares the comments that propedit prints with those of a reader of its own, on 2,000 random files.
+"""Compares the comments that propedit prints with those of a reader of its own, on 2,000 random files, or
+on HOW_MANY of them from file FIRST on.
 
-    tests/try_comment.py PROPEDIT
+    tests/try_comment.py PROPEDIT [HOW_MANY [FIRST]]
 
 The comment of a key is all comment lines directly above its last pair. A line that a backslash before it continues is
 none, and neither is one that joining makes. A text is what follows the sign and one blank. A file with a malformed
@@ -12,7 +13,6 @@ import re
 import subprocess
 import sys
 
-HOW_MANY = 2000
 REFUSED = "refused"
 KEYS = ["a", "b", "a b", "é", "", "#"]
 BLANKS = " \t\f"
@@ -87,14 +87,13 @@ def comment(text, key):
 
 
 def main():
-    propedit = sys.argv[1]
     told = {"refused": 0, "none": 0, "empty": 0, "texts": 0}
-    for number in range(HOW_MANY):
+    for number in range(FIRST, FIRST + HOW_MANY):
         draw = random.Random(number)
         text, keys = source(draw)
         key = draw.choice(keys if keys and draw.random() < 0.8 else KEYS)
         done = subprocess.run(
-            [propedit, "comment", "--", key], input=text.encode(), stdout=subprocess.PIPE, stderr=subprocess.DEVNULL, check=False
+            [PROPEDIT, "comment", "--", key], input=text.encode(), stdout=subprocess.PIPE, stderr=subprocess.DEVNULL, check=False
         )
         texts = comment(text, key)
         wanted = (2, b"") if texts is REFUSED else (1, b"") if texts is None else (0, "".join(t + "\n" for t in texts).encode())
@@ -104,6 +103,8 @@ def main():
     print(f"{HOW_MANY} files:", ", ".join(f"{count} {what}" for what, count in told.items()))
 
 
-if len(sys.argv) != 2:
+if len(sys.argv) not in (2, 3, 4):
     sys.exit(__doc__)
+PROPEDIT = sys.argv[1]
+HOW_MANY, FIRST = [*map(int, sys.argv[2:]), *(2000, 0)[len(sys.argv) - 2 :]]
 main()

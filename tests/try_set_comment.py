@@ -1,7 +1,8 @@
 #!/usr/bin/env python3
-"""Compares what `propedit set-comment` prints with a model of its own, on 2,000 random files or as many as are named.
+"""Compares what `propedit set-comment` prints with a model of its own, on 2,000 random files, or on
+HOW_MANY of them from file FIRST on.
 
-    tests/try_set_comment.py PROPEDIT [HOW_MANY]
+    tests/try_set_comment.py PROPEDIT [HOW_MANY [FIRST]]
 
 The lines of TEXT replace the comment lines directly above the last pair with KEY, and look like the first of these that
 has a text. Every other byte stays, and no byte changes if the comment has these lines already. Then `comment` prints
@@ -285,7 +286,7 @@ def check_list(data, named, draw, fail):
 
 def main():
     told = {}
-    for number in range(HOW_MANY):
+    for number in range(FIRST, FIRST + HOW_MANY):
         draw = random.Random(number)
         named = draw.choice(ENCODINGS)
         data = drawn_file(draw, named)
@@ -309,8 +310,8 @@ def main():
     print(f"{HOW_MANY} files:", ", ".join(f"{count} {what}" for what, count in sorted(told.items())))
 
 
-if len(sys.argv) not in (2, 3):
+if len(sys.argv) not in (2, 3, 4):
     sys.exit(__doc__)
 PROPEDIT = sys.argv[1]
-HOW_MANY = int(sys.argv[2]) if len(sys.argv) == 3 else 2000
+HOW_MANY, FIRST = [*map(int, sys.argv[2:]), *(2000, 0)[len(sys.argv) - 2 :]]
 main()

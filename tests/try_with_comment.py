@@ -1,8 +1,8 @@
 #!/usr/bin/env python3
 """Compares what `propedit remove --with-comment` leaves with files that this script puts together from parts, on 2,000
-random files.
+random files, or on HOW_MANY of them from file FIRST on.
 
-    tests/try_with_comment.py PROPEDIT
+    tests/try_with_comment.py PROPEDIT [HOW_MANY [FIRST]]
 
 Each pair with the key goes, with the comment lines directly above it, and all else stays. With -x, a key that no pair has
 is refused. A list of edits gives what its edits give one after another.
@@ -11,7 +11,6 @@ import random
 import subprocess
 import sys
 
-HOW_MANY = 2000
 KEYS = ["a", "b", "é", "a b", "", "#", "\ufeffk"]
 SEPARATORS = ["=", " = ", ":\\\n  "]
 VALUES = ["", "1", "x\\\n  # y", "# no", "C:\\\\tmp", "\\u00e9"]
@@ -99,7 +98,7 @@ def check_list(groups, draw, fail):
 
 def main():
     told = {"comments": 0, "no comments": 0, "no key": 0}
-    for number in range(HOW_MANY):
+    for number in range(FIRST, FIRST + HOW_MANY):
         draw = random.Random(number)
         groups = drawn_file(draw)
         keys = [kind[0] for kind, _ in groups if isinstance(kind, list)]
@@ -109,7 +108,8 @@ def main():
     print(f"{HOW_MANY} files:", ", ".join(f"{count} {what}" for what, count in told.items()))
 
 
-if len(sys.argv) != 2:
+if len(sys.argv) not in (2, 3, 4):
     sys.exit(__doc__)
 PROPEDIT = sys.argv[1]
+HOW_MANY, FIRST = [*map(int, sys.argv[2:]), *(2000, 0)[len(sys.argv) - 2 :]]
 main()
