@@ -3,7 +3,7 @@
 # runs the programs of CALLING and of README, and the examples of the libraries' doc comments. It compares the examples of
 # CALLING and of PROVING_CALLERS with their sources, and docs/API.md and the manual pages with theirs too.
 #
-#     tests/try_calling.sh            a minute or two: compiles and runs, and proves nothing
+#     tests/try_calling.sh            compiles and runs, and proves nothing: five minutes of one processor
 #     tests/try_calling.sh --check    proves the two programs too, which takes a quarter of an hour or more
 set -eu
 top=$(cd "$(dirname "${BASH_SOURCE[0]}")/.." && pwd)
