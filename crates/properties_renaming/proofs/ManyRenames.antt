@@ -1,14 +1,18 @@
--- Keys that are renamed in one pass, and no two names of which are the same: the bytes are those of the renames in turn.
--- A pair that the first of them renames is none of the others, and any other group stays as it is for them.
+-- Keys that are renamed in one pass: the bytes are those of the renames in turn. A pair that the first of them renames is a
+-- pair with its new key for the others, and any other group stays as it is for them.
 use Rattle.std.proofs.Common.{inl, inr, ◌≡◌, ◌≢◌, ◌⊎◌, ◌≤◌, ℕ, suc, Bool, true, false, List, [], ◌∷◌, ◌++◌, Option, Some, None, length, map, refl, sym, ap, ap₂, ◌∙◌, subst, arith, append-nil}
+use Rattle.std.specs.Prelude.{◌&&◌, bytes_eq}
+use Rattle.std.specs.Option.{unwrap_or}
 use Rattle.std.proofs.lemmas.Bool.{cases_Bool, false_from_ne_true}
 use Rattle.std.proofs.lemmas.List.{append_cancel_right}
+use Rattle.std.proofs.lemmas.Slice.Eq.{bytes_eq-Decides}
 use Rattle.properties_format.specs.Text.{LineEnding, is_empty}
 use Rattle.properties_format.specs.Encoding.{Encoding, InForce, Repertoire, begins_like_bom, byte_order_mark, in_encoding, repertoire_in_force}
 use Rattle.properties_format.specs.Lines.{joined}
 use Rattle.properties_format.specs.Items.{given, pair}
 use Rattle.properties_format.specs.Body.{AreGroupsOf, HasKey, HeldLine, NoneHasKey, as_lines, group_bytes, groups_bytes, last_ending}
 use Rattle.properties_format.specs.Edited.{bom_of, is_editable}
+use Rattle.properties_format.specs.Printing.{encoded_text}
 use Rattle.properties_format.proofs.Body.Groups.{held-body, held_groups_of-meets, held_groups_of-only}
 use Rattle.properties_format.proofs.Edited.ByteOrderMarks.{groups-unmarked, in_force as stays_in_force, source-whole}
 use Rattle.properties_format.proofs.Edited.Made.{has_key-false}
@@ -20,12 +24,12 @@ use Rattle.properties_editing.specs.Editing.{asked_for}
 use Rattle.properties_editing.specs.Views.{AreGiven, with_bytes}
 use Rattle.properties_editing.specs.declared.source.SourceOptions.{SourceOptions}
 use Rattle.properties_renaming.specs.Laws.{IsName}
-use Rattle.properties_renaming.specs.Renaming.{AreRekeyed, IsRekeyed, IsRenamed}
+use Rattle.properties_renaming.specs.Renaming.{AreRekeyed, IsRekeyed, IsRenamed, key_text}
 use Rattle.properties_renaming.specs.Renames.{AreRenamedInTurn, NewName}
 use Rattle.properties_renaming.specs.Private.Renaming.{AreMade}
-use Rattle.properties_renaming.specs.Private.Renames.{AreApart, AreRenamedAtOnce, AreThere, HasNoneOf, IsMadeBy, IsNoneOf, IsOneOf}
-use Rattle.properties_renaming.proofs.NewPairs.{IsNamed, IsNewGroup}
-use Rattle.properties_renaming.proofs.RenamedContents.{AreNamed, ended-mark, is-nil, new-group, no-bytes, none-all, none-given}
+use Rattle.properties_renaming.specs.Private.Renames.{AreRenamedAtOnce, AreThere, IsFreeOf, IsMadeBy, last_name, needed}
+use Rattle.properties_renaming.proofs.NewPairs.{IsNamed, IsNewGroup, rekeyed-again, rekeyed-pair}
+use Rattle.properties_renaming.proofs.RenamedContents.{AreNamed, ended-mark, is-nil, no-bytes, none-all, none-given}
 use Rattle.properties_renaming.proofs.RenamedKeys.{source-alike}
 
 -- ---- names
@@ -37,15 +41,38 @@ key-only k l g (v, h) (w, m) =
     let b = outcome_of-only (joined (as_lines g)) (given (pair l w)) m in
     cc (a ∙ sym b)
 
--- A pair with a key that is none of these names has none of them.
-pub no-name : (key : List ℕ) (ns : List NewName) (g : List HeldLine) → IsNoneOf key ns → HasKey key g → HasNoneOf ns g
-no-name key [] g a h = tt
-no-name key (n ∷ ns) g a h = (λ k. a.0 (key-only key n.old g h k), λ k. a.1 (key-only key n.new g h k), no-name key ns g a.2 h)
+same-name : (k : List ℕ) → bytes_eq k k ≡ true
+same-name k = (bytes_eq-Decides k k).1 refl
 
-other-name : (key : List ℕ) (m : NewName) (ns : List NewName) → IsNoneOf key ns → IsOneOf m ns → key ≢ m.old
-other-name key m [] a h = absurd h
-other-name key m (n ∷ ns) a (inl q) = λ s. a.0 (s ∙ ap (λ w. let o : NewName = w in o.old) q)
-other-name key m (n ∷ ns) a (inr h) = other-name key m ns a.2 h
+pub other-names : (k l : List ℕ) → k ≢ l → bytes_eq k l ≡ false
+other-names k l n = false_from_ne_true (bytes_eq k l) (λ h. n ((bytes_eq-Decides k l).0 h))
+
+-- What the first of these renames says of its old key,
+pub needed-old : (n : NewName) (ns : List NewName) → needed (n ∷ ns) n.old ≡ Some true
+needed-old n ns = let t = same-name n.old in rw t refl
+
+-- of its new one,
+pub needed-new : (n : NewName) (ns : List NewName) → n.old ≢ n.new → needed (n ∷ ns) n.new ≡ Some false
+needed-new n ns apart = let o = other-names n.new n.old (λ q. apart (sym q)) in let t = same-name n.new in rw (o, t) refl
+
+-- and of no other.
+pub needed-other : (n : NewName) (ns : List NewName) (key : List ℕ) → key ≢ n.old → key ≢ n.new → needed (n ∷ ns) key ≡ needed ns key
+needed-other n ns key o w = let a = other-names key n.old o in let b = other-names key n.new w in rw (a, b) refl
+
+-- The last name of its old key is that of its new one,
+pub last-old : (n : NewName) (ns : List NewName) → n.old ≢ n.new → last_name (n ∷ ns) n.old ≡ Some (unwrap_or (last_name ns n.new) n.new)
+last-old n ns apart = let a = other-names n.old n.new apart in let t = same-name n.old in rw (a, t) refl
+
+-- that of another stays,
+pub last-other : (n : NewName) (ns : List NewName) (key : List ℕ) → key ≢ n.old → last_name (n ∷ ns) key ≡ last_name ns key
+last-other n ns key o = let a = other-names key n.old o in elim (cases_Bool (bytes_eq n.old n.new)) [
+  | inl t ↦ rw t refl
+  | inr t ↦ rw (t, a) refl
+]
+
+-- and all do if it renames a key to itself.
+pub last-kept : (n : NewName) (ns : List NewName) (key : List ℕ) → n.old ≡ n.new → last_name (n ∷ ns) key ≡ last_name ns key
+last-kept n ns key same = let t = (bytes_eq-Decides n.old n.new).1 same in rw t refl
 
 new-key : (old new : List ℕ) (g h : List HeldLine) → IsNamed old new g h → HasKey old g → HasKey new h
 new-key old new g h (inl (v, k, m)) has = (v, m)
@@ -53,10 +80,22 @@ new-key old new g h (inr (lacks, same)) has = absurd (lacks has)
 
 -- ---- the first rename, of a group
 
+-- A pair with another key, and what that pair is with a third one.
+record IsRenamedTwice (r : Repertoire) (o : Option LineEnding) (first : Bool) (old new : List ℕ) (g : List HeldLine) (made : List ℕ)
+    (k : IsRekeyed r first g new made) : Type 0 where
+  once : IsNewGroup r.encoding o first old new g made
+  again : (key bytes : List ℕ)
+      → bytes ≡ k.front ++ (encoded_text r.encoding (key_text r (first && is_empty k.front) k.is_pair.between key) ++ k.back)
+      → IsRekeyed r first once.group key bytes
+
 named-group : (r : Repertoire) (old new : List ℕ) → is_editable r.encoding ≡ true → IsName new → (o : Option LineEnding) (first : Bool) (g : List HeldLine)
-    (made : List ℕ) → AreLinesBy r.encoding o g → HasKey old g → IsRekeyed r first g new made → IsNewGroup r.encoding o first old new g made
+    (made : List ℕ) → AreLinesBy r.encoding o g → HasKey old g → (k : IsRekeyed r first g new made) → IsRenamedTwice r o first old new g made k
 named-group r old [] ok (some, s) o first g made a has k = absurd (some refl)
-named-group r old (c ∷ cs) ok (some, s) o first g made a has k = new-group r old c cs ok s o first g made a (inl (has, k))
+named-group r old (c ∷ cs) ok (some, s) o first [] made a has k = absurd a
+named-group r old (c ∷ cs) ok (some, s) o first (i ∷ is) made a (value, m) k = record {
+  once = rekeyed-pair r o first i is old c cs value made ok s a m k;
+  again = rekeyed-again r o first i is old c cs value made ok s a m k;
+}
 
 -- The bytes of a group after the first rename, the group that they are, and what the others make of that.
 record IsStep (r : Repertoire) (o : Option LineEnding) (first : Bool) (n : NewName) (ns : List NewName) (g : List HeldLine) (made : List ℕ) : Type 0 where
@@ -65,31 +104,91 @@ record IsStep (r : Repertoire) (o : Option LineEnding) (first : Bool) (n : NewNa
   new : IsNewGroup r.encoding o first n.old n.new g bytes
   rest : IsMadeBy r ns first new.group made
 
-module _ (r : Repertoire) (n : NewName) (ns : List NewName) (ok : is_editable r.encoding ≡ true) (apart : AreApart (n ∷ ns)) where
+module _ (r : Repertoire) (n : NewName) (ns : List NewName) (ok : is_editable r.encoding ≡ true) (apart : n.old ≢ n.new) (name : IsName n.new)
+    (free_new : needed ns n.new ≢ Some false) where
+  -- A group that the first rename doesn't change.
   same-group : (o : Option LineEnding) (first : Bool) (g : List HeldLine) (made : List ℕ) → AreLinesBy r.encoding o g → ¬ (HasKey n.old g)
-      → IsMadeBy r ns first g made → IsStep r o first n ns g made
-  same-group o first g made a lacks k = record {
+      → IsMadeBy r (n ∷ ns) first g made → IsStep r o first n ns g made
+  same-group o first g made a lacks (free, k) = record {
     bytes = group_bytes g;
     step = inr (lacks, refl);
     new = record { group = g; are = refl; named = inr (lacks, refl); lines = a; whole = λ h. h; fit = λ h. h; no_mark = λ f b. b };
-    rest = k;
+    rest = (still-free, others k);
   }
+    where
+      other : (key : List ℕ) → HasKey key g → key ≢ n.old
+      other key has q = lacks (subst (λ w. HasKey w g) q has)
+
+      still-free : IsFreeOf ns g
+      still-free key has q =
+          let is_new : key ≢ n.new = λ s. free key has (ap (needed (n ∷ ns)) s ∙ needed-new n ns apart) in
+          free key has (needed-other n ns key (other key has) is_new ∙ q)
+
+      others : ((key : List ℕ) × (new : List ℕ) × HasKey key g × (last_name (n ∷ ns) key ≡ Some new) × IsRekeyed r first g new made)
+          ⊎ ((key : List ℕ) → HasKey key g → last_name (n ∷ ns) key ≡ None) × (made ≡ group_bytes g)
+          → ((key : List ℕ) × (new : List ℕ) × HasKey key g × (last_name ns key ≡ Some new) × IsRekeyed r first g new made)
+          ⊎ ((key : List ℕ) → HasKey key g → last_name ns key ≡ None) × (made ≡ group_bytes g)
+      others (inl (key, new, has, q, k)) = inl (key, new, has, sym (last-other n ns key (other key has)) ∙ q, k)
+      others (inr (none, same)) = inr (λ key has. sym (last-other n ns key (other key has)) ∙ none key has, same)
+
+  -- A pair that it renames, and that gets this name in the end.
+  renamed-group : (o : Option LineEnding) (first : Bool) (g : List HeldLine) (made new : List ℕ) → AreLinesBy r.encoding o g → HasKey n.old g
+      → Some new ≡ Some (unwrap_or (last_name ns n.new) n.new) → IsRekeyed r first g new made → IsStep r o first n ns g made
+  renamed-group o first g made new a has q k = of (last_name ns n.new) refl
+    where
+      free : (h : List HeldLine) → HasKey n.new h → IsFreeOf ns h
+      free h has key other s = free_new (ap (needed ns) (key-only n.new key h has other) ∙ s)
+
+      of : (last : Option (List ℕ)) → last_name ns n.new ≡ last → IsStep r o first n ns g made
+      of None none =
+          let same : new ≡ n.new = cc (q ∙ ap (λ l. Some (unwrap_or l n.new)) none) in
+          let once : IsRekeyed r first g n.new made = subst (λ w. IsRekeyed r first g w made) same k in
+          let t = named-group r n.old n.new ok name o first g made a has once in
+          let now = new-key n.old n.new g t.once.group t.once.named has in
+          record {
+            bytes = made;
+            step = inl (has, once);
+            new = t.once;
+            rest = (
+              free t.once.group now,
+              inr (λ key other. ap (last_name ns) (sym (key-only n.new key t.once.group now other)) ∙ none, sym t.once.are),
+            );
+          }
+      of (Some last) some =
+          let same : new ≡ last = cc (q ∙ ap (λ l. Some (unwrap_or l n.new)) some) in
+          let mid = k.front ++ (encoded_text r.encoding (key_text r (first && is_empty k.front) k.is_pair.between n.new) ++ k.back) in
+          let once : IsRekeyed r first g n.new mid = record {
+            key = k.key;
+            value = k.value;
+            is_pair = k.is_pair;
+            front = k.front;
+            old = k.old;
+            back = k.back;
+            whole = k.whole;
+            before = k.before;
+            through = k.through;
+            bytes_are = refl;
+          } in
+          let t = named-group r n.old n.new ok name o first g mid a has once in
+          let now = new-key n.old n.new g t.once.group t.once.named has in
+          record {
+            bytes = mid;
+            step = inl (has, once);
+            new = t.once;
+            rest = (free t.once.group now, inl (n.new, new, now, some ∙ ap Some (sym same), t.again new made k.bytes_are));
+          }
 
   step-group : (o : Option LineEnding) (first : Bool) (g : List HeldLine) (made : List ℕ) → AreLinesBy r.encoding o g → IsMadeBy r (n ∷ ns) first g made
       → IsStep r o first n ns g made
-  step-group o first g made a (inl (m, inl q, has, k)) =
-      let has_old : HasKey n.old g = subst (λ w. let x : NewName = w in HasKey x.old g) q has in
-      let rekeyed : IsRekeyed r first g n.new made = subst (λ w. let x : NewName = w in IsRekeyed r first g x.new made) q k in
-      let new = named-group r n.old n.new ok apart.0 o first g made a has_old rekeyed in
-      record {
-        bytes = made;
-        step = inl (has_old, rekeyed);
-        new = new;
-        rest = inr (no-name n.new ns new.group apart.3 (new-key n.old n.new g new.group new.named has_old), sym new.are);
-      }
-  step-group o first g made a (inl (m, inr among, has, k)) =
-      same-group o first g made a (λ h. other-name n.old m ns apart.2 among (key-only n.old m.old g h has)) (inl (m, among, has, k))
-  step-group o first g made a (inr (none, same)) = same-group o first g made a none.0 (inr (none.2, same))
+  step-group o first g made a (free, inl (key, new, has, q, k)) = elim (cases_Bool (bytes_eq key n.old)) [
+    | inl t ↦
+        let same = (bytes_eq-Decides key n.old).0 t in
+        renamed-group o first g made new a (subst (λ w. HasKey w g) same has) (sym q ∙ ap (last_name (n ∷ ns)) same ∙ last-old n ns apart) k
+    | inr t ↦
+        same-group o first g made a (λ h. let s = (bytes_eq-Decides key n.old).1 (key-only key n.old g has h) in cc) (free, inl (key, new, has, q, k))
+  ]
+  step-group o first g made a (free, inr (none, same)) =
+      same-group o first g made a (λ h. let s = sym (none n.old h) ∙ last-old n ns apart in cc) (free, inr (none, same))
 
 -- ---- the first rename, of all groups
 
@@ -109,7 +208,8 @@ record AreStepped (r : Repertoire) (first : Bool) (n : NewName) (ns : List NewNa
   no_mark : first ≡ true → begins_like_bom (groups_bytes gs) ≡ false → begins_like_bom body ≡ false
   rest : AreMade (IsMadeBy r ns) first (with_bytes groups) bytes
 
-module _ (r : Repertoire) (n : NewName) (ns : List NewName) (ok : is_editable r.encoding ≡ true) (apart : AreApart (n ∷ ns)) where
+module _ (r : Repertoire) (n : NewName) (ns : List NewName) (ok : is_editable r.encoding ≡ true) (apart : n.old ≢ n.new) (name : IsName n.new)
+    (free_new : needed ns n.new ≢ Some false) where
   step-groups : (first : Bool) (gs : List (List HeldLine)) (bytes : List ℕ) → AreInTurn r.encoding gs
       → AreMade (IsMadeBy r (n ∷ ns)) first (with_bytes gs) bytes → AreStepped r first n ns gs bytes
   step-groups first [] bytes a h = absurd a
@@ -133,7 +233,7 @@ module _ (r : Repertoire) (n : NewName) (ns : List NewName) (ok : is_editable r.
 
       one : is_empty (group_bytes g) ≡ false → AreMade (IsMadeBy r (n ∷ ns)) first (g ∷ []) bytes → AreStepped r first n ns (g ∷ []) bytes
       one k (made, more, m, s, q) =
-          let t = step-group r n ns ok apart None first g made a.0 m in
+          let t = step-group r n ns ok apart name free_new None first g made a.0 m in
           let some : is_empty (group_bytes t.new.group) ≡ false = full t.new.group t.new.named t.new.lines in
           record {
             body = t.bytes ++ [];
@@ -153,7 +253,7 @@ module _ (r : Repertoire) (n : NewName) (ns : List NewName) (ok : is_editable r.
               false_from_ne_true (is_empty (group_bytes h)) (λ e. no-bytes r.encoding None n.new h lines e (v, now))
           full h (inr (lacks, same)) lines = ap (λ w. is_empty (group_bytes w)) same ∙ k
   step-groups first (g ∷ i ∷ gs) bytes ((by, a, w), rest) (made, more, k, s, q) =
-      let t = step-group r n ns ok apart (Some by) first g made a k in
+      let t = step-group r n ns ok apart name free_new (Some by) first g made a k in
       let m = step-groups false (i ∷ gs) more rest q in
       record {
         body = t.bytes ++ m.body;
@@ -233,33 +333,40 @@ none-back key old new (g ∷ gs) hs apart (h, more, p, k, r) none =
     other (inl (v, was, now)) lacks has = apart (key-only old key g (v, was) has)
     other (inr (left, same)) lacks has = lacks (subst (HasKey key) (sym same) has)
 
--- The old keys of the others are still there,
-still-there : (e : Encoding) (n : NewName) (ns : List NewName) (gs hs : List (List HeldLine)) → AreInTurn e hs → AreNamed n.old n.new gs hs
-    → IsNoneOf n.old ns → AreThere ns (with_bytes gs) → AreThere ns (with_bytes hs)
-still-there e n [] gs hs turn named apart there = tt
-still-there e n (m ∷ ms) gs hs turn named apart there = (
-  λ none. there.0 (none-given m.old gs (none-back m.old n.old n.new gs hs apart.0 named (none-all e m.old hs turn none))),
-  still-there e n ms gs hs turn named apart.2 there.1,
-)
+-- If no group has the new key after a rename, none had the old one before.
+none-renamed : (old new : List ℕ) (gs hs : List (List HeldLine)) → AreNamed old new gs hs → NoneHasKey new hs → NoneHasKey old gs
+none-renamed old new [] hs n none = tt
+none-renamed old new (g ∷ gs) hs (h, more, p, k, r) none =
+    let each = subst (NoneHasKey new) p none in (λ has. each.0 (new-key old new g h k has), none-renamed old new gs more r each.1)
 
--- and the new key of the first isn't there yet.
-none-new : (r : Repertoire) (n : NewName) (ns : List NewName) (first : Bool) (gs : List (List HeldLine)) (bytes : List ℕ) → AreApart (n ∷ ns)
-    → AreMade (IsMadeBy r (n ∷ ns)) first gs bytes → NoneHasKey n.new gs
-none-new r n ns first [] bytes apart h = tt
-none-new r n ns first (g ∷ gs) bytes apart (made, more, k, s, q) = (free k, none-new r n ns false gs more apart q)
-  where
-    free : IsMadeBy r (n ∷ ns) first g made → ¬ (HasKey n.new g)
-    free (inl (m, inl p, has, k)) h = apart.1 (sym (ap (λ w. let x : NewName = w in x.old) p) ∙ key-only m.old n.new g has h)
-    free (inl (m, inr among, has, k)) h = other-name n.new m ns apart.3 among (key-only n.new m.old g h has)
-    free (inr (none, same)) h = none.1 h
+-- The keys that the others need are still there.
+still-there : (e : Encoding) (n : NewName) (ns : List NewName) (gs hs : List (List HeldLine)) → AreInTurn e hs → AreNamed n.old n.new gs hs
+    → needed ns n.old ≢ Some true → AreThere (n ∷ ns) (with_bytes gs) → AreThere ns (with_bytes hs)
+still-there e n ns gs hs turn named gone there key q none = elim (cases_Bool (bytes_eq key n.new)) [
+  | inl t ↦
+      let same = (bytes_eq-Decides key n.new).0 t in
+      let lacks = none-renamed n.old n.new gs hs named (none-all e n.new hs turn (subst (λ w. NoneHasKey w (with_bytes hs)) same none)) in
+      there n.old (needed-old n ns) (none-given n.old gs lacks)
+  | inr t ↦
+      let other : key ≢ n.old = λ s. gone (ap (needed ns) (sym s) ∙ q) in
+      let apart : key ≢ n.new = λ s. let k = (bytes_eq-Decides key n.new).1 s in cc in
+      let lacks = none-back key n.old n.new gs hs (λ s. other (sym s)) named (none-all e key hs turn none) in
+      there key (needed-other n ns key other apart ∙ q) (none-given key gs lacks)
+]
+
+-- No group has a key that none may have.
+none-free : (r : Repertoire) (names : List NewName) (key : List ℕ) (first : Bool) (gs : List (List HeldLine)) (bytes : List ℕ)
+    → needed names key ≡ Some false → AreMade (IsMadeBy r names) first gs bytes → NoneHasKey key gs
+none-free r names key first [] bytes q h = tt
+none-free r names key first (g ∷ gs) bytes q (made, more, k, s, rest) = (λ has. k.0 key has q, none-free r names key false gs more q rest)
 
 -- ---- the renames in turn
 
 -- Without renames, all groups stay.
 made-none : (r : Repertoire) (first : Bool) (gs : List (List HeldLine)) (bytes : List ℕ) → AreMade (IsMadeBy r []) first gs bytes → bytes ≡ groups_bytes gs
 made-none r first [] bytes h = h
-made-none r first (g ∷ gs) bytes (made, more, inl (m, among, has, k), s, q) = absurd among
-made-none r first (g ∷ gs) bytes (made, more, inr (none, same), s, q) = s ∙ ap₂ (λ v w. v ++ w) same (made-none r false gs more q)
+made-none r first (g ∷ gs) bytes (made, more, (free, inl (key, new, has, none, k)), s, q) = absurd (cc)
+made-none r first (g ∷ gs) bytes (made, more, (free, inr (none, same)), s, q) = s ∙ ap₂ (λ v w. v ++ w) same (made-none r false gs more q)
 
 with-same : (gs : List (List HeldLine)) → groups_bytes (with_bytes gs) ≡ groups_bytes gs
 with-same [] = refl
@@ -272,21 +379,21 @@ with-same (g ∷ h ∷ gs) = ap (λ w. group_bytes g ++ w) (with-same (h ∷ gs)
 -- What the first rename gives, and the others make of that.
 record IsNext (r : Repertoire) (source : List ℕ) (n : NewName) (ns : List NewName) (result : List ℕ) : Type 0 where
   next : List ℕ
-  apart : n.old ≢ n.new
   renamed : IsRenamed r source n.old n.new next
   editable : is_editable (byte_order_mark r.encoding next).encoding ≡ true
   others : AreRenamedAtOnce r next ns result
 
 next-step : (r : Repertoire) (source result : List ℕ) (n : NewName) (ns : List NewName) → is_editable (byte_order_mark r.encoding source).encoding ≡ true
-    → AreRenamedAtOnce r source (n ∷ ns) result → IsNext r source n ns result
-next-step r source result n ns ok h =
+    → n.old ≢ n.new → IsName n.new → needed ns n.old ≢ Some true → needed ns n.new ≢ Some false → AreRenamedAtOnce r source (n ∷ ns) result
+    → IsNext r source n ns result
+next-step r source result n ns ok apart name gone free_new h =
     let f = byte_order_mark r.encoding source in
     let all = h.held.all in
     let turn = in-turn f.encoding f.body all ok h.held.division in
     let own = held_groups_of-only f.encoding f.body all h.held.division in
     let made : AreMade (IsMadeBy (repertoire_in_force r source) (n ∷ ns)) true (with_bytes all) h.body =
     subst (λ gs. AreMade (IsMadeBy (repertoire_in_force r source) (n ∷ ns)) true gs h.body) h.held.are h.made in
-    let t = step-groups (repertoire_in_force r source) n ns ok h.apart true all h.body turn made in
+    let t = step-groups (repertoire_in_force r source) n ns ok apart name free_new true all h.body turn made in
     let next = bom_of source ++ t.body in
     let force : byte_order_mark r.encoding next ≡ record { encoding = f.encoding; body = t.body } =
     stays_in_force r.encoding source t.body ok (λ k. t.no_mark refl (groups-unmarked r.encoding source all ok h.held.division k)) in
@@ -301,30 +408,94 @@ next-step r source result n ns ok h =
     (sym (slots-merged f.encoding t.body t.groups ok (record { turn = t.turn; bytes = t.are })) ∙ still) (held_groups_of-meets f.encoding t.body) in
     record {
       next = next;
-      apart = h.apart.1;
       renamed = record {
         groups = h.groups;
         held = h.held;
-        is_there = h.there.0;
-        is_free = none-new (repertoire_in_force r source) n ns true h.groups h.body h.apart h.made;
+        is_there = h.there n.old (needed-old n ns);
+        is_free = none-free (repertoire_in_force r source) (n ∷ ns) n.new true h.groups h.body (needed-new n ns apart) h.made;
         body = t.body;
         renamed = subst (λ gs. AreRekeyed (repertoire_in_force r source) n.old n.new true gs t.body) (sym h.held.are) t.rekeyed;
         whole = refl;
       };
       editable = ap (λ w. let g : InForce = w in is_editable g.encoding) force ∙ ok;
       others = record {
-        apart = h.apart.4;
+        makeable = h.makeable.1;
         groups = with_bytes t.groups;
         held =
             subst (λ w. let g : InForce = w in AreGiven g.encoding g.body (with_bytes t.groups)) (sym force)
             (record { all = t.groups; division = division; are = refl; together = with-same t.groups ∙ t.are });
-        there = still-there f.encoding n ns all t.groups t.turn t.named h.apart.2 (subst (AreThere ns) h.held.are h.there.1);
+        there = still-there f.encoding n ns all t.groups t.turn t.named gone (subst (AreThere (n ∷ ns)) h.held.are h.there);
         body = h.body;
         made =
             subst (λ w. let g : InForce = w in AreMade (IsMadeBy (in_encoding r g.encoding) ns) true (with_bytes t.groups) h.body) (sym force) t.rest;
         whole = h.whole ∙ ap (λ w. w ++ h.body) (sym same_mark);
       };
     }
+
+-- A rename of a key to itself.
+module _ (r : Repertoire) (n : NewName) (ns : List NewName) (same : n.old ≡ n.new) (stays : needed ns n.old ≢ Some false) where
+  kept-free : (g : List HeldLine) → IsFreeOf (n ∷ ns) g → IsFreeOf ns g
+  kept-free g free key has q =
+      let other : key ≢ n.old = λ s. stays (ap (needed ns) (sym s) ∙ q) in
+      free key has (needed-other n ns key other (λ s. other (s ∙ sym same)) ∙ q)
+
+  kept-made : (first : Bool) (gs : List (List HeldLine)) (bytes : List ℕ) → AreMade (IsMadeBy r (n ∷ ns)) first gs bytes → AreMade (IsMadeBy r ns) first gs bytes
+  kept-made first [] bytes h = h
+  kept-made first (g ∷ gs) bytes (made, more, (free, inl (key, new, has, q, k)), s, rest) = (
+    made,
+    more,
+    (kept-free g free, inl (key, new, has, sym (last-kept n ns key same) ∙ q, k)),
+    s,
+    kept-made false gs more rest,
+  )
+  kept-made first (g ∷ gs) bytes (made, more, (free, inr (none, is)), s, rest) = (
+    made,
+    more,
+    (kept-free g free, inr (λ key has. sym (last-kept n ns key same) ∙ none key has, is)),
+    s,
+    kept-made false gs more rest,
+  )
+
+kept-there : (n : NewName) (ns : List NewName) (gs : List (List HeldLine)) → n.old ≡ n.new → AreThere (n ∷ ns) gs → AreThere ns gs
+kept-there n ns gs same there key q = elim (cases_Bool (bytes_eq key n.old)) [
+  | inl t ↦ there key (ap (needed (n ∷ ns)) ((bytes_eq-Decides key n.old).0 t) ∙ needed-old n ns)
+  | inr t ↦
+      let other : key ≢ n.old = λ s. let k = (bytes_eq-Decides key n.old).1 s in cc in
+      there key (needed-other n ns key other (λ s. other (s ∙ sym same)) ∙ q)
+]
+
+-- The first of several renames, given that the others are made in turn to what it leaves.
+first-in-turn : (options : SourceOptions) (source result : List ℕ) (n : NewName) (ns : List NewName)
+    → is_editable (byte_order_mark (asked_for options).encoding source).encoding ≡ true → AreRenamedAtOnce (asked_for options) source (n ∷ ns) result
+    → ((next : List ℕ) → is_editable (byte_order_mark (asked_for options).encoding next).encoding ≡ true
+    → AreRenamedAtOnce (asked_for options) next ns result → AreRenamedInTurn options next ns result)
+    → AreRenamedInTurn options source (n ∷ ns) result
+first-in-turn options source result n ns ok h others = of h.makeable.0
+  where
+    of : (n.old ≡ n.new) × (needed ns n.old ≢ Some false)
+        ⊎ (n.old ≢ n.new) × IsName n.new × (needed ns n.old ≢ Some true) × (needed ns n.new ≢ Some false)
+        → AreRenamedInTurn options source (n ∷ ns) result
+    of (inl (same, stays)) =
+        let r = asked_for options in (
+          source,
+          inr (same, record { groups = h.groups; held = h.held; is_there = h.there n.old (needed-old n ns); same = refl }),
+          others source ok (record {
+            makeable = h.makeable.1;
+            groups = h.groups;
+            held = h.held;
+            there = kept-there n ns h.groups same h.there;
+            body = h.body;
+            made = kept-made (repertoire_in_force r source) n ns same stays true h.groups h.body h.made;
+            whole = h.whole;
+          }),
+        )
+    of (inr (apart, name, gone, free_new)) =
+        let r = asked_for options in
+        let k = next-step r source result n ns ok apart name gone free_new h in (
+          k.next,
+          inl (apart, k.renamed, source-alike r source n.old n.new k.next k.renamed),
+          others k.next k.editable k.others,
+        )
 
 -- What is renamed at once is what the renames in turn give.
 pub at-once : (options : SourceOptions) (source result : List ℕ) (ns : List NewName)
@@ -336,9 +507,4 @@ at-once options source result [] ok h =
     ∙ ap (λ w. bom_of source ++ w) (made-none (repertoire_in_force r source) true h.groups h.body h.made ∙ h.held.together)
     ∙ sym (source-whole r.encoding source)
 at-once options source result (n ∷ ns) ok h =
-    let r = asked_for options in
-    let k = next-step r source result n ns ok h in (
-      k.next,
-      inl (k.apart, k.renamed, source-alike r source n.old n.new k.next k.renamed),
-      at-once options k.next result ns k.editable k.others,
-    )
+    first-in-turn options source result n ns ok h (λ next read others. at-once options next result ns read others)

@@ -15,12 +15,13 @@ use Rattle.properties_format.specs.Valued.{HoldsPair}
 use Rattle.properties_format.specs.Body.{HasKey, HeldLine, as_lines, ending_bytes, group_bytes}
 use Rattle.properties_format.specs.Printing.{encoded_text, in_key_or_value, is_bom_like, printed_characters, printed_key, unicode_escape, unit_escape, with_first_escaped}
 use Rattle.properties_format.specs.Computed.Cut.{decoded_line}
+use Rattle.properties_format.specs.Cut.{IsDecodedLine}
 use Rattle.properties_format.specs.Computed.Lines.{begins_with_lf}
 use Rattle.properties_format.specs.Computed.Split.{ends_key}
 use Rattle.properties_format.specs.Computed.Valued.{without_indent}
 use Rattle.properties_format.proofs.Body.Decoded.{decoded-nil, plain-bytes}
 use Rattle.properties_format.proofs.Body.Groups.{IsLastFit, group_bytes-append}
-use Rattle.properties_format.proofs.Cut.Byline.{decoded_line-only, nothing-decoded}
+use Rattle.properties_format.proofs.Cut.Byline.{decoded_line-meets, decoded_line-only, nothing-decoded}
 use Rattle.properties_format.proofs.Edited.ByteOrderMarks.{ending-cut}
 use Rattle.properties_format.proofs.Encodings.PieceEnds.{no-front, none-right}
 use Rattle.properties_format.proofs.Escapes.Unique.{meaning_of-meets}
@@ -40,7 +41,7 @@ use Rattle.properties_format.proofs.Valued.Fronts.{blanks-right, ends_key-ascii,
 use Rattle.properties_format.proofs.Valued.Heads.{IsLittle, ascii-among, backslash-own}
 use Rattle.properties_format.proofs.Valued.Revalued.{added-closed, open-closed, text-own}
 use Rattle.properties_editing.specs.Views.{IsCutBehind, joined_with}
-use Rattle.properties_renaming.specs.Renaming.{AreJoinedBlanks, IsBeforeKey, IsRekeyed}
+use Rattle.properties_renaming.specs.Renaming.{AreJoinedBlanks, IsBeforeKey, IsRekeyed, key_text}
 use Rattle.properties_renaming.proofs.KeyPlaces.{ascii-front, blanks-both, blanks-closed, blanks-one, decoded-joined, decoded-past, head-full, kept-blank, shut-append}
 
 -- ---- a logical line that is cut
@@ -134,6 +135,7 @@ pub record IsBehindKey (e : Encoding) (g : List HeldLine) (back v : List ℕ) : 
   pub adds : without_open_backslash tail_text ++ joined_by false more ≡ v
   pub same_open : is_open tail_text ≡ is_open line.text
   pub plain_tail : HoldsNoLineEnding line.bytes → HoldsNoLineEnding tail
+  pub before_join : more ≢ [] → tail_text ≢ []
   pub bytes : back ≡ tail ++ (ending_bytes line.ending ++ group_bytes more)
 
 pub lines-first : (e : Encoding) (o : Option LineEnding) (h : HeldLine) (hs : List HeldLine) → AreLinesBy e o (h ∷ hs)
@@ -156,8 +158,9 @@ module _ (e : Encoding) (o : Option LineEnding) (i : HeldLine) (is : List HeldLi
 
   behind-cut : (kept : List HeldLine) (line : HeldLine) (more : List HeldLine) (head tail head_text tail_text : List ℕ) → i ∷ is ≡ kept ++ line ∷ more
       → line.bytes ≡ head ++ tail → line.text ≡ head_text ++ tail_text → decoded_line e tail ≡ tail_text → is_open head_text ≡ false
-      → front ++ old ≡ group_bytes kept ++ head → without_open_backslash tail_text ++ joined_by false more ≡ v → IsBehindKey e (i ∷ is) back v
-  behind-cut kept line more head tail head_text tail_text d c t is_tail closed q adds =
+      → front ++ old ≡ group_bytes kept ++ head → without_open_backslash tail_text ++ joined_by false more ≡ v → (more ≢ [] → tail_text ≢ [])
+      → IsBehindKey e (i ∷ is) back v
+  behind-cut kept line more head tail head_text tail_text d c t is_tail closed q adds before_join =
       let y = ending_bytes line.ending ++ group_bytes more in
       let parts : group_bytes kept ++ ((head ++ tail) ++ y) ≡ (group_bytes kept ++ head) ++ (tail ++ y) = simp (append_assoc) in
       record {
@@ -171,6 +174,7 @@ module _ (e : Encoding) (o : Option LineEnding) (i : HeldLine) (is : List HeldLi
         adds = adds;
         same_open = sym (open-closed head_text tail_text closed) ∙ ap is_open (sym t);
         plain_tail = λ z. plain-right head tail (subst HoldsNoLineEnding c z);
+        before_join = before_join;
         bytes =
             append_cancel_left (front ++ old) back (tail ++ y)
             (append_assoc front old back
@@ -204,6 +208,7 @@ module _ (e : Encoding) (o : Option LineEnding) (i : HeldLine) (is : List HeldLi
       ∙ ap (λ x. joined (as_lines x)) (sym cut.division)
       ∙ p.whole
       ∙ sym (append_assoc p.indent key v)))
+      cut.before_join
 
   -- Behind an empty key.
   pub behind-none : key ≡ [] → old ≡ [] → (b : IsBeforeKey (i ∷ is) front) → IsBehindKey e (i ∷ is) back v
@@ -229,6 +234,7 @@ module _ (e : Encoding) (o : Option LineEnding) (i : HeldLine) (is : List HeldLi
       ∙ ap (λ z. joined (as_lines z)) (sym b.division)
       ∙ p.whole
       ∙ ap (λ z. p.indent ++ (z ++ v)) none_key)).1
+      (λ m n. b.not_blank (nothing-decoded e b.rest n))
     where
       indent-blank : (first : Bool) (x : List ℕ) → AreBlanks x → AreBlanks (without_indent first x)
       indent-blank first x h = grind (arith, without_leading_blanks-blanks)
@@ -513,15 +519,15 @@ module _ (r : Repertoire) (o : Option LineEnding) (first : Bool) (i : HeldLine) 
     abbrev blanks : List ℕ
     blanks = joined_by true b.kept ++ (if is_first_after true b.kept then b.indent else [])
 
+    put-after : (first : Bool) → without_indent first (b.indent ++ text) ≡ (if first then b.indent else []) ++ text
+    put-after true = refl
+    put-after false = without_leading_blanks-only b.indent text b.indent_blank begin-full.no_blank
+
     new-joined : joined (as_lines new_group) ≡ blanks ++ (text ++ rest)
     new-joined =
         joined-parts b.kept line t.more (b.indent ++ text) t.tail_text new-unmarked line-text (inl head-some) head-closed
-        ∙ ap₂ (λ u v. (joined_by true b.kept ++ u) ++ v) (added (is_first_after true b.kept)) t.adds
+        ∙ ap₂ (λ u v. (joined_by true b.kept ++ u) ++ v) (put-after (is_first_after true b.kept)) t.adds
         ∙ simp (append_assoc)
-      where
-        added : (first : Bool) → without_indent first (b.indent ++ text) ≡ (if first then b.indent else []) ++ text
-        added true = refl
-        added false = without_leading_blanks-only b.indent text b.indent_blank begin-full.no_blank
 
     new-pair : HoldsPair (c ∷ cs) value new_group
     new-pair = record {
@@ -627,6 +633,101 @@ module _ (r : Repertoire) (o : Option LineEnding) (first : Bool) (i : HeldLine) 
       no_mark = λ f b. new-mark f;
     }
 
+    -- ---- the key of the new pair
+
+    put-full : begins is_blank (encoded_text e text ++ t.tail) ≡ false
+    put-full = bytes-full (encoded_text e text ++ t.tail) (put-decoded e text t.tail t.tail_text ok writable t.is_tail follows)
+      where
+        bytes-full : (d : List ℕ) → decoded_line e d ≡ text ++ t.tail_text → begins is_blank d ≡ false
+        bytes-full [] s = refl
+        bytes-full (x ∷ d) s =
+            false_from_ne_true (is_blank x) (λ q.
+            let more : decoded_line e (x ∷ d) ≡ x ∷ decoded_line e d = decoded-past e (x ∷ []) d ok (q, tt) in
+            let full = begins-more is_blank text t.tail_text some begin-full.no_blank in
+            let blank : begins is_blank (x ∷ decoded_line e d) ≡ true = q in
+            let same : begins is_blank (text ++ t.tail_text) ≡ true = ap (begins is_blank) (sym s ∙ more) ∙ blank in
+            cc)
+
+    put-some : encoded_text e text ≢ []
+    put-some q = some (sym own-text ∙ ap (decoded_line e) q ∙ decoded-nil e)
+
+    put-closed : encoded_text e text ++ t.tail ≢ backslash ∷ []
+    put-closed q =
+        let alone = one (encoded_text e text) q put-some in
+        let is : text ≡ backslash ∷ [] = sym own-text ∙ ap (decoded_line e) alone ∙ decoded-joined e [] ok tt in
+        let closed : is_open (backslash ∷ []) ≡ false = ap is_open (sym is) ∙ printed-closed text (c ∷ cs) printed in
+        cc
+      where
+        one : (x : List ℕ) → x ++ t.tail ≡ backslash ∷ [] → x ≢ [] → x ≡ backslash ∷ []
+        one [] s n = absurd (n refl)
+        one (y ∷ x) s n = let left : x ≡ [] = no-front x t.tail (cc) in let same : y ≡ backslash = cc in ap₂ (λ u v. u ∷ v) same left
+
+    new-before : IsBeforeKey new_group k.front
+    new-before = record {
+      kept = b.kept;
+      line = line;
+      more = t.more;
+      division = refl;
+      joined = b.joined;
+      indent = b.indent;
+      rest = encoded_text e text ++ t.tail;
+      cut = refl;
+      indent_blank = b.indent_blank;
+      rest_full = put-full;
+      not_blank = λ q. put-some (no-front (encoded_text e text) t.tail q);
+      not_joined = put-closed;
+      bytes = b.bytes;
+    }
+
+    new-cut : IsCutBehind e new_group (blanks ++ text)
+    new-cut = record {
+      kept = b.kept;
+      line = line;
+      more = t.more;
+      division = refl;
+      head = b.indent ++ encoded_text e text;
+      tail = t.tail;
+      head_text = b.indent ++ text;
+      tail_text = t.tail_text;
+      cut = sym (append_assoc b.indent (encoded_text e text) t.tail);
+      cut_text = line-text;
+      is_head =
+          subst (IsDecodedLine e (b.indent ++ encoded_text e text))
+          (decoded-past e b.indent (encoded_text e text) ok b.indent_blank ∙ ap (λ v. b.indent ++ v) own-text)
+          (decoded_line-meets e (b.indent ++ encoded_text e text));
+      is_tail = subst (IsDecodedLine e t.tail) t.is_tail (decoded_line-meets e t.tail);
+      text_is =
+          sym (cut-text b.kept (b.indent ++ text) (unmarked-front b.kept (line ∷ t.more) new-unmarked)
+          ∙ ap (λ v. joined_by true b.kept ++ v) (put-after (is_first_after true b.kept))
+          ∙ sym (append_assoc (joined_by true b.kept) (if is_first_after true b.kept then b.indent else []) text));
+      not_blank = λ n q. some (sym (without_leading_blanks-only b.indent text b.indent_blank begin-full.no_blank) ∙ q);
+      before_join = t.before_join;
+    }
+
+    -- With a third key in place of the new one, the pair is the old one with that key.
+    again : (key bytes : List ℕ) → bytes ≡ k.front ++ (encoded_text e (key_text r flag k.is_pair.between key) ++ k.back)
+        → IsRekeyed r first new_group key bytes
+    unfolding new-pair new-cut
+    again key bytes are = record {
+      key = text;
+      value = k.value;
+      is_pair = new-pair.split;
+      front = k.front;
+      old = encoded_text e text;
+      back = k.back;
+      whole = new-are ∙ k.bytes_are;
+      before = new-before;
+      through = inr (some, new-cut, ap (λ v. v ++ encoded_text e text) b.bytes ∙ append_assoc (group_bytes b.kept) b.indent (encoded_text e text));
+      bytes_are = are;
+    }
+
   -- A pair with another key is a pair with that key, and has the value that it had.
   pub rekeyed-pair : IsNewGroup r.encoding o first old (c ∷ cs) (i ∷ is) bytes
   rekeyed-pair = made behind
+
+  -- A key that is replaced twice is replaced once.
+  pub rekeyed-again : (key bytes : List ℕ)
+      → bytes ≡ k.front ++ (encoded_text r.encoding (key_text r (first && is_empty k.front) k.is_pair.between key) ++ k.back)
+      → IsRekeyed r first rekeyed-pair.group key bytes
+  unfolding rekeyed-pair made
+  rekeyed-again = again behind

@@ -1,12 +1,11 @@
 -- How keys are renamed in one pass: the roles of their names, and what was copied and found group after group.
-use Rattle.std.proofs.Common.{inl, inr, ◌≡◌, ◌≢◌, ◌⊎◌, ◌<◌, ◌≤◌, ◌==◌, eq-eqb, ℕ, zero, suc, ◌+◌, length-append, Bool, true, false, List, [], ◌∷◌, ◌++◌, length, get_or, refl, sym, ap, ◌∙◌, subst, arith}
+use Rattle.std.proofs.Common.{inl, inr, ◌≡◌, ◌≢◌, ◌⊎◌, ◌<◌, ◌≤◌, ◌==◌, eq-eqb, ℕ, zero, suc, ◌+◌, Bool, true, false, List, [], ◌∷◌, ◌++◌, length, get_or, refl, sym, ap, ◌∙◌, subst, arith}
 use Rattle.std.specs.Prelude.{bytes_eq, is_some, replicate, Option, Some, None}
-use Rattle.std.specs.List.{list_any}
+use Rattle.std.specs.Option.{unwrap_or}
 use Rattle.std.specs.declared.string.String.{String}
 use Rattle.std.proofs.Math.ListN.{set}
-use Rattle.std.proofs.Math.Seq.{get_or-append_seam}
 use Rattle.std.proofs.lemmas.Bool.{cases_Bool, cond-false, cond-true, eqb-true}
-use Rattle.std.proofs.lemmas.List.{get_or-set_other, get_or_append_left}
+use Rattle.std.proofs.lemmas.List.{get_or-set_other}
 use Rattle.std.proofs.lemmas.Slice.Eq.{bytes_eq-Decides}
 use Rattle.properties_format.specs.Encoding.{Characters, Encoding, Repertoire}
 use Rattle.properties_format.specs.Lines.{joined}
@@ -21,10 +20,12 @@ use Rattle.properties_renaming.specs.Laws.{IsName}
 use Rattle.properties_renaming.specs.Renames.{NewName}
 use Rattle.properties_renaming.specs.Private.Copied.{IsNew, copied_to}
 use Rattle.properties_renaming.specs.Private.Renaming.{AreMade, IsAnyPair}
-use Rattle.properties_renaming.specs.Private.Renames.{AreApart, AreRenamedAtOnce, AreRolesOf, GivesRole, AreThere, HasNoneOf, IsMadeBy, IsNoneOf, IsOneOf, IsRoleIn, role_at, role_of}
+use Rattle.properties_renaming.specs.Private.Renames.{AreFound, AreRenamedAtOnce, AreRolesOf, GivesRole, IsFound, IsFreeOf, IsMadeBy, IsNewAt, IsOldAt, IsRoleIn, IsRoleWithin, is_needed, kept_role, last_name, last_rename, needed, role_at, role_of}
 use Rattle.properties_renaming.specs.declared.copied.Copied.{Copied}
 use Rattle.properties_renaming.specs.declared.renames.Role.{Role}
-use Rattle.properties_renaming.specs.declared.renames.Role.TheVariants.{Old, New}
+use Rattle.properties_renaming.specs.declared.renames.Role.TheVariants.{Old, Kept, New}
+use Rattle.properties_renaming.specs.Renaming.{IsRekeyed}
+use Rattle.properties_renaming.proofs.ManyRenames.{key-only, last-kept, last-old, last-other, needed-new, needed-old, needed-other}
 use Rattle.properties_renaming.proofs.RenamedKeys.{IsUpTo, all-up, first-of, next-up, none-front, none-last, none-yet, viewed, viewed-force}
 
 -- ---- the roles of names
@@ -32,71 +33,119 @@ use Rattle.properties_renaming.proofs.RenamedKeys.{IsUpTo, all-up, first-of, nex
 same-no : (k l : List ℕ) → bytes_eq k l ≡ false → k ≢ l
 same-no k l h q = let t = (bytes_eq-Decides k l).1 q in cc
 
-no-push : (key : List ℕ) (ns : List NewName) (n : NewName) → IsNoneOf key ns → key ≢ n.old → key ≢ n.new → IsNoneOf key (ns ++ n ∷ [])
-no-push key [] n h o w = (o, w, tt)
-no-push key (m ∷ ms) n h o w = (h.0, h.1, no-push key ms n h.2 o w)
+-- A key that is none of these names keeps its name.
+pub no-last : (ns : List NewName) (key : List ℕ) → needed ns key ≡ None → last_name ns key ≡ None
+no-last [] key h = refl
+no-last (n ∷ ns) key h = elim (cases_Bool (bytes_eq key n.old)) [
+  | inl t ↦ absurd (let s = rw t at h in cc)
+  | inr t ↦ elim (cases_Bool (bytes_eq key n.new)) [
+    | inl u ↦ absurd (let s = rw (t, u) at h in cc)
+    | inr u ↦ last-other n ns key (same-no key n.old t) ∙ no-last ns key (rw (t, u) at h)
+  ]
+]
 
-apart-push : (ns : List NewName) (n : NewName) → AreApart ns → IsNoneOf n.old ns → IsNoneOf n.new ns → n.old ≢ n.new → IsName n.new → AreApart (ns ++ n ∷ [])
-apart-push [] n a o w other name = (name, other, tt, tt, tt)
-apart-push (m ∷ ms) n a o w other name = (
-  a.0,
-  a.1,
-  no-push m.old ms n a.2 (λ q. o.0 (sym q)) (λ q. w.0 (sym q)),
-  no-push m.new ms n a.3 (λ q. o.1 (sym q)) (λ q. w.1 (sym q)),
-  apart-push ms n a.4 o.2 w.2 other name,
-)
+-- What a role tells of a key that the first of the renames doesn't name.
+role-more : (all ns : List NewName) (n : NewName) (key : List ℕ) (role : Option Role) → key ≢ n.old → key ≢ n.new → IsRoleIn all ns key role
+    → IsRoleIn all (n ∷ ns) key role
+role-more all ns n key None o w h = needed-other n ns key o w ∙ h
+role-more all ns n key (Some (New first)) o w h = needed-other n ns key o w ∙ h
+role-more all ns n key (Some (Kept first)) o w (needs, at, none) = (needed-other n ns key o w ∙ needs, at, last-other n ns key o ∙ none)
+role-more all ns n key (Some (Old first last)) o w (needs, at, final) =
+    (needed-other n ns key o w ∙ needs, at, (final.0, λ d. last-other n ns key o ∙ final.1 d))
 
-role-push : (ns : List NewName) (n : NewName) (key : List ℕ) (role : Option Role) → IsRoleIn ns key role → key ≢ n.old → key ≢ n.new
-    → IsRoleIn (ns ++ n ∷ []) key role
-role-push ns n key None h o w = no-push key ns n h o w
-role-push ns n key (Some (New i)) h o w = tt
-role-push ns n key (Some (Old i)) h o w =
-    let size = length-append ns (n ∷ []) in
-    let within = h.0 in
-    (omega arith, λ d. h.1 d ∙ ap (λ m. let x : NewName = m in x.old) (sym (get_or_append_left ns (n ∷ []) d i within)))
+-- Those after it let the first rename give its name,
+last-given : (all ns : List NewName) (n : NewName) (index last : ℕ) (role : Option Role) → index < length all → ((d : NewName) → get_or all index d ≡ n)
+    → IsRoleIn all ns n.new role → last_rename index role ≡ Some last
+    → (needed ns n.new ≢ Some false) × IsNewAt all (Some (unwrap_or (last_name ns n.new) n.new)) last
+last-given all ns n index last None within is h q =
+    let same : index ≡ last = cc in
+    (λ s. cc, subst (IsNewAt all (Some (unwrap_or (last_name ns n.new) n.new))) same (within, λ d. rw (no-last ns n.new h) (ap (λ w. let m : NewName = w in Some m.new) (sym (is d)))))
+last-given all ns n index last (Some (New first)) within is h q = absurd (cc)
+last-given all ns n index last (Some (Kept first)) within is (needs, at, none) q =
+    let same : index ≡ last = cc in
+    (λ s. cc, subst (IsNewAt all (Some (unwrap_or (last_name ns n.new) n.new))) same (within, λ d. rw none (ap (λ w. let m : NewName = w in Some m.new) (sym (is d)))))
+last-given all ns n index last (Some (Old first other)) within is (needs, at, final) q =
+    let same : other ≡ last = cc in
+    (λ s. cc, subst (IsNewAt all (Some (unwrap_or (last_name ns n.new) n.new))) same (final.0, λ d. ap (λ w. Some (unwrap_or w n.new)) (final.1 d)))
 
--- The names of another rename are given their roles.
-pub roles-push : {Y : Type 0} (ns : List NewName) (n : NewName) (old mid new : List (String Y × Role)) → AreRolesOf ns old → IsName n.new
-    → n.old ≢ n.new → role_at old n.old ≡ None → role_at old n.new ≡ None → GivesRole old n.old (Old (length ns)) mid
-    → GivesRole mid n.new (New (length ns)) new → AreRolesOf (ns ++ n ∷ []) new
-roles-push ns n old mid new (apart, roles) name other none_old none_new to_mid to_new = (
-  apart-push ns n apart (subst (IsRoleIn ns n.old) none_old (roles n.old)) (subst (IsRoleIn ns n.new) none_new (roles n.new)) other name,
-  λ k. elim (cases_Bool (bytes_eq n.new k)) [
-    | inl c ↦
-        subst (IsRoleIn (ns ++ n ∷ []) k) (sym (to_new k ∙ cond-true (bytes_eq n.new k) (Some (New (length ns))) (role_at mid k) c)) tt
-    | inr c ↦
-        subst (IsRoleIn (ns ++ n ∷ []) k) (sym (to_new k ∙ cond-false (bytes_eq n.new k) (Some (New (length ns))) (role_at mid k) c)) (older k c)
-  ],
-)
+-- and take its old key from the pairs.
+old-gone : (all ns : List NewName) (key : List ℕ) (role : Option Role) → IsRoleIn all ns key role → is_needed role ≡ false → needed ns key ≢ Some true
+old-gone all ns key None h f = λ s. cc
+old-gone all ns key (Some (New first)) h f = λ s. cc
+old-gone all ns key (Some (Kept first)) h f = absurd (cc)
+old-gone all ns key (Some (Old first last)) h f = absurd (cc)
+
+old-at : (all : List NewName) (n : NewName) (index : ℕ) → index < length all → ((d : NewName) → get_or all index d ≡ n) → IsOldAt all n.old index
+old-at all n index within is = (within, λ d. ap (λ w. let m : NewName = w in m.old) (sym (is d)))
+
+-- The names of a rename before these are given their roles.
+pub names-added : {Y : Type 0} (old mid new : List (String Y × Role)) (index last : ℕ) (n : NewName) → n.old ≢ n.new → IsName n.new
+    → is_needed (role_at old n.old) ≡ false → last_rename index (role_at old n.new) ≡ Some last → GivesRole old n.old (Old index last) mid
+    → GivesRole mid n.new (New index) new → (all ns : List NewName) → index < length all → ((d : NewName) → get_or all index d ≡ n) → AreRolesOf all ns old
+    → AreRolesOf all (n ∷ ns) new
+names-added old mid new index last n apart name gone may to_mid to_new all ns within is (makeable, roles) =
+    let l = last-given all ns n index last (role_at old n.new) within is (roles n.new) may in (
+      (inr (apart, name, old-gone all ns n.old (role_at old n.old) (roles n.old) gone, l.0), makeable),
+      λ k. elim (cases_Bool (bytes_eq n.new k)) [
+        | inl c ↦
+            subst (IsRoleIn all (n ∷ ns) k) (sym (to_new k ∙ cond-true (bytes_eq n.new k) (Some (New index)) (role_at mid k) c))
+            (subst (λ w. needed (n ∷ ns) w ≡ Some false) ((bytes_eq-Decides n.new k).0 c) (needed-new n ns apart))
+        | inr c ↦
+            subst (IsRoleIn all (n ∷ ns) k) (sym (to_new k ∙ cond-false (bytes_eq n.new k) (Some (New index)) (role_at mid k) c))
+            (older l.1 k (λ q. same-no n.new k c (sym q)))
+      ],
+    )
   where
-    older : (k : List ℕ) → bytes_eq n.new k ≡ false → IsRoleIn (ns ++ n ∷ []) k (role_at mid k)
-    older k c = elim (cases_Bool (bytes_eq n.old k)) [
+    older : IsNewAt all (Some (unwrap_or (last_name ns n.new) n.new)) last → (k : List ℕ) → k ≢ n.new → IsRoleIn all (n ∷ ns) k (role_at mid k)
+    older final k other = elim (cases_Bool (bytes_eq n.old k)) [
       | inl b ↦
-          subst (IsRoleIn (ns ++ n ∷ []) k) (sym (to_mid k ∙ cond-true (bytes_eq n.old k) (Some (Old (length ns))) (role_at old k) b))
-          (here k ((bytes_eq-Decides n.old k).0 b))
+          subst (IsRoleIn all (n ∷ ns) k) (sym (to_mid k ∙ cond-true (bytes_eq n.old k) (Some (Old index last)) (role_at old k) b))
+          (subst (λ w. IsRoleIn all (n ∷ ns) w (Some (Old index last))) ((bytes_eq-Decides n.old k).0 b)
+          (needed-old n ns, old-at all n index within is, (final.0, λ d. last-old n ns apart ∙ final.1 d)))
       | inr b ↦
-          subst (IsRoleIn (ns ++ n ∷ []) k) (sym (to_mid k ∙ cond-false (bytes_eq n.old k) (Some (Old (length ns))) (role_at old k) b))
-          (role-push ns n k (role_at old k) (roles k) (λ q. same-no n.old k b (sym q)) (λ q. same-no n.new k c (sym q)))
+          subst (IsRoleIn all (n ∷ ns) k) (sym (to_mid k ∙ cond-false (bytes_eq n.old k) (Some (Old index last)) (role_at old k) b))
+          (role-more all ns n k (role_at old k) (λ q. same-no n.old k b (sym q)) other (roles k))
     ]
-      where
-        here : (k : List ℕ) → n.old ≡ k → IsRoleIn (ns ++ n ∷ []) k (Some (Old (length ns)))
-        here k q =
-            let size = length-append ns (n ∷ []) in
-            (omega arith, λ d. sym q ∙ ap (λ m. let x : NewName = m in x.old) (sym (get_or-append_seam ns n [] d)))
 
-pub no-role : (role : Option Role) → is_some role ≡ false → role ≡ None
-no-role None h = refl
-no-role (Some role) h = absurd (cc)
+-- The name of a rename of a key to itself.
+pub name-kept : {Y : Type 0} (old new : List (String Y × Role)) (index : ℕ) (n : NewName) (role : Role) → n.old ≡ n.new
+    → kept_role index (role_at old n.old) ≡ Some role → GivesRole old n.old role new → (all ns : List NewName) → index < length all
+    → ((d : NewName) → get_or all index d ≡ n) → AreRolesOf all ns old → AreRolesOf all (n ∷ ns) new
+name-kept old new index n role same may to_new all ns within is (makeable, roles) =
+    let h = kept (role_at old n.old) (roles n.old) may in (
+      (inl (same, h.0), makeable),
+      λ k. elim (cases_Bool (bytes_eq n.old k)) [
+        | inl c ↦
+            subst (IsRoleIn all (n ∷ ns) k) (sym (to_new k ∙ cond-true (bytes_eq n.old k) (Some role) (role_at old k) c))
+            (subst (λ w. IsRoleIn all (n ∷ ns) w (Some role)) ((bytes_eq-Decides n.old k).0 c) h.1)
+        | inr c ↦
+            let other : k ≢ n.old = λ q. same-no n.old k c (sym q) in
+            subst (IsRoleIn all (n ∷ ns) k) (sym (to_new k ∙ cond-false (bytes_eq n.old k) (Some role) (role_at old k) c))
+            (role-more all ns n k (role_at old k) other (λ q. other (q ∙ sym same)) (roles k))
+      ],
+    )
+  where
+    at : IsOldAt all n.old index
+    at = old-at all n index within is
 
-pub roles-none : {Y : Type 0} (roles : List (String Y × Role)) → roles ≡ [] → AreRolesOf [] roles
-roles-none roles h = (tt, λ key. subst (λ e. IsRoleIn [] key (role_at e key)) (sym h) tt)
+    kept : (later : Option Role) → IsRoleIn all ns n.old later → kept_role index later ≡ Some role
+        → (needed ns n.old ≢ Some false) × IsRoleIn all (n ∷ ns) n.old (Some role)
+    kept None h q =
+        (λ s. cc, subst (λ w. IsRoleIn all (n ∷ ns) n.old w) q (needed-old n ns, at, last-kept n ns n.old same ∙ no-last ns n.old h))
+    kept (Some (New first)) h q = absurd (cc)
+    kept (Some (Kept first)) (needs, was, none) q =
+        (λ s. cc, subst (λ w. IsRoleIn all (n ∷ ns) n.old w) q (needed-old n ns, at, last-kept n ns n.old same ∙ none))
+    kept (Some (Old first last)) (needs, was, final) q =
+        (λ s. cc, subst (λ w. IsRoleIn all (n ∷ ns) n.old w) q (needed-old n ns, at, (final.0, λ d. last-kept n ns n.old same ∙ final.1 d)))
 
-pub names-added : {Y : Type 0} (old mid new : List (String Y × Role)) (index : ℕ) (n : NewName) → IsName n.new → n.old ≢ n.new
-    → role_at old n.old ≡ None → role_at old n.new ≡ None → GivesRole old n.old (Old index) mid → GivesRole mid n.new (New index) new
-    → (ns : List NewName) → length ns ≡ index → AreRolesOf ns old → AreRolesOf (ns ++ n ∷ []) new
-names-added old mid new index n name other none_old none_new first second ns size roles =
-    roles-push ns n old mid new roles name other none_old none_new (subst (λ i. GivesRole old n.old (Old i) mid) (sym size) first)
-    (subst (λ i. GivesRole mid n.new (New i) new) (sym size) second)
+pub role-within : (all names : List NewName) (key : List ℕ) (role : Option Role) → IsRoleIn all names key role → IsRoleWithin (length all) role
+role-within all names key None h = tt
+role-within all names key (Some (New first)) h = tt
+role-within all names key (Some (Kept first)) h = h.1.0
+role-within all names key (Some (Old first last)) h = h.1.0
+
+pub roles-none : {Y : Type 0} (all : List NewName) (roles : List (String Y × Role)) → roles ≡ [] → AreRolesOf all [] roles
+roles-none all roles h = (tt, λ key. subst (λ e. IsRoleIn all [] key (role_at e key)) (sym h) refl)
 
 -- ---- the role of a group
 
@@ -113,49 +162,69 @@ role-none roles (given (comment text)) h = refl
 role-none roles ignored h = refl
 role-none roles (broken kind) h = refl
 
--- A pair with an old key.
-pub role-old : {Y : Type 0} (roles : List (String Y × Role)) (o : Outcome) (i : ℕ) → role_of roles o ≡ Some (Old i)
-    → (key : List ℕ) × (value : List ℕ) × (o ≡ given (pair key value)) × (role_at roles key ≡ Some (Old i))
-role-old roles (given (pair key value)) i h = (key, value, refl, h)
-role-old roles (given (comment text)) i h = absurd (cc)
-role-old roles ignored i h = absurd (cc)
-role-old roles (broken kind) i h = absurd (cc)
+-- A pair whose key has a role.
+role-some : {Y : Type 0} (roles : List (String Y × Role)) (o : Outcome) (role : Role) → role_of roles o ≡ Some role
+    → (key : List ℕ) × (value : List ℕ) × (o ≡ given (pair key value)) × (role_at roles key ≡ Some role)
+role-some roles (given (pair key value)) role h = (key, value, refl, h)
+role-some roles (given (comment text)) role h = absurd (cc)
+role-some roles ignored role h = absurd (cc)
+role-some roles (broken kind) role h = absurd (cc)
 
 -- any name
 pub any-name : NewName
 any-name = record { old = []; new = [] }
 
-one-of : (names : List NewName) (i : ℕ) (d : NewName) → i < length names → IsOneOf (get_or names i d) names
-one-of [] i d h = absurd (omega arith)
-one-of (n ∷ ns) zero d h = inl refl
-one-of (n ∷ ns) (suc i) d h = inr (one-of ns i d (omega arith))
-
--- It has the old key of the rename with this index,
-pub group-old : {Y : Type 0} (names : List NewName) (roles : List (String Y × Role)) (g : List HeldLine) (i : ℕ) (d : NewName)
-    → AreRolesOf names roles → role_of roles (outcome_of (joined (as_lines g))) ≡ Some (Old i)
-    → (i < length names) × IsOneOf (get_or names i d) names × HasKey (get_or names i d).old g
-group-old names roles g i d (apart, all) h =
-    let x = joined (as_lines g) in
-    let k = role-old roles (outcome_of x) i h in
-    let is : IsRoleIn names k.0 (Some (Old i)) = subst (IsRoleIn names k.0) k.3 (all k.0) in
-    let has : HasKey k.0 g = (k.1, subst (IsOutcome x) k.2 (outcome_of-meets x)) in
-    (is.0, one-of names i d is.0, subst (λ w. HasKey w g) (is.1 d) has)
-
 -- and is a pair.
 pub pair-of : (key : List ℕ) (g : List HeldLine) → HasKey key g → IsAnyPair (joined (as_lines g))
 pair-of key g (value, k) = (k.raw_key, k.raw_value, k.split)
 
-has-none : (ns : List NewName) (g : List HeldLine) → ((key : List ℕ) → HasKey key g → IsNoneOf key ns) → HasNoneOf ns g
-has-none [] g f = tt
-has-none (n ∷ ns) g f = (λ h. (f n.old h).0 refl, λ h. (f n.new h).1 refl, has-none ns g (λ key h. (f key h).2))
+-- What a role tells of a group.
+pub record HasRole (names : List NewName) (g : List HeldLine) (role : Role) : Type 0 where
+  pub key : List ℕ
+  pub has : HasKey key g
+  pub tells : IsRoleIn names names key (Some role)
 
--- A group without a role has none of the names.
-pub group-none : {Y : Type 0} (names : List NewName) (roles : List (String Y × Role)) (g : List HeldLine) → AreRolesOf names roles
-    → role_of roles (outcome_of (joined (as_lines g))) ≡ None → HasNoneOf names g
-group-none names roles g (apart, all) h = has-none names g (λ key has. subst (IsRoleIn names key) (none key has) (all key))
+pub group-role : {Y : Type 0} {role : Role} (names : List NewName) (roles : List (String Y × Role)) (g : List HeldLine) → AreRolesOf names names roles
+    → role_of roles (outcome_of (joined (as_lines g))) ≡ Some role → HasRole names g role
+group-role {role = role} names roles g (makeable, all) h =
+    let x = joined (as_lines g) in
+    let k = role-some roles (outcome_of x) role h in
+    record { key = k.0; has = (k.1, subst (IsOutcome x) k.2 (outcome_of-meets x)); tells = subst (IsRoleIn names names k.0) k.3 (all k.0) }
+
+pub no-some : (o : Option ℕ) → is_some o ≡ false → o ≡ None
+no-some None h = refl
+no-some (Some i) h = absurd (cc)
+
+-- A pair may have a key that one has to have.
+free-of : (names : List NewName) (key : List ℕ) (g : List HeldLine) → HasKey key g → needed names key ≡ Some true → IsFreeOf names g
+free-of names key g has needs other k q = let same = key-only key other g has k in cc (sym needs ∙ ap (needed names) same ∙ q)
+
+-- What a pass makes of a pair that gets another key,
+pub made-old : {r : Repertoire} {names : List NewName} {first : Bool} {g : List HeldLine} {index last : ℕ} {made : List ℕ} (h : HasRole names g (Old index last))
+    → IsRekeyed r first g (get_or names last any-name).new made → IsMadeBy r names first g made
+made-old {names = names} {g = g} {last = last} h k =
+    (free-of names h.key g h.has h.tells.0, inl (h.key, (get_or names last any-name).new, h.has, h.tells.2.1 any-name, k))
+
+-- of one that keeps its key,
+pub made-kept : {r : Repertoire} {names : List NewName} {first : Bool} {g : List HeldLine} {index : ℕ} → HasRole names g (Kept index)
+    → IsMadeBy r names first g (group_bytes g)
+made-kept {names = names} {g = g} h = (
+  free-of names h.key g h.has h.tells.0,
+  inr (λ key has. ap (last_name names) (sym (key-only h.key key g h.has has)) ∙ h.tells.2, refl),
+)
+
+-- and of a group without a role.
+pub made-none : {Y : Type 0} {r : Repertoire} {first : Bool} (names : List NewName) (roles : List (String Y × Role)) (g : List HeldLine)
+    → AreRolesOf names names roles → role_of roles (outcome_of (joined (as_lines g))) ≡ None → IsMadeBy r names first g (group_bytes g)
+made-none names roles g (makeable, all) h = (
+  λ key has q. let n = free key has in cc,
+  inr (λ key has. no-last names key (free key has), refl),
+)
   where
-    none : (key : List ℕ) → HasKey key g → role_at roles key ≡ None
-    none key (value, k) = ap (role_of roles) (outcome_of-only (joined (as_lines g)) (given (pair key value)) k) ∙ h
+    free : (key : List ℕ) → HasKey key g → needed names key ≡ None
+    free key (value, k) =
+        let none : role_at roles key ≡ None = ap (role_of roles) (outcome_of-only (joined (as_lines g)) (given (pair key value)) k) ∙ h in
+        subst (IsRoleIn names names key) none (all key)
 
 -- ---- group after group
 
@@ -208,33 +277,44 @@ none-found (suc n) zero = refl
 none-found (suc n) (suc i) = none-found n i
 
 -- or none is missing.
-pub all-found : (is_missing : Bool → Bool) (found : List Bool) → is_missing false ≡ true → list_any is_missing found ≡ false
-    → (i : ℕ) → i < length found → get_or found i false ≡ true
-all-found is_missing [] t none i within = absurd (omega arith)
-all-found is_missing (true ∷ found) t none zero within = refl
-all-found is_missing (false ∷ found) t none zero within = absurd (let m = rw t at none in cc)
-all-found is_missing (b ∷ found) t none (suc i) within = elim (cases_Bool (is_missing b)) [
-  | inl k ↦ absurd (let m = rw k at none in cc)
-  | inr k ↦ all-found is_missing found t (rw k at none) i (omega arith)
-]
+found-at : {Y : Type 0} (found : List Bool) (roles : List (String Y × Role)) (ns : List NewName) (i : ℕ) (d : NewName) → AreFound found roles ns → i < length ns
+    → IsFound found (role_at roles (get_or ns i d).old)
+found-at found roles [] i d h within = absurd (omega arith)
+found-at found roles (n ∷ ns) zero d h within = h.0
+found-at found roles (n ∷ ns) (suc i) d h within = found-at found roles ns i d h.1 (omega arith)
 
-all-there : (ns : List NewName) (gs : List (List HeldLine)) → ((i : ℕ) (d : NewName) → i < length ns → ¬ (NoneHasKey (get_or ns i d).old gs)) → AreThere ns gs
-all-there [] gs f = tt
-all-there (n ∷ ns) gs f = (f 0 n (omega arith), all-there ns gs (λ i d h. f (suc i) d (omega arith)))
+pub found-push : {Y : Type 0} (found : List Bool) (roles : List (String Y × Role)) (ns : List NewName) (n : NewName) → AreFound found roles ns
+    → IsFound found (role_at roles n.old) → AreFound found roles (ns ++ n ∷ [])
+found-push found roles [] n h k = (k, tt)
+found-push found roles (m ∷ ns) n h k = (h.0, found-push found roles ns n h.1 k)
 
 -- All keys were found, and all groups copied.
-pub all-renamed : {r : Repertoire} {source : List ℕ} {names : List NewName} {v now : OpenView} {c : Copied} {found : List Bool} {first : Bool} (bytes : List ℕ)
-    → AreApart names → IsViewOf r.encoding source v → AreRenamedUpTo r.characters source names v now c found first → now.to_come ≡ []
-    → ((i : ℕ) → i < length found → get_or found i false ≡ true) → bytes ≡ copied_to c (length c.source.now)
+pub all-renamed : {Y : Type 0} {r : Repertoire} {source : List ℕ} {names : List NewName} {v now : OpenView} {c : Copied} {found : List Bool} {first : Bool}
+    (roles : List (String Y × Role)) (bytes : List ℕ) → AreRolesOf names names roles → IsViewOf r.encoding source v
+    → AreRenamedUpTo r.characters source names v now c found first → now.to_come ≡ [] → AreFound found roles names → bytes ≡ copied_to c (length c.source.now)
     → AreRenamedAtOnce r source names bytes
-all-renamed {r} {source} {names} {v} {found = found} bytes apart o h none every is =
+all-renamed {r = r} {source} {names} {v} {found = found} roles bytes (makeable, all) o h none every is =
     let k = all-up bytes o h.up none is in
     record {
-      apart = apart;
+      makeable = makeable;
       groups = h.up.passed;
       held = k.held;
-      there = all-there names h.up.passed (λ i d within. h.there i d within (every i (subst (λ n. i < n) (sym h.sizes) within)));
+      there = λ key q. there key q (role_at roles key) refl (all key);
       body = k.body;
       made = subst (λ t. AreMade (IsMadeBy t names) true h.up.passed k.body) (viewed-force {r = r} o) k.made;
       whole = k.whole;
     }
+  where
+    there-at : (key : List ℕ) (i : ℕ) → IsOldAt names key i → get_or found i false ≡ true → ¬ (NoneHasKey key h.up.passed)
+    there-at key i (within, is) t = subst (λ w. ¬ (NoneHasKey w h.up.passed)) (sym (is any-name)) (h.there i any-name within t)
+
+    found-here : (key : List ℕ) (i : ℕ) (role : Option Role) → role_at roles key ≡ role → IsOldAt names key i → IsFound found role
+    found-here key i role q (within, is) =
+        subst (IsFound found) (ap (role_at roles) (sym (is any-name)) ∙ q) (found-at found roles names i any-name every within)
+
+    there : (key : List ℕ) → needed names key ≡ Some true → (role : Option Role) → role_at roles key ≡ role → IsRoleIn names names key role
+        → ¬ (NoneHasKey key h.up.passed)
+    there key needs None q none = absurd (cc)
+    there key needs (Some (New first)) q none = absurd (cc)
+    there key needs (Some (Kept i)) q (m, at, k) = there-at key i at (found-here key i (Some (Kept i)) q at)
+    there key needs (Some (Old i last)) q (m, at, k) = there-at key i at (found-here key i (Some (Old i last)) q at)

@@ -1,13 +1,13 @@
 // Renames many keys of a source, and keeps every other byte.
 
-ghost use Rattle.std.specs.Prelude.{◌≡◌, ◌<◌, ◌≤◌, ℕ, false, true, get_or, IfErr, IfOk, OnOk, is_some, length, replicate};
+ghost use Rattle.std.specs.Prelude.{◌≡◌, ◌<◌, ◌≤◌, None, false, true, IfErr, IfOk, IfSome, OnOk, length, replicate};
 ghost use Rattle.std.specs.Str.{chars};
 ghost use Rattle.properties_format.specs.Computed.Items.{outcome_of};
 ghost use Rattle.properties_editing.specs.Editing.{asked_for};
 ghost use Rattle.properties_renaming.specs.Renames.{RenamesKeys, names_in, new_name};
 ghost use Rattle.properties_items.specs.Errors.{IsBareError};
 ghost use Rattle.properties_items.specs.declared.error.ErrorKind.TheVariants as kind;
-ghost use Rattle.properties_renaming.specs.Private.Renames.{AddsNames, AreRolesOf, GivesRole, HasRoles, IsInEditableEncoding, RenamesAtOnce, RenamesFront, RenamesInTurn, RenamesSome, error_at, role_at, role_of};
+ghost use Rattle.properties_renaming.specs.Private.Renames.{AddsNames, AreFound, AreRolesOf, GivesRole, HasRoles, IsFound, IsInEditableEncoding, IsRoleWithin, RenamesAtOnce, RenamesFront, RenamesInTurn, RenamesSome, error_at, is_needed, kept_role, last_rename, role_at, role_of};
 
 use crate::copied::{Copied, copy_of};
 use crate::renaming::{NewKey, RenameError, put_key, rename_editable, repertoire_for};
@@ -70,10 +70,8 @@ impl Error for RenamesError {}
 /// Returns the source with keys renamed where they stand, one rename after another: each as [`rename_key`] renames in
 /// what those before it left.
 ///
-/// The source is read once to check it, and once for each run of renames. A run ends before a rename that has one of its
-/// names again, old or new. A rename of a key to itself, or to the empty name, is a run of its own. So a list whose names
-/// all differ takes two passes if no new one is empty, and a chain (`a` to `b`, `b` to `c`) one for each rename and one
-/// more. A refused rename costs up to five more passes.
+/// The source is read once to check it, and once for all renames, even if some rename the same pairs again (`a` to `b`,
+/// then `b` to `c`). A rename to the empty name takes a pass of its own. A refused rename costs up to five more passes.
 ///
 /// Fails as [`rename_key`] does, and then nothing is renamed. The error tells which rename was refused.
 ///
@@ -175,8 +173,8 @@ fn rename_first(
     Ok(Run { bytes, count: 1 })
 }
 
-// Makes the first renames of a list in one pass: those before the first that has one of their names again, is to itself,
-// or has an empty new name. Returns `None` if there are none, or if the source refuses one.
+// Makes the first renames of a list in one pass. Returns `None` if one pass can make none of them, or if the source
+// refuses one.
 fn rename_front(
     alloc: Global,
     source: &[u8],
@@ -204,7 +202,7 @@ fn rename_by_roles(
     renames: &[Rename],
     roles: &BTreeMap<String, Role>,
 ) -> Result<Option<Vec<u8>>, PropertiesError>
-    requires { AreRolesOf (names_in renames.now) roles.now.entries }
+    requires { AreRolesOf (names_in renames.now) (names_in renames.now) roles.now.entries }
     ensures { RenamesAtOnce (asked_for options) source.now (names_in renames.now) result }
 {
     let mut view = View::open(alloc, source, options.encoding)?;
@@ -214,21 +212,22 @@ fn rename_by_roles(
     let mut first = true;
     while let Some(group) = view.next()? {
         match role_of(alloc, roles, view.line())? {
-            Some(Role::Old(index)) => {
+            Some(Role::Old(index, last)) => {
                 let key = NewKey {
                     repertoire,
                     first,
-                    text: &renames[index].new,
+                    text: &renames[last].new,
                 };
                 put_key(alloc, &mut copied, &view, group, key)?;
                 found[index] = true;
             }
+            Some(Role::Kept(index)) => found[index] = true,
             Some(Role::New(_)) => return Ok(None),
             None => {}
         }
         first = false;
     }
-    if !all_found(&found) {
+    if first_missing(roles, renames, &found).is_some() {
         return Ok(None);
     }
     let bytes = copied.finish()?;
@@ -255,33 +254,64 @@ fn first_refused(
     let mut taken = count;
     while let Some(_) = view.next()? {
         match role_of(alloc, &names, view.line())? {
-            Some(Role::Old(index)) => found[index] = true,
+            Some(Role::Old(index, _)) => found[index] = true,
+            Some(Role::Kept(index)) => found[index] = true,
             Some(Role::New(index)) => taken = taken.min(index),
             None => {}
         }
     }
-    let missing = found.iter().position(|found| !found).unwrap_or(count);
-    Ok(missing.min(taken))
+    let missing = first_missing(&names, &renames[..count], &found);
+    Ok(missing.unwrap_or(count).min(taken))
 }
 
-// Returns a mark for each rename: no old key was found yet.
+// Returns a mark for each rename: no key was found yet.
 fn none_found(alloc: Global, count: usize) -> Result<Vec<bool>, AllocError>
     ensures { IfOk result (λ found. found.items ≡ replicate count false) }
 {
     vec![in alloc; false; count]
 }
 
-// Returns whether each old key was found.
-fn all_found(found: &[bool]) -> bool
-    ensures { result ≡ true → (i : ℕ) → i < length found.now → get_or found.now i false ≡ true }
+// Returns the index of the first rename whose old key a pair has to have, and none was found.
+fn first_missing(
+    roles: &BTreeMap<String, Role>,
+    renames: &[Rename],
+    found: &[bool],
+) -> Option<usize>
+    requires roles { AreRolesOf (names_in renames.now) (names_in renames.now) roles.now.entries }
+    requires sizes { length found.now ≡ length renames.now }
+    ensures found { result ≡ None → AreFound found.now roles.now.entries (names_in renames.now) }
+    ensures within { IfSome result (λ index. index < length renames.now) }
 {
-    !found.contains(&false)
+    for (index, rename) in renames.iter().enumerate() {
+        if !is_found(found, role_at(roles, &rename.old)) {
+            return Some(index);
+        }
+    }
+    None
 }
 
-// What a name is to a list of renames: the old key, or the new one, of the rename with this index.
+// Returns whether a pair was found with a key of this role, if one has to be.
+fn is_found(found: &[bool], role: Option<Role>) -> bool
+    requires { IsRoleWithin (length found.now) role }
+    ensures { result ≡ true → IsFound found.now role }
+{
+    match role {
+        Some(Role::Old(index, _)) => found[index],
+        Some(Role::Kept(index)) => found[index],
+        Some(Role::New(_)) => true,
+        None => true,
+    }
+}
+
+// What the renames of a list have to do with the pairs of a source that have a name. Each has the index of the first of
+// them with that name.
 #[derive(Clone, Copy)]
 enum Role {
-    Old(usize),
+    // There has to be such a pair. The second index is that of the rename that gives it its last name.
+    Old(usize, usize),
+    // There has to be such a pair, and it keeps its key.
+    Kept(usize),
+    // There may be no such pair.
     New(usize),
 }
 
@@ -292,28 +322,63 @@ struct Roles {
     count: usize,
 }
 
-// Returns the roles of the names in a list, up to the first rename that has one of them again, renames a key to itself, or
-// has an empty new name.
+// Returns the roles of the names in a list, as far as one pass can make its renames.
 fn roles_of(alloc: Global, renames: &[Rename]) -> Result<Roles, AllocError>
     ensures { IfOk result (HasRoles renames.now) }
 {
-    let mut names = BTreeMap::new(alloc);
-    for (index, rename) in renames.iter().enumerate() {
-        if !add_names(alloc, &mut names, index, &rename.old, &rename.new)? {
-            return Ok(Roles {
-                names,
-                count: index,
-            });
-        }
+    let count = run_size(alloc, renames)?;
+    if let Some(names) = all_roles(alloc, &renames[..count])? {
+        return Ok(Roles { names, count });
     }
     Ok(Roles {
-        names,
-        count: renames.len(),
+        names: BTreeMap::new(alloc),
+        count: 0,
     })
 }
 
-// Gives both names of a rename their roles, if they differ, have none yet, and the new one isn't empty. Returns whether it
-// did.
+// Returns how many of the first renames one pass can make, as far as their names tell: up to one that gives the empty name,
+// renames a key that no pair has any more, or gives one that pairs have by then.
+fn run_size(alloc: Global, renames: &[Rename]) -> Result<usize, AllocError>
+    ensures { IfOk result (λ size. size ≤ length renames.now) }
+{
+    let mut is_there: BTreeMap<&str, bool> = BTreeMap::new(alloc);
+    for (index, rename) in renames.iter().enumerate() {
+        let old = rename.old.as_str();
+        let new = rename.new.as_str();
+        let is_gone = is_there.get(old) == Some(&false);
+        let is_taken = old != new && (new.is_empty() || is_there.get(new) == Some(&true));
+        if is_gone || is_taken {
+            return Ok(index);
+        }
+        is_there.insert(old, false)?;
+        is_there.insert(new, true)?;
+    }
+    Ok(renames.len())
+}
+
+// Returns the roles of the names of all of these renames, or `None` if one pass can't make them. The last rename comes
+// first, since the role of a key depends on the one of its new name.
+fn all_roles(
+    alloc: Global,
+    renames: &[Rename],
+) -> Result<Option<BTreeMap<String, Role>>, AllocError>
+    ensures { IfOk result (λ given. IfSome given (λ roles.
+        AreRolesOf (names_in renames.now) (names_in renames.now) roles.entries)) }
+{
+    let mut roles = BTreeMap::new(alloc);
+    let mut index = renames.len();
+    while index > 0 {
+        index -= 1;
+        let Rename { old, new } = &renames[index];
+        if !add_names(alloc, &mut roles, index, old, new)? {
+            return Ok(None);
+        }
+    }
+    Ok(Some(roles))
+}
+
+// Gives both names of a rename their roles, given those of the renames after it, and returns whether one pass can make it
+// with these.
 fn add_names(
     alloc: Global,
     roles: &mut BTreeMap<String, Role>,
@@ -324,19 +389,73 @@ fn add_names(
     ensures { AddsNames roles.old.entries index (new_name (chars old.now) (chars new.now))
         result roles.new.entries }
 {
-    if new.is_empty() || old == new || has_role(roles, old) || has_role(roles, new) {
+    if old == new {
+        return keep_name(alloc, roles, index, old);
+    }
+    if new.is_empty() || is_needed(role_at(roles, old)) {
         return Ok(false);
     }
-    give_role(alloc, roles, old, Role::Old(index))?;
+    let Some(last) = last_rename(index, role_at(roles, new)) else {
+        return Ok(false);
+    };
+    give_role(alloc, roles, old, Role::Old(index, last))?;
     give_role(alloc, roles, new, Role::New(index))?;
     Ok(true)
 }
 
-// Returns whether a name has a role.
-fn has_role(roles: &BTreeMap<String, Role>, name: &str) -> bool
-    ensures { result ≡ is_some (role_at roles.now.entries (chars name.now)) }
+// The same of a rename of a key to itself.
+fn keep_name(
+    alloc: Global,
+    roles: &mut BTreeMap<String, Role>,
+    index: usize,
+    key: &str,
+) -> Result<bool, AllocError>
+    ensures { AddsNames roles.old.entries index (new_name (chars key.now) (chars key.now))
+        result roles.new.entries }
 {
-    roles.contains_key(name)
+    let Some(role) = kept_role(index, role_at(roles, key)) else {
+        return Ok(false);
+    };
+    give_role(alloc, roles, key, role)?;
+    Ok(true)
+}
+
+// Returns the last rename of the pairs that a rename gives a name, which has this role in those after it, or `None` if no
+// pair may have it then.
+fn last_rename(index: usize, later: Option<Role>) -> Option<usize>
+    ensures { result ≡ last_rename index later }
+{
+    match later {
+        Some(Role::Old(_, last)) => Some(last),
+        Some(Role::New(_)) => None,
+        Some(Role::Kept(_)) => Some(index),
+        None => Some(index),
+    }
+}
+
+// Returns the role of a key that a rename leaves as it is, and that has this role in those after it, or `None` if no pair
+// may have it then.
+fn kept_role(index: usize, later: Option<Role>) -> Option<Role>
+    ensures { result ≡ kept_role index later }
+{
+    match later {
+        Some(Role::Old(_, last)) => Some(Role::Old(index, last)),
+        Some(Role::New(_)) => None,
+        Some(Role::Kept(_)) => Some(Role::Kept(index)),
+        None => Some(Role::Kept(index)),
+    }
+}
+
+// Returns whether a pair has to have a name with this role.
+fn is_needed(role: Option<Role>) -> bool
+    ensures { result ≡ is_needed role }
+{
+    match role {
+        Some(Role::Old(_, _)) => true,
+        Some(Role::Kept(_)) => true,
+        Some(Role::New(_)) => false,
+        None => false,
+    }
 }
 
 fn give_role(

@@ -1,5 +1,6 @@
 -- How keys are renamed in one pass, or in turn.
-use Rattle.std.specs.Prelude.{◌≡◌, ◌≢◌, ◌⊎◌, ◌++◌, ℕ, ◌<◌, ◌≤◌, Bool, true, false, List, [], ◌∷◌, bytes_eq, get_or, length, take, Option, Some, None, Result, Ok, Err}
+use Rattle.std.specs.Prelude.{◌≡◌, ◌≢◌, ◌⊎◌, ◌++◌, ℕ, ◌<◌, ◌≤◌, Bool, true, false, if◌then◌else◌, List, [], ◌∷◌, bytes_eq, get_or, length, take, Option, Some, None, Result, Ok, Err}
+use Rattle.std.specs.Option.{unwrap_or}
 use Rattle.std.specs.Global.{Vec}
 use Rattle.std.specs.Map.{lookup, update}
 use Rattle.std.specs.declared.string.String.{String}
@@ -23,7 +24,7 @@ use Rattle.properties_renaming.specs.declared.renames.Rename.{Rename}
 use Rattle.properties_renaming.specs.declared.renames.RenamesError.{RenamesError}
 use Rattle.properties_renaming.specs.declared.renames.RenamesError.TheVariants as many
 use Rattle.properties_renaming.specs.declared.renames.Role.{Role}
-use Rattle.properties_renaming.specs.declared.renames.Role.TheVariants.{Old, New}
+use Rattle.properties_renaming.specs.declared.renames.Role.TheVariants.{Old, Kept, New}
 use Rattle.properties_renaming.specs.declared.renames.Roles.{Roles}
 use Rattle.properties_renaming.specs.declared.renames.Run.{Run}
 
@@ -72,42 +73,47 @@ RenamesFront options source renames (Ok (Some run)) = MakesRun options source re
 RenamesFront options source renames (Ok None) = Unit {0}
 RenamesFront options source renames (Err error) = IsBareError kind.Memory error
 
--- ---- names that are apart
+-- ---- several renames in one pass
 
--- None of these names is the key.
-abbrev pub IsNoneOf : List ℕ → List NewName → Type 0
-IsNoneOf key [] = Unit {0}
-IsNoneOf key (n ∷ ns) = (key ≢ n.old) × (key ≢ n.new) × IsNoneOf key ns
+-- what the first of these renames that has a key as one of its names says of it: a pair has to have the key, or none may
+-- have it
+abbrev pub needed : List NewName → List ℕ → Option Bool
+needed [] key = None
+needed (n ∷ ns) key = if bytes_eq key n.old then Some true else (if bytes_eq key n.new then Some false else needed ns key)
 
--- No two names are the same, and no new one is empty.
-abbrev pub AreApart : List NewName → Type 0
-AreApart [] = Unit {0}
-AreApart (n ∷ ns) = IsName n.new × (n.old ≢ n.new) × IsNoneOf n.old ns × IsNoneOf n.new ns × AreApart ns
+-- the name that a key has after these renames, if one of them gives it another
+abbrev pub last_name : List NewName → List ℕ → Option (List ℕ)
+last_name [] key = None
+last_name (n ∷ ns) key =
+    if bytes_eq n.old n.new then last_name ns key
+    else (if bytes_eq key n.old then Some (unwrap_or (last_name ns n.new) n.new) else last_name ns key)
 
-abbrev pub IsOneOf : NewName → List NewName → Type 0
-IsOneOf n [] = ⊥
-IsOneOf n (m ∷ ms) = (n ≡ m) ⊎ IsOneOf n ms
+-- The first of these renames leaves the keys that the others want, and no key gets the empty name.
+abbrev pub AreMakeable : List NewName → Type 0
+AreMakeable [] = Unit {0}
+AreMakeable (n ∷ ns) =
+    ((n.old ≡ n.new) × (needed ns n.old ≢ Some false)
+    ⊎ (n.old ≢ n.new) × IsName n.new × (needed ns n.old ≢ Some true) × (needed ns n.new ≢ Some false))
+    × AreMakeable ns
 
--- ---- one pass
+-- No pair may have a key that no pair may have.
+abbrev pub IsFreeOf : List NewName → List HeldLine → Type 0
+IsFreeOf names g = (key : List ℕ) → HasKey key g → needed names key ≢ Some false
 
--- The group isn't a pair with one of these names.
-abbrev pub HasNoneOf : List NewName → List HeldLine → Type 0
-HasNoneOf [] g = Unit {0}
-HasNoneOf (n ∷ ns) g = ¬ (HasKey n.old g) × ¬ (HasKey n.new g) × HasNoneOf ns g
-
--- A pair with one of the old keys gets the new one; a group that has none of the names stays.
+-- A pair gets the last name of its key; a group without such a key stays.
 abbrev pub IsMadeBy : Repertoire → List NewName → Bool → List HeldLine → List ℕ → Type 0
 IsMadeBy r names first g made =
-    ((n : NewName) × IsOneOf n names × HasKey n.old g × IsRekeyed r first g n.new made) ⊎ HasNoneOf names g × (made ≡ group_bytes g)
+    IsFreeOf names g
+    × (((key : List ℕ) × (new : List ℕ) × HasKey key g × (last_name names key ≡ Some new) × IsRekeyed r first g new made)
+    ⊎ ((key : List ℕ) → HasKey key g → last_name names key ≡ None) × (made ≡ group_bytes g))
 
--- Each of the old keys is there.
+-- A pair has each key that one has to have.
 abbrev pub AreThere : List NewName → List (List HeldLine) → Type 0
-AreThere [] gs = Unit {0}
-AreThere (n ∷ ns) gs = ¬ (NoneHasKey n.old gs) × AreThere ns gs
+AreThere names gs = (key : List ℕ) → needed names key ≡ Some true → ¬ (NoneHasKey key gs)
 
 -- All keys were renamed at once.
 pub record AreRenamedAtOnce (r : Repertoire) (source : List ℕ) (names : List NewName) (result : List ℕ) : Type 0 where
-  pub apart : AreApart names
+  pub makeable : AreMakeable names
   pub groups : List (List HeldLine)
   pub held : AreIn r.encoding source groups
   pub there : AreThere names groups
@@ -137,24 +143,67 @@ abbrev pub role_of : {Y : Type 0} → List (String Y × Role) → Outcome → Op
 role_of roles (given (pair key value)) = role_at roles key
 role_of roles other = None
 
--- What a role tells of a key: `Old`, that it is the old key of the rename with this index; `New`, nothing; and none, that
--- it is none of the names.
-abbrev pub IsRoleIn : List NewName → List ℕ → Option Role → Type 0
-IsRoleIn names key None = IsNoneOf key names
-IsRoleIn names key (Some (Old i)) = (i < length names) × ((d : NewName) → key ≡ (get_or names i d).old)
-IsRoleIn names key (Some (New i)) = Unit {0}
+-- This rename of a list has the old name.
+abbrev pub IsOldAt : List NewName → List ℕ → ℕ → Type 0
+IsOldAt names key i = (i < length names) × ((d : NewName) → key ≡ (get_or names i d).old)
 
--- The names are apart, and these are their roles.
-abbrev pub AreRolesOf : {Y : Type 0} → List NewName → List (String Y × Role) → Type 0
-AreRolesOf names roles = AreApart names × ((key : List ℕ) → IsRoleIn names key (role_at roles key))
+-- This one gives the name.
+abbrev pub IsNewAt : List NewName → Option (List ℕ) → ℕ → Type 0
+IsNewAt names new i = (i < length names) × ((d : NewName) → new ≡ Some (get_or names i d).new)
+
+-- What a role tells of a key, of some renames of a list: none, that it is none of their names.
+abbrev pub IsRoleIn : (all : List NewName) (names : List NewName) (key : List ℕ) → Option Role → Type 0
+IsRoleIn all names key None = needed names key ≡ None
+IsRoleIn all names key (Some (Old first last)) = (needed names key ≡ Some true) × IsOldAt all key first × IsNewAt all (last_name names key) last
+IsRoleIn all names key (Some (Kept first)) = (needed names key ≡ Some true) × IsOldAt all key first × (last_name names key ≡ None)
+IsRoleIn all names key (Some (New first)) = needed names key ≡ Some false
+
+-- One pass can make these renames of a list, and these are the roles of their names.
+abbrev pub AreRolesOf : {Y : Type 0} → List NewName → List NewName → List (String Y × Role) → Type 0
+AreRolesOf all names roles = AreMakeable names × ((key : List ℕ) → IsRoleIn all names key (role_at roles key))
 
 -- They are those of the first of these renames.
 pub record HasRoles (renames : List Rename) (roles : Roles) : Type 0 where
   pub within : roles.count ≤ length renames
-  pub are : AreRolesOf (names_in (take roles.count renames)) roles.names.entries
+  pub are : (let some = names_in (take roles.count renames) in AreRolesOf some some roles.names.entries)
 
--- The names of one more rename, which comes after these, are given their roles, or all roles stay.
+-- The names of one more rename, which comes before these, are given their roles, or one pass can't make it.
 abbrev pub AddsNames : {Y E : Type 0} → List (String Y × Role) → ℕ → NewName → Result Bool E → List (String Y × Role) → Type 0
-AddsNames old index n (Ok true) new = (ns : List NewName) → length ns ≡ index → AreRolesOf ns old → AreRolesOf (ns ++ n ∷ []) new
-AddsNames old index n (Ok false) new = new ≡ old
-AddsNames old index n (Err error) new = Unit {0}
+AddsNames old index n (Ok true) new =
+    (all ns : List NewName) → index < length all → ((d : NewName) → get_or all index d ≡ n) → AreRolesOf all ns old → AreRolesOf all (n ∷ ns) new
+AddsNames old index n other new = Unit {0}
+
+-- A pair was found with a key of this role, if one has to be.
+abbrev pub IsFound : List Bool → Option Role → Type 0
+IsFound found (Some (Old first last)) = get_or found first false ≡ true
+IsFound found (Some (Kept first)) = get_or found first false ≡ true
+IsFound found other = Unit {0}
+
+-- Each is found.
+abbrev pub AreFound : {Y : Type 0} → List Bool → List (String Y × Role) → List NewName → Type 0
+AreFound found roles [] = Unit {0}
+AreFound found roles (n ∷ ns) = IsFound found (role_at roles n.old) × AreFound found roles ns
+
+-- whether a pair has to have a name with this role
+abbrev pub is_needed : Option Role → Bool
+is_needed (Some (Old first last)) = true
+is_needed (Some (Kept first)) = true
+is_needed other = false
+
+-- The rename that a role of this kind names is one of so many.
+abbrev pub IsRoleWithin : ℕ → Option Role → Type 0
+IsRoleWithin size (Some (Old first last)) = first < size
+IsRoleWithin size (Some (Kept first)) = first < size
+IsRoleWithin size other = Unit {0}
+
+-- the last rename of the pairs that a rename gives a name with this role in those after it
+abbrev pub last_rename : ℕ → Option Role → Option ℕ
+last_rename index (Some (Old first last)) = Some last
+last_rename index (Some (New first)) = None
+last_rename index other = Some index
+
+-- the role of a key that a rename leaves as it is, given the role that it has in those after it
+abbrev pub kept_role : ℕ → Option Role → Option Role
+kept_role index (Some (Old first last)) = Some (Old index last)
+kept_role index (Some (New first)) = None
+kept_role index other = Some (Kept index)

@@ -1,0 +1,12 @@
+use Rattle.std.proofs.Common.{refl, sym, ap, ◌∙◌}
+use Rattle.std.specs.Str.{chars}
+use Rattle.properties_renaming.specs.Renames.{new_name}
+use Rattle.properties_renaming.specs.Private.Renames.{kept_role}
+use Rattle.properties_renaming.proofs.RenamesAtOnce.{name-kept}
+use Rattle.properties_renaming.proofs.renames.keep_name.Goals as goal
+
+pub returns : goal.returns
+returns c =
+    let key = chars c.args.key.now in
+    let may = ap (kept_role c.args.index) (sym c.role_at.ensures) ∙ sym c.kept_role.ensures ∙ c.in-Some.is in
+    name-kept c.args.roles.now.entries c.give_role.new.roles.entries c.args.index (new_name key key) c.in-Some.role refl may c.in_ok-give_role.ensures
