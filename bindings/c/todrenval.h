@@ -6,9 +6,9 @@
  *     free(port.bytes);
  *
  * bindings/c/example.c is a program, and docs/C.md says how to build and link. The functions are written and proved in
- * Rattle; only what is `static inline` here is C. Each call has two forms: todrenval_get writes into memory of the
- * caller, and todrenval_get_new, which calls it, takes memory for the result by malloc. todrenval_status_text has the
- * first alone.
+ * Rattle; only what is `static inline` here is C. A call that gives bytes has two forms: todrenval_get writes them into
+ * memory of the caller, and todrenval_get_new, which calls it, into memory that it takes by malloc.
+ * todrenval_status_text has only the first form, and the calls for one edit have only the second.
  *
  * What every call into memory of the caller has in common:
  *
@@ -19,14 +19,14 @@
  *   the room that is needed, and `out` is as it was. With any other status but TODRENVAL_OK, *length is 0 and `out` is
  *   as it was; but at a malformed escape todrenval_items gives the items before it. Past *length, `out` always is as it
  *   was.
- * - If several errors could be reported, it is the first of these: the encoding, the target, the flags, a key, a text, a
+ * - If there are several errors, it reports the first of these: the encoding, the target, the flags, a key, a text, a
  *   prefix or a separator that isn't UTF-8, the packed list, from its front on, bytes that aren't text, and then the
  *   rest.
  *
  * How much room: try four times the length of the source for items, eight times with spans, twice its length for a
  * conversion, the length of the list and some more for what is written, and once the length of the source and some more
- * for everything else. If that is too little, the call is to be made again with the room that *length says; it then
- * does all its work again. A call with room for 0 bytes asks for the length.
+ * for everything else. If that is too little, call again with the room that *length says, which repeats the work. A
+ * call with room for 0 bytes asks for the length.
  *
  * The caller's obligations:
  *
@@ -102,8 +102,8 @@ enum todrenval_target {
                                  reads it: U+0080 to U+009F become escapes, and so does what is past U+00FF */
 };
 
-/* Flags: 0, one of these, or several, as in TODRENVAL_ASCII_ONLY | TODRENVAL_READABLE. A call refuses a flag that it
- * has no use for, and any other bit. */
+/* Flags: 0, one of these, or several, as in TODRENVAL_ASCII_ONLY | TODRENVAL_READABLE. A call refuses flags that don't
+ * apply to it, and any other bit. */
 enum todrenval_flag {
     /* Each non-ASCII character that is put in is an escape: todrenval_edit, _rename_key, _set_comment, _write. */
     TODRENVAL_ASCII_ONLY = 1,

@@ -18,7 +18,7 @@ memoryview or an mmap. Keys and values are str.
 The encoding is utf-8 if none is given. Others are iso-8859-1, cp1252, utf-16, utf-16-le and utf-16-be, by any label that
 Python has for them. A byte order mark overrides the encoding. Bytes that aren't text of the encoding raise a PropertiesError
 with their line; with errors="replace" they are read as U+FFFD. A byte 0 isn't text in UTF-8 without a byte order mark, since
-UTF-16 looks so when its mark is missing.
+UTF-16 without its mark looks like this.
 
 iso-8859-1 is for files that Java reads by `Properties.load(InputStream)`. It is read as cp1252, which has other characters
 at 27 of the bytes from 80 to 9F. What is written in it has only characters that both have at the same byte, and escapes
@@ -26,14 +26,14 @@ for all others.
 
 What is written is ASCII-only, with escapes for other characters, as Java's `Properties.store` and `json.dumps` write it, so
 it reads the same in iso-8859-1 and utf-8. With ascii_only=False a non-ASCII character is an escape only if the encoding
-lacks it, or if it is the first one of a key at the front of a file that would begin like a byte order mark.
+doesn't have it, or if it is the first one of a key at the front of a file that would begin like a byte order mark.
 
 Java passes over comments, so that one may be `# C:\users`, and so do functions with comments="skip". With comments="read" the
-escapes in comments are resolved, and a malformed one is an error. With comments="raw" comments are given as they stand. `items`
-reads them if nothing else is said, `groups` gives them raw, and all other functions skip them.
+escapes in comments are resolved, and a malformed one is an error. With comments="raw" comments are given as they stand. By
+default `items` reads them, `groups` gives them raw, and all other functions skip them.
 
 Any thread may call the functions at any time. They need the shared object libtodrenval.so.2 beside this file, or at the path
-that the environment variable TODRENVAL_LIBRARY has.
+that the environment variable TODRENVAL_LIBRARY names.
 """
 
 from __future__ import annotations
