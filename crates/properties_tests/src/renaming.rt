@@ -180,7 +180,7 @@ fn renames_of(alloc: Global, names: Names) -> Result<Vec<Rename>, Fail> {
 
 #[test]
 fn keys_are_renamed_in_turn(rt: HostRuntime) -> Result<(), Fail> {
-    let rows: [(&'static [u8], Names, &'static [u8]); 8] = [
+    let rows: [(&'static [u8], Names, &'static [u8]); 12] = [
         (
             b"a=1\n b : 2\na",
             &[("a", "c"), ("b", "d")],
@@ -205,6 +205,24 @@ fn keys_are_renamed_in_turn(rt: HostRuntime) -> Result<(), Fail> {
         (b"a = 1\nb=2\n", &[("a", ""), ("b", "a")], b" = 1\na=2\n"),
         (b"a=1\n", &[("a", "a")], b"a=1\n"),
         (b"a=1\n", &[], b"a=1\n"),
+        // A key that gets its own name back is printed.
+        (
+            b"\\u0061 : 1\nk\\\n  y = 2\n",
+            &[("a", "b"), ("ky", "a"), ("b", "c"), ("c", "d"), ("a", "ky")],
+            b"d : 1\nky = 2\n",
+        ),
+        // One that is to keep its name isn't.
+        (
+            b"\\u0061=1\nb=2\n",
+            &[("a", "a"), ("b", "c"), ("a", "a"), ("c", "d")],
+            b"\\u0061=1\nd=2\n",
+        ),
+        (b"a=1\n", &[("a", "b"), ("b", "b"), ("b", "c")], b"c=1\n"),
+        (
+            b"a=1\n",
+            &[("a", ""), ("", "b"), ("b", ""), ("", "c")],
+            b"c=1\n",
+        ),
     ];
     let options = SourceOptions::new(Encoding::UTF_8);
     for (row, (source, names, wanted)) in rows.iter().enumerate() {
@@ -217,7 +235,7 @@ fn keys_are_renamed_in_turn(rt: HostRuntime) -> Result<(), Fail> {
 
 #[test]
 fn a_refused_rename_is_told(rt: HostRuntime) -> Result<(), Fail> {
-    let rows: [(&'static [u8], Names, usize, Why); 10] = [
+    let rows: [(&'static [u8], Names, usize, Why); 13] = [
         (b"a=1\n", &[("a", "b"), ("c", "d")], 1, Why::NoKey),
         // The first rename that is refused is told, and not the first pair that refuses one.
         (
@@ -258,6 +276,24 @@ fn a_refused_rename_is_told(rt: HostRuntime) -> Result<(), Fail> {
             &[("ab", "x"), ("x", "c")],
             1,
             Why::KeyTaken(2),
+        ),
+        (
+            b"a=1\nd=2\n",
+            &[("a", "b"), ("b", "c"), ("c", "d")],
+            2,
+            Why::KeyTaken(2),
+        ),
+        (
+            b"a=1\n",
+            &[("a", "b"), ("b", "c"), ("b", "b")],
+            2,
+            Why::NoKey,
+        ),
+        (
+            b"b=1\n",
+            &[("b", "c"), ("a", "a"), ("c", "d")],
+            1,
+            Why::NoKey,
         ),
         (
             b"a=1\nb=\\u12\n",
