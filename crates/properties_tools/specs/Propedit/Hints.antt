@@ -1,4 +1,4 @@
--- What is said of words that may have been meant otherwise.
+-- The hints on arguments that may have been meant otherwise.
 use Rattle.std.specs.Prelude.{◌≡◌, ◌==◌, ℕ, Bool, true, false, List, [], ◌∷◌, ◌++◌, Option, Some, None, codes, string_bytes}
 use Rattle.std.specs.Borrow.{Bor}
 use Rattle.std.specs.Global.{Global}
@@ -61,7 +61,7 @@ key_line key = codes "propedit: no pair has the key '" ++ (escaped key ++ (codes
 abbrev pub prefix_line : List ℕ → List ℕ
 prefix_line prefix = codes "propedit: no key begins with '" ++ (escaped prefix ++ (codes "'; " ++ printed_line is_a_file))
 
--- what is said of a PREFIX, where no file is named
+-- the hint on a PREFIX, if no file is named
 abbrev pub prefix_hint : Source → List ℕ → Option (List ℕ)
 prefix_hint StandardInput (byte ∷ bytes) = Some (prefix_line (byte ∷ bytes))
 prefix_hint source prefix = None
@@ -90,7 +90,7 @@ abbrev pub IsHintIf : Bool → Job → List (List ℕ) → List ℕ → Option (
 IsHintIf true job files source hint = hint ≡ None
 IsHintIf false job files source hint = IsHintOf job.source (encoding_of job.encoding) job.command files source hint
 
--- What is said of an answer with this status: nothing where something was found.
+-- The hint on an answer with this status: none if something was found.
 abbrev pub IsHint : Job → List (List ℕ) → List ℕ → ℕ → Option (List ℕ) → Type 0
 IsHint job files source status hint = IsHintIf (status == 0) job files source hint
 
