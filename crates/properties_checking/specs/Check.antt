@@ -37,7 +37,7 @@ use Rattle.properties_checking.specs.declared.request.Allowed.{Allowed}
 use Rattle.properties_checking.specs.declared.request.Allowed.TheVariants.{All, Latin1, Ascii}
 use Rattle.properties_checking.specs.declared.request.Check.{Check}
 
--- ---- what is said
+-- ---- what is reported
 
 -- What is wrong: U+0000; an ill-formed line, with these words; UTF-8 that is read as windows-1252; a non-ASCII character; this
 -- byte, which ISO 8859-1 reads otherwise; what Java reads otherwise; a malformed escape, perhaps in a comment; this key, which

@@ -170,7 +170,7 @@ module _ (name : List ℕ) (e : Encoding) (check : Check) (source : List ℕ) (r
     well_formed = subst (TellsWellFormed e source) (sym well) told;
   }
 
-  -- what is said beside a base
+  -- the report against a base
   pub said-against : (base : KnownBase) (w : Bool) (after all : String Global) → w ≡ (base.is_well_formed && r.is_well_formed)
       → AddsReport check.report (missing_line name base.name) (missing_value name base.name)
       (reported check.ignored (λ p. MissingKey) (lacking w (keys_at (table_places r.keys)) base.keys)) r.text after

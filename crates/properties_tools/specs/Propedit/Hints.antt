@@ -23,7 +23,7 @@ borrowed_bytes text = text.now
 
 -- ---- before standard input is read
 
--- what is said in a terminal
+-- the line that is printed in a terminal
 abbrev pub reading_line : List ℕ
 reading_line = printed_line (codes "propedit: reading standard input; '-f FILE' reads a file")
 
@@ -77,7 +77,7 @@ abbrev pub IsFileHint : Encoding → List ℕ → List (List ℕ) → Option (Li
 IsFileHint e source files None = HoldsKeys e source files
 IsFileHint e source files (Some line) = NamesFile e source files line
 
--- What is said where a command found nothing in a source. These files are there.
+-- The hint if a command found nothing in a source. These files are there.
 abbrev pub IsHintOf : Source → Encoding → Command → List (List ℕ) → List ℕ → Option (List ℕ) → Type 0
 IsHintOf from e (Get keys default end) files source hint = IsFileHint e source files hint
 IsHintOf from e (Comment key) files source hint = IsFileHint e source files hint
