@@ -1,4 +1,4 @@
-// Settings as a map: read, changed and written anew.
+// Settings as a map: read, changed and written again.
 
 use counted_io::{Counted, CountedRead, CountedWrite};
 use java_properties::{Encoding, PropertiesError, read, read_sorted, write, write_sorted};

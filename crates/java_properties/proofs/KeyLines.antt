@@ -72,7 +72,7 @@ abbrev pub first_place : List KeyPlace → List ℕ → Option ℕ
 first_place [] key = None
 first_place (k ∷ ks) key = if bytes_eq k.key key then Some k.number else first_place ks key
 
--- what is said of it
+-- No place has the key, or the first one with it has this number.
 abbrev Finds : List KeyPlace → List ℕ → Option ℕ → Type 0
 Finds keys key None = HasNoKeyPlace key keys
 Finds keys key (Some number) = HasFirstNumber keys key number

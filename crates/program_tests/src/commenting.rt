@@ -111,7 +111,7 @@ fn each_comment_is_set_in_what_the_edits_before_it_left(rt: HostRuntime) -> Resu
     check_runs(&rt, Program::Propedit, LISTS)
 }
 
-// The words, the input, the status, and the message after the name of the source.
+// The arguments, the input, the status, and the message after the name of the source.
 const REFUSED: &[(&str, &[u8], u8, &str)] = &[
     (
         "set-comment a x",

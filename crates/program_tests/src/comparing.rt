@@ -103,7 +103,7 @@ const NOT_UTF_8: &str =
 
 const TOO_FEW: &str = "Malformed \\uxxxx encoding: not enough digits.\n";
 
-// The words, both sources, the source that is refused and its line, and why.
+// The arguments, both sources, the source that is refused and its line, and why.
 type Refused<'a> = (&'a str, &'a [u8], &'a [u8], &'a str, &'a str);
 
 const REFUSED: &[Refused<'static>] = &[

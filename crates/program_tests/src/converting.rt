@@ -127,7 +127,7 @@ const READABLE: &[Row] = &[
         0,
         b"k\\u003d=\\u003d\xc3\xa9 \\\\u00e9 \\u00\\\ne9",
     ),
-    // So do those of characters that the encoding lacks.
+    // So do those of characters that the encoding doesn't have.
     (
         "-r -e latin1 convert windows-1252",
         b"k=\\u3042\\u00e9\\u20AC",

@@ -18,7 +18,7 @@ const EDITS: &[Row] = &[
         0,
         b"# a\nport=1\nhost : \xc5\xbc\r\n",
     ),
-    // Words after the first KEY are keys and values, whatever they are.
+    // Arguments after the first KEY are keys and values, whatever they are.
     (
         "set a -1 remove -x set set remove",
         b"a=0\n-x=1\nset=2\n",
@@ -115,7 +115,7 @@ fn the_key_of_an_edit_may_have_to_be_there(rt: HostRuntime) -> Result<(), Fail> 
     check_runs(&rt, Program::Propedit, EXISTING)
 }
 
-// The words, the input, the name of the source, and the key that is named: the first that no pair has.
+// The arguments, the input, the name of the source, and the key that is named: the first that no pair has.
 const LACKING: &[(&str, &[u8], &str, &str)] = &[
     (
         "--existing set a 2 set prot 1",

@@ -1,4 +1,4 @@
-// What `propedit` says of words that may have been meant otherwise.
+// The hints of `propedit` on arguments that may have been meant otherwise.
 
 use crate::runs::{Program, Run, SOUND, Streams, check_run};
 use std::process::Abort;
@@ -9,7 +9,7 @@ const WITH_FILES: Streams = Streams {
     ..SOUND
 };
 
-// The words, the input, the status, the output, and the line on standard error, or nothing.
+// The arguments, the input, the status, the output, and the line on standard error, or nothing.
 fn check_hints<R: Abort + AllocGlobal>(rt: &R, rows: &[Run<'static>]) -> Result<(), Fail> {
     for (number, row) in (1usize..).zip(rows) {
         check_run(rt, number, Program::Propedit, WITH_FILES, *row)?;

@@ -201,7 +201,7 @@ fn regular_files_alone_are_read(rt: HostRuntime) {
     }
 }
 
-// Edits the file that the words name. Returns the status, what took the errors, and what a file has then.
+// Edits the file that the arguments name. Returns the status, what took the errors, and what a file has then.
 fn edit(rt: &HostRuntime, words: &str, path: &str) -> Result<(u8, ScriptedSink, Vec<u8>), Fail> {
     let alloc = rt.alloc();
     let mut errors = sink(alloc, AMPLE);
@@ -231,7 +231,7 @@ fn check_edit(
 
 const EDITED: &str = "edited.properties";
 
-// The words, what the file has before the edit, and what it has then.
+// The arguments, and what the file has before the edit and after it.
 const EDITS: &[(&str, &[u8], &[u8])] = &[
     (
         "-i edited.properties set a 3",
@@ -256,7 +256,7 @@ const EDITS: &[(&str, &[u8], &[u8])] = &[
     ("-i 'no such file' --create remove a", b"a=1", b"a=1"),
 ];
 
-// The words, what the file has before the edit, and what it has then, and what is said of it.
+// The arguments, what the file has before the edit and after it, and what is printed of the edit.
 const SAID: &[(&str, &[u8], &[u8], &str)] = &[
     (
         "-i edited.properties -v set a 3",
@@ -312,7 +312,7 @@ const SAID: &[(&str, &[u8], &[u8], &str)] = &[
     ),
 ];
 
-// The words, what the file has before and after them, the status, and the error.
+// The arguments, what the file has before and after the run, the status, and the error.
 const REFUSED: &[(&str, &[u8], u8, &str)] = &[
     (
         "-i edited.properties set a 3",

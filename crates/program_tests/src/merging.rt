@@ -112,7 +112,7 @@ const TOO_FEW: &str = "Malformed \\uxxxx encoding: not enough digits.\n";
 
 const NO_KEY: &str = "no pair has the key 'port'\n";
 
-// The words, the file of pairs, the source, the status, what is named on standard error, and why.
+// The arguments, the file of pairs, the source, the status, what is named on standard error, and why.
 type Refused<'a> = (&'a str, &'a [u8], &'a [u8], u8, &'a str, &'a str);
 
 const REFUSED: &[Refused<'static>] = &[

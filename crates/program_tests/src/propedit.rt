@@ -61,7 +61,7 @@ const HAS_NUL: &str = "U+0000; if this is UTF-16, -e utf-16le or -e utf-16be rea
 
 const IN_UTF_16: &str = "this command does not support UTF-16; propedit convert utf-8 converts it";
 
-// The words, the input, what follows the name of the source where the error is printed, and what is wrong.
+// The arguments, the input, what follows the name of the source where the error is printed, and what is wrong.
 type Refused = (&'static str, &'static [u8], &'static str, &'static str);
 
 fn check_refused<R: Abort + AllocGlobal>(
@@ -132,7 +132,7 @@ const REFUSED: &[Refused] = &[
     ("set a 2", b"\xfe\xff\0a", "", IN_UTF_16),
     ("-e utf-16le set a 1", b"a\0", "", IN_UTF_16),
     ("-e utf-16le comment a", b"a\0", "", IN_UTF_16),
-    // Whatever is wrong with a source comes before a key that it lacks.
+    // Whatever is wrong with a source comes before a key that it doesn't have.
     ("-x set b 2", b"a=1\nk=\\u12", ":2", TOO_FEW),
     ("-x set b 2", b"\xfe\xff\0a", "", IN_UTF_16),
     // The name `-` is that of standard input.
@@ -226,7 +226,7 @@ const NOT_FLUSHED: Plan = Plan {
     ..AMPLE
 };
 
-// The output, the words, the input, what is written, and why no more.
+// The output, the arguments, the input, what is written, and why no more.
 const OUTPUTS: &[(Plan, &str, &[u8], &[u8], &str)] = &[
     (BROKEN, "get a", b"a=123", b"12", "entity not found"),
     (FULL, "get a", b"a=123", b"12", "I/O error"),

@@ -1,11 +1,11 @@
-// Runs with words that ask for nothing.
+// Runs with arguments that ask for nothing.
 
 use crate::runs::{Program, SOUND, run};
 use crate::same::{Bytes, same};
 use std::process::Abort;
 use std::test::Fail;
 
-// Compares a run with wrong words with the first line that it is to print, but for the name of the program.
+// Compares a run with wrong arguments with the first line that it is to print, but for the name of the program.
 fn check_refusal<R: Abort + AllocGlobal>(
     rt: &R,
     number: usize,
@@ -23,7 +23,7 @@ fn check_refusal<R: Abort + AllocGlobal>(
     Ok(())
 }
 
-/// The words, and that line.
+/// The arguments, and that line.
 pub type Refusal = (&'static str, &'static str);
 
 pub fn check_refusals<R: Abort + AllocGlobal>(rt: &R, rows: &[Refusal]) -> Result<(), Fail> {
@@ -33,7 +33,7 @@ pub fn check_refusals<R: Abort + AllocGlobal>(rt: &R, rows: &[Refusal]) -> Resul
     Ok(())
 }
 
-/// The words, and what stands in that line for each `*` of a pattern.
+/// The arguments, and what stands in that line for each `*` of a pattern.
 pub type Filled = (&'static str, &'static str, &'static str);
 
 pub fn check_filled<R: Abort + AllocGlobal>(

@@ -97,7 +97,7 @@ fn each_removal_looks_at_what_the_edits_before_it_left(rt: HostRuntime) -> Resul
     check_runs(&rt, Program::Propedit, LISTS)
 }
 
-// The words, the input, the status, and the message after the name of the source.
+// The arguments, the input, the status, and the message after the name of the source.
 const REFUSED: &[(&str, &[u8], u8, &str)] = &[
     (
         "-x --with-comment remove a",

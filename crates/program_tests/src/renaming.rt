@@ -93,7 +93,7 @@ fn each_renaming_looks_at_what_the_edits_before_it_left(rt: HostRuntime) -> Resu
     check_runs(&rt, Program::Propedit, LISTS)
 }
 
-// The words, the input, the status, and the message after the name of the source.
+// The arguments, the input, the status, and the message after the name of the source.
 const REFUSED: &[(&str, &[u8], u8, &str)] = &[
     ("rename a b", b"x=1\\\na=2\n", 1, " no pair has the key 'a'"),
     ("rename a a", b"b=1", 1, " no pair has the key 'a'"),

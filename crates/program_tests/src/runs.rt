@@ -115,7 +115,7 @@ pub fn check_ended(
     same(rt, number, found, wanted);
 }
 
-/// The words, as `words_of` divides them, the input, the status, the output, and what is printed on standard error.
+/// The arguments, as `words_of` divides them, the input, the status, the output, and what is printed on standard error.
 pub type Run<'a> = (&'a str, &'a [u8], u8, &'a [u8], &'a str);
 
 /// Compares a run of a program with the row of this number.
@@ -132,7 +132,7 @@ pub fn check_run<R: Abort + AllocGlobal>(
     Ok(())
 }
 
-/// The words, the input, the status, and the output of a run that prints nothing on standard error.
+/// The arguments, the input, the status, and the output of a run that prints nothing on standard error.
 pub type Row = (&'static str, &'static [u8], u8, &'static [u8]);
 
 /// Compares the runs of a program over sound streams with the rows.

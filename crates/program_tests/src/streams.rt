@@ -66,7 +66,7 @@ pub fn reader(
     Ok(ScriptedReader::new(pieces, tail))
 }
 
-/// The words of a line, as a shell divides it: what stands between blanks, or between single quotes.
+/// The arguments in a line, as a shell divides it: what stands between blanks, or between single quotes.
 pub fn words_of(alloc: Global, line: &str) -> Result<Vec<String>, AllocError> {
     let mut words = Vec::new(alloc);
     let mut is_quoted = false;

@@ -23,7 +23,7 @@ pub const IN_PLACE: u8 = 3;
 
 pub const MADE: u8 = 4;
 
-// What stands for the status of words that ask for anything else.
+// What stands for the status of arguments that ask for anything else.
 const OTHER: u8 = 9;
 
 /// How the streams of a run behave: what comes after the first source and after the second, and how the output takes
@@ -126,7 +126,7 @@ fn merge(
     }
 }
 
-/// The words, the bytes of both sources, the status, the output, and what is printed on standard error.
+/// The arguments, the bytes of both sources, the status, the output, and what is printed on standard error.
 pub type Run<'a> = (&'a str, &'a [u8], &'a [u8], u8, &'a [u8], &'a str);
 
 /// Compares a run with the row of this number.
@@ -143,7 +143,7 @@ pub fn check_run<R: Abort + AllocGlobal>(
     Ok(())
 }
 
-/// The words, the bytes of both sources, the status, and the output of a run that prints nothing on standard error.
+/// The arguments, the bytes of both sources, the status, and the output of a run that prints nothing on standard error.
 pub type Row = (
     &'static str,
     &'static [u8],

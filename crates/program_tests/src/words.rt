@@ -1,4 +1,4 @@
-// What `propedit` says of words that are no command or too few or many for one, and the usage under it.
+// What `propedit` prints for arguments that are no command, or too few or many for one, and the usage under it.
 
 use crate::refusals::{Refusal, check_refusals};
 use crate::runs::{Program, SOUND, check_run};
@@ -152,7 +152,7 @@ const COMMANDS: &str = "get [OPTION ..] KEY ..\n       \
     propedit convert [OPTION ..] ENCODING\n       \
     propedit help [COMMAND]";
 
-// The words, what is wrong, and the usage of the command that was meant.
+// The arguments, what is wrong, and the usage of the command that was meant.
 const USAGES: &[(&str, &str, &str)] = &[
     ("", "no command", COMMANDS),
     (

@@ -1,10 +1,10 @@
-// What `propedit` says of words that are no edits.
+// What `propedit` prints for arguments that are no edits.
 
 use crate::refusals::{Filled, Refusal, check_filled, check_refusals};
 use std::test::Fail;
 
 const EDITS: &[Refusal] = &[
-    // Edits that aren't whole, and words that are none.
+    // Edits that aren't whole, and arguments that are none.
     ("set", "'set' requires a KEY"),
     ("set --", "'set' requires a KEY"),
     ("set a", "'set a' requires a VALUE"),
@@ -33,7 +33,7 @@ const EDITS: &[Refusal] = &[
         "set-comment -a b",
         "'set-comment b' requires a TEXT; a key that begins with a dash comes after '--'",
     ),
-    // What is meant by words like these.
+    // What is meant by arguments like these.
     (
         "set comment a b",
         "'set comment': did you mean 'set-comment'?",
@@ -118,7 +118,7 @@ fn edits_that_are_not_whole_are_named(rt: HostRuntime) -> Result<(), Fail> {
     check_refusals(&rt, EDITS)
 }
 
-// Words in place of an edit.
+// Arguments in place of an edit.
 const NO_EDITS: &[Filled] = &[
     ("set a 1 set -i x y", "y", ""),
     ("set a 1 -i x", "-i", ""),

@@ -50,7 +50,7 @@ const OPTIONS: &[Refusal] = &[
         "-i x set --in-place=y a 1",
         "the option '--in-place FILE' is given twice",
     ),
-    // The value of an option is the next word, whatever that is.
+    // The value of an option is the next argument, whatever that is.
     (
         "get -d port",
         "'get' requires a KEY; a key that begins with a dash comes after '--'",
@@ -72,7 +72,7 @@ const OPTIONS: &[Refusal] = &[
     ("--create -f a set k v", REQUIRES_IN_PLACE),
     ("--create remove k", REQUIRES_IN_PLACE),
     ("remove --create k", REQUIRES_IN_PLACE),
-    // So is one of which it is said what changed.
+    // So is one with `-v`, which reports what changed.
     ("-v set a 1", "the option '-v' requires '-i FILE'"),
     ("remove -v a", "the option '-v' requires '-i FILE'"),
     (
@@ -247,7 +247,7 @@ const OTHER_OPTIONS: &[Filled] = &[
     ("help -i", "-i", "help'"),
 ];
 
-// Words with options of a command and others.
+// Arguments with options of a command and others.
 const MIXED_LETTERS: &[Filled] = &[
     ("get -zq k", "-zq", "get"),
     ("set -vz a 1", "-vz", "set"),

@@ -85,7 +85,7 @@ fn merge<W: CountedWrite, E: CountedWrite>(
     }
 }
 
-// Checks files, of which some have names that are not UTF-8. No other command takes such a word.
+// Checks files, of which some have names that are not UTF-8. No other command takes such an argument.
 fn check_or_explain<W: CountedWrite, E: CountedWrite>(
     rt: &HostRuntime,
     alloc: Global,

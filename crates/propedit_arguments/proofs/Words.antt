@@ -1,4 +1,4 @@
--- The words of edits, one edit after another.
+-- The arguments of edits, one edit after another.
 use Rattle.std.proofs.Common.{◌≡◌, ◌≢◌, ◌≤◌, ◌<◌, ◌-◌, ◌==◌, true, false, ℕ, List, [], ◌∷◌, ◌++◌, length, get_or, take, drop, map}
 use Rattle.std.proofs.Common.{refl, ap, sym, subst, ◌∙◌, append_assoc, append-nil, arith, true≢false, eqb-true}
 use Rattle.std.specs.Prelude.{codes, string_bytes}
@@ -13,13 +13,13 @@ use Rattle.propedit_arguments.proofs.Assignments.{has-sign}
 use Rattle.propedit_arguments.specs.declared.edits.AskedEdit.{AskedEdit}
 use Rattle.propedit_arguments.specs.declared.mistake.Mistake.{Mistake}
 
--- the words of one edit more
+-- the arguments of one edit more
 words-more : (ws : List WrittenEdit) (w : WrittenEdit) → written_words (ws ++ (w ∷ [])) ≡ written_words ws ++ edit_words w.form w.edit
 words-more [] w = append-nil (edit_words w.form w.edit)
 words-more (v ∷ vs) w =
     ap (λ u. edit_words v.form v.edit ++ u) (words-more vs w) ∙ sym (append_assoc (edit_words v.form v.edit) (written_words vs) (edit_words w.form w.edit))
 
--- the first word, if there is one
+-- the first argument, if there is one
 first-word : List (List ℕ) → List ℕ
 first-word [] = []
 first-word (w ∷ ws) = w
@@ -32,7 +32,7 @@ two-commands e = true≢false (ap (list_any (λ c. c == 0x76)) e)
 set-commands : codes "set" ≡ codes "set-comment" → ⊥
 set-commands e = true≢false (sym (ap (list_any (λ c. c == 0x2D)) e))
 
--- what comes after the words of an edit, which only one edit has
+-- what comes after the arguments of an edit, which only one edit has
 same-rest : (f g : Form) (e d : Edit) (a b : List (List ℕ)) → MayBeWritten f e → MayBeWritten g d → edit_words f e ++ a ≡ edit_words g d ++ b → a ≡ b
 unfolding first-word
 same-rest plain plain (set k v) (set l w) a b p q e = cc
@@ -64,11 +64,11 @@ same-rest plain literal (set_comment k v) (set_comment l w) a b p q e = absurd (
 same-rest literal plain (set_comment k v) (set_comment l w) a b p q e = absurd (q (cc))
 same-rest literal literal (set_comment k v) (set_comment l w) a b p q e = cc
 
--- some words begin the words of an edit
+-- an edit has at least one argument
 no-none : (f : Form) (e : Edit) (a : List (List ℕ)) → edit_words f e ++ a ≢ []
 no-none f e a h = cc
 
--- what comes after some edits, where all words are those of edits, are words of edits
+-- if all arguments are those of edits, so are those after some edits
 rest-of : (done all : List WrittenEdit) (rest : List (List ℕ)) → written_words all ≡ written_words done ++ rest → (others : List WrittenEdit) × (rest ≡ written_words others)
 rest-of [] all rest e = (all, sym e)
 rest-of (w ∷ done) [] rest e = absurd (no-none w.form w.edit (written_words done ++ rest) (sym (e ∙ append_assoc (edit_words w.form w.edit) (written_words done) rest)))
@@ -108,7 +108,7 @@ some-words (a ∷ texts) h e = cc
 pub no-words : {Z : Type 0} (texts : List (String Z)) → (length texts == 0) ≡ true → map string_bytes texts ≡ []
 no-words texts h = ap (map string_bytes) (nil_from_length texts (eqb-true (length texts) 0 h))
 
--- What comes after the words of an edit is shorter.
+-- What comes after the arguments of an edit is shorter.
 pub shorter : {Y Z : Type 0} (rest : List (String Y)) (others : List (String Z)) (form : Form) (edit : Edit)
     → map string_bytes rest ≡ edit_words form edit ++ map string_bytes others → length others < length rest
 shorter rest others form edit is =
@@ -117,7 +117,7 @@ shorter rest others form edit is =
     let both = ap length is ∙ length-append (edit_words form edit) (map string_bytes others) in
     omega arith
 
--- Edits were found and are made, and these words are left.
+-- Edits were found and are made, and these arguments are left.
 pub record HasMade (words : List (List ℕ)) (edits : List Meant) (rest : List (List ℕ)) : Type 0 where
   pub done : List WrittenEdit
   pub is : words ≡ written_words done ++ rest
@@ -144,13 +144,13 @@ made-more words edits rest others form edit made h may next same is = record {
     w : WrittenEdit
     w = record { edit = edit; form = form; may = may }
 
--- ---- words that ask for no edit
+-- ---- arguments that ask for no edit
 
 -- `--` doesn't look like NAME=TEXT.
 no-dashes : IsAssignment (codes "--") → ⊥
 no-dashes a = true≢false (sym (has-sign a.name a.value) ∙ ap (list_any is_sign) (sym a.is))
 
--- Where something is wrong, no edit begins the words.
+-- Where something is wrong, no edit begins the arguments.
 none-at : (words : List (List ℕ)) (mistake : Mistake) (f : Form) (e : Edit) (others : List (List ℕ)) → MayBeWritten f e → IsMistakeAt words mistake
     → words ≡ edit_words f e ++ others → ⊥
 unfolding first-word
@@ -205,7 +205,7 @@ none-at words mistake f (remove k) others may (assignments key value rest is a b
 none-at words mistake f (rename k v) others may (assignments key value rest is a b m) w = cc
 none-at words mistake f (set_comment k v) others may (assignments key value rest is a b m) w = set-commands (ap first-word (sym is ∙ w))
 
--- Something is wrong with some words.
+-- If something is wrong, there are arguments.
 some-wrong : (words : List (List ℕ)) (mistake : Mistake) → IsMistakeAt words mistake → words ≢ []
 some-wrong words mistake (no_edit word rest is no-set no-removal no-renaming no-comment m) e = cc
 some-wrong words mistake (no_key command edit form c is m) e = cc
@@ -214,7 +214,7 @@ some-wrong words mistake (no_new_key key form is first m) e = cc
 some-wrong words mistake (no_text key form is first m) e = cc
 some-wrong words mistake (assignments key value rest is a b m) e = cc
 
--- Where something is wrong behind some edits, the words are those of no edits.
+-- If something is wrong after some edits, the arguments are not those of edits.
 no-edits : (words : List (List ℕ)) (mistake : Mistake) → AreWrong words mistake → (all : List WrittenEdit) → words ≡ written_words all → ⊥
 no-edits words mistake h all is = left (rest-of h.before all h.rest (sym is ∙ h.is))
   where
@@ -224,7 +224,7 @@ no-edits words mistake h all is = left (rest-of h.before all h.rest (sym is ∙ 
       | (w ∷ others) ↦ none-at h.rest mistake w.form w.edit (written_words others) w.may h.wrong
     ] o.1
 
--- An error that says what is wrong behind some edits is what the words give.
+-- An error that says what is wrong after some edits is what the arguments give.
 pub refused : (words : List (List ℕ)) (edits : List Meant) (rest : List (List ℕ)) (mistake : Mistake)
     → HasMade words edits rest → rest ≢ [] → (rest ≢ [] → IsMistakeAt rest mistake)
     → AreWrong words mistake × ((all : List WrittenEdit) → words ≡ written_words all → ⊥)

@@ -1,4 +1,4 @@
-// The commands and options of `propedit`: the words that each takes, and what usage and help say of it.
+// The commands and options of `propedit`: the arguments that each takes, and what usage and help say of it.
 
 use crate::kinds::KINDS;
 use java_properties::Repertoire;
@@ -28,7 +28,7 @@ pub enum CommandName {
 pub struct CommandRow {
     pub command: CommandName,
     pub name: &'static str,
-    /// The words after it, as the usage shows them.
+    /// The arguments after it, as the usage shows them.
     pub words: &'static str,
     pub help: &'static str,
     /// The options that it has a use for.
@@ -414,8 +414,8 @@ pub fn command_named(name: &str) -> Option<&'static CommandRow> {
     COMMANDS.iter().find(|row| row.name == name)
 }
 
-/// Returns the row of the command that may be meant by a word that names none: it is another word for it, or its name
-/// in capitals, cut short, or with a letter or two after it.
+/// Returns the row of the command that may be meant by an argument that names none: it is another word for it, or its
+/// name in capitals, cut short, or with a letter or two after it.
 pub fn command_meant(word: &str) -> Option<&'static CommandRow> {
     COMMANDS.iter().find(|row| {
         row.name.eq_ignore_ascii_case(word)
@@ -437,7 +437,7 @@ pub fn option_of(letter: char, command: Option<&'static CommandRow>) -> Option<&
         .or(first)
 }
 
-/// Returns the row of the option that a word begins with, before a command or after it.
+/// Returns the row of the option that an argument begins with, before a command or after it.
 pub fn option_in(word: &str, command: Option<&'static CommandRow>) -> Option<&'static OptionRow> {
     match word.strip_prefix("--") {
         Some(long) => OPTIONS.iter().find(|row| row.long == name_in(long)),
@@ -617,9 +617,9 @@ impl fmt::Display for TypedOption {
 /// What a usage shows.
 #[derive(Clone, Copy, Debug)]
 pub enum Usage {
-    /// All commands, each with its words.
+    /// All commands, each with its arguments.
     All,
-    /// A command with its words.
+    /// A command with its arguments.
     Of(&'static CommandRow),
     /// The commands that edit.
     Edits,

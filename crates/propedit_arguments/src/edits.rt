@@ -1,4 +1,4 @@
-// The edits that words are.
+// The edits that arguments ask for.
 
 ghost use Rattle.std.specs.Prelude.{◌∷◌, ◌≡◌, codes, map, string_bytes, IfOk, MatchBool};
 ghost use Rattle.std.specs.List.{list_any};
@@ -10,7 +10,7 @@ use crate::mistake::Mistake;
 use java_properties::Edit;
 use std::alloc::{AllocError, Global};
 
-/// An edit that words ask for.
+/// An edit that arguments ask for.
 #[derive(Drop)]
 pub enum AskedEdit {
     /// A key is set or removed.
@@ -21,8 +21,8 @@ pub enum AskedEdit {
     SetComment(String, String),
 }
 
-/// Returns the edits that a command and the words after its options are, in order. If they are no edits, the mistake
-/// names the wrong word.
+/// Returns the edits that a command and the arguments after its options ask for, in order. If they are no edits, the
+/// mistake names the wrong argument.
 pub fn edits_in<'a>(
     alloc: Global,
     command: &'a str,
@@ -67,7 +67,7 @@ impl BorrowedEdit<'_> {
     }
 }
 
-// Returns the edit that the words begin with, and the words after it.
+// Returns the edit that the arguments begin with, and the arguments after it.
 fn next_edit<'a>(words: &'a [String]) -> Result<(BorrowedEdit<'a>, &'a [String]), Mistake<'a>>
     ensures { TakesEdit (map string_bytes words.now) result }
 {
@@ -77,7 +77,7 @@ fn next_edit<'a>(words: &'a [String]) -> Result<(BorrowedEdit<'a>, &'a [String])
     }
 }
 
-// Returns the edit of a command whose texts the words begin with, and the words after it.
+// Returns the edit of a command whose texts the arguments begin with, and the arguments after it.
 fn edit_of<'a>(
     command: &'a str,
     words: &'a [String],
@@ -93,7 +93,7 @@ fn edit_of<'a>(
     }
 }
 
-// Returns the setting of a key, whose words are the first of these, and the words after it.
+// Returns the setting of a key, whose arguments are the first of these, and the arguments after it.
 fn next_set<'a>(words: &'a [String]) -> Result<(BorrowedEdit<'a>, &'a [String]), Mistake<'a>>
     ensures { TakesEdit (codes "set" ∷ map string_bytes words.now) result }
 {
@@ -105,7 +105,7 @@ fn next_set<'a>(words: &'a [String]) -> Result<(BorrowedEdit<'a>, &'a [String]),
     }
 }
 
-// Returns the removal of a key, which is the first of these words, and the words after it.
+// Returns the removal of a key, which is the first of these arguments, and the arguments after it.
 fn next_removal<'a>(words: &'a [String]) -> Result<(BorrowedEdit<'a>, &'a [String]), Mistake<'a>>
     ensures { TakesEdit (codes "remove" ∷ map string_bytes words.now) result }
 {
@@ -115,7 +115,7 @@ fn next_removal<'a>(words: &'a [String]) -> Result<(BorrowedEdit<'a>, &'a [Strin
     }
 }
 
-// Returns the renaming of a key, whose words are the first of these, and the words after it.
+// Returns the renaming of a key, whose arguments are the first of these, and the arguments after it.
 fn next_renaming<'a>(words: &'a [String]) -> Result<(BorrowedEdit<'a>, &'a [String]), Mistake<'a>>
     ensures { TakesEdit (codes "rename" ∷ map string_bytes words.now) result }
 {
@@ -126,7 +126,7 @@ fn next_renaming<'a>(words: &'a [String]) -> Result<(BorrowedEdit<'a>, &'a [Stri
     }
 }
 
-// Returns the comment of a key, whose words are the first of these, and the words after it.
+// Returns the comment of a key, whose arguments are the first of these, and the arguments after it.
 fn next_comment<'a>(words: &'a [String]) -> Result<(BorrowedEdit<'a>, &'a [String]), Mistake<'a>>
     ensures { TakesEdit (codes "set-comment" ∷ map string_bytes words.now) result }
 {
@@ -137,7 +137,7 @@ fn next_comment<'a>(words: &'a [String]) -> Result<(BorrowedEdit<'a>, &'a [Strin
     }
 }
 
-// Returns the words without a `--` that comes first: what is behind it is taken as it is.
+// Returns the arguments without a `--` that comes first: what is after it is taken as it is.
 fn after_dashes(words: &[String]) -> &[String]
     ensures { AreAfterDashes (map string_bytes words.now) (map string_bytes result.now) }
 {
@@ -147,7 +147,7 @@ fn after_dashes(words: &[String]) -> &[String]
     }
 }
 
-// Fails if the words begin with a key and a value that both look like NAME=TEXT.
+// Fails if the arguments begin with a key and a value that both look like NAME=TEXT.
 fn refuse_assignments<'a>(words: &'a [String]) -> Result<(), Mistake<'a>>
     ensures { RefusesAssignments (map string_bytes words.now) result }
 {

@@ -1,4 +1,4 @@
-// The labels of encodings that people write otherwise, and what is said of them.
+// The labels of encodings that people write otherwise, and the messages about them.
 
 use crate::mistake::show_meant;
 use properties_tools::messages::Escaped;
@@ -41,7 +41,7 @@ pub(crate) fn show_ascii_encoding<W: fmt::Write>(
     )
 }
 
-// Returns what is said of an encoding that no conversion is to: which one may be meant.
+// Returns the hint on an encoding that no conversion is to: which one may be meant.
 fn target_meant(word: &str) -> Option<&'static str> {
     if means_ascii(word) {
         return Some("did you mean 'ascii'?");

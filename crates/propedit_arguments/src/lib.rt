@@ -1,6 +1,6 @@
 //! What the arguments of `propedit` ask for.
 //!
-//! [`asked_for`] makes a request of the words after the program's name, and [`explain`] prints why words ask for
+//! [`asked_for`] makes a request of the arguments after the program's name, and [`explain`] prints why they ask for
 //! nothing:
 //!
 //! ```text

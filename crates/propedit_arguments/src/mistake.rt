@@ -1,4 +1,4 @@
-// Why words ask for nothing.
+// Why arguments ask for nothing.
 
 use crate::command_line::{CommandName, CommandRow, OptionName, TypedOption, Usage, command_named};
 use crate::kinds::show_no_kind;
@@ -15,7 +15,7 @@ use properties_tools::messages::Escaped;
 use std::alloc::{AllocError, AllocFailed};
 use std::fmt;
 
-/// Why words ask for nothing.
+/// Why arguments ask for nothing.
 #[derive(Clone, Copy, Debug)]
 pub enum NoRequest<'a> {
     /// They ask for help, or for that on a command.
@@ -43,7 +43,7 @@ impl<T: Drop> From<AllocFailed<T>> for NoRequest<'_> {
     }
 }
 
-/// What may be meant by a word that is no command.
+/// What may be meant by an argument that is no command.
 #[derive(Clone, Copy, Debug)]
 pub enum Hint {
     Nothing,
@@ -56,7 +56,7 @@ pub enum Hint {
     Taken(TypedOption, &'static CommandRow),
 }
 
-/// What is wrong with words, or that memory ran out.
+/// What is wrong with arguments, or that memory ran out.
 #[derive(Clone, Copy, Debug)]
 pub enum Mistake<'a> {
     /// The bytes of this argument aren't UTF-8.
@@ -68,7 +68,7 @@ pub enum Mistake<'a> {
     DashesFirst(Hint),
     /// No command has this name.
     UnknownCommand(&'a str, Hint),
-    /// This word is no option, or none of the command before it.
+    /// This argument is no option, or none of the command before it.
     UnknownOption(&'a str, Option<&'static CommandRow>),
     /// This option, which may stand after this command, requires a value.
     NoOptionValue(TypedOption, Option<&'static CommandRow>),
@@ -110,9 +110,9 @@ pub enum Mistake<'a> {
     NothingToCheck(&'static CommandRow),
     /// After the argument of this command comes what looks like an option.
     OptionAfter(&'a str, &'static CommandRow),
-    /// This command has no use for this word.
+    /// This command has no use for this argument.
     Surplus(&'a str, &'static CommandRow),
-    /// This word is no edit.
+    /// This argument is no edit.
     NoEdit(&'a str),
     /// This edit has no key.
     NoKey(&'static str),
@@ -122,7 +122,7 @@ pub enum Mistake<'a> {
     NoNewKey(&'a str),
     /// The comment of this key has no text.
     NoText(&'a str),
-    /// These words begin with `set` and `comment`, and one command may be meant.
+    /// These arguments begin with `set` and `comment`, and one command may be meant.
     SetThenComment,
     /// This command has options and no key, which may be meant by an option.
     OptionForKey(&'static CommandRow),
@@ -299,7 +299,7 @@ impl fmt::Display for Mistake<'_> {
     }
 }
 
-// Prints that a word is no command, and what may be meant.
+// Prints that an argument is no command, and what may be meant.
 fn show_unknown_command<W: fmt::Write>(
     f: &mut fmt::Formatter<W>,
     word: &str,
@@ -364,7 +364,7 @@ fn show_one_input<W: fmt::Write>(
     )
 }
 
-// Prints that a command has no use for a word, and how a file is named.
+// Prints that a command has no use for an argument, and how a file is named.
 fn show_surplus<W: fmt::Write>(
     f: &mut fmt::Formatter<W>,
     word: &str,

@@ -33,10 +33,10 @@ pub fn explain_not_utf_8<R: Env, E: CountedWrite>(rt: &R, alloc: Global, errors:
     explain_mistake(alloc, mistake, errors)
 }
 
-// What comes behind a word that is not UTF-8. No argument holds it.
+// The mark after an argument that is not UTF-8. No argument has it.
 const MARK: char = '\0';
 
-/// Returns the words after the program's name. One that is not UTF-8 is marked at its end, so that the value of an
+/// Returns the arguments after the program's name. One that is not UTF-8 is marked at its end, so that the value of an
 /// option is marked too, and its bytes stand as messages print them.
 ///
 /// ```text
@@ -64,7 +64,7 @@ fn marked(alloc: Global, bytes: &[u8]) -> Result<String, AllocError> {
     }
 }
 
-/// Returns what stands for a word that is not UTF-8, or `None` for any other word.
+/// Returns what stands for an argument that is not UTF-8, or `None` for any other.
 pub fn name_of_marked(word: &str) -> Option<&str> {
     word.strip_suffix(MARK)
 }

@@ -29,7 +29,7 @@ struct Given<'a> {
     value: &'a str,
 }
 
-/// Returns the options that the words begin with, and the words after them.
+/// Returns the options that the arguments begin with, and the arguments after them.
 pub fn options_in<'a>(
     alloc: Global,
     words: &'a [String],
@@ -42,7 +42,7 @@ pub fn options_in<'a>(
     Ok((options, others))
 }
 
-// Returns whether a word is an option where one may stand: it begins with a dash, and is neither `-` nor `--`.
+// Returns whether an argument is an option where one may stand: it begins with a dash, and is neither `-` nor `--`.
 fn is_option(word: &str) -> bool {
     word.starts_with('-') && word != "-" && word != "--"
 }
@@ -56,8 +56,8 @@ pub fn source_named(alloc: Global, path: &str) -> Result<Source, AllocError> {
 }
 
 impl<'a> Options<'a> {
-    /// Adds the options that the words after a command begin with, and returns the words after them. One that the
-    /// command doesn't take is refused, since it may be meant as its first argument.
+    /// Adds the options that the arguments after a command begin with, and returns the arguments after them. One that
+    /// the command doesn't take is refused, since it may be meant as its first argument.
     pub fn add_after(
         &mut self,
         command: &'static CommandRow,
@@ -70,8 +70,8 @@ impl<'a> Options<'a> {
         self.add_all(words)
     }
 
-    // Adds the options that the words begin with, and returns the words after them. An option that takes a value has
-    // what follows in its word, or else the whole next word, whatever that is.
+    // Adds the options that the arguments begin with, and returns the arguments after them. The value of an option is
+    // the rest of its argument, or else the whole next one, whatever that is.
     fn add_all(&mut self, words: &'a [String]) -> Result<&'a [String], NoRequest<'a>> {
         let mut without_value = None;
         for (at, word) in words.iter().enumerate() {
@@ -91,7 +91,7 @@ impl<'a> Options<'a> {
         }
     }
 
-    // Adds the options of a word, and returns the last of them if its value is the next word.
+    // Adds the options of an argument, and returns the last of them if its value is the next argument.
     fn add_word(&mut self, word: &'a str) -> Result<Option<TypedOption>, NoRequest<'a>> {
         if word.starts_with("--") {
             self.add_long(word)

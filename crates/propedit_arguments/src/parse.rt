@@ -1,4 +1,4 @@
-// What words ask for, and what is printed of words that ask for nothing.
+// Parses the command line, and prints errors, help and the version.
 
 ghost use Rattle.std.specs.Prelude.{◌≡◌};
 ghost use Rattle.counted_io.specs.Streams.{IsSameSink};
@@ -21,9 +21,10 @@ use properties_tools::propedit::request::{
 use properties_tools::propedit::{print_out_of_memory, print_text, print_usage_error};
 use std::alloc::{AllocError, Global};
 
-/// Returns what the words after the program's name ask for.
+/// Returns what the arguments after the program's name ask for.
 ///
-/// The error is a mistake in the words, a lack of memory, or a request for help or the version; `explain` prints it.
+/// The error is a mistake in the arguments, that memory ran out, or a request for help or the version; `explain` prints
+/// it.
 ///
 /// ```text
 /// match asked_for(alloc, &words) {
@@ -78,7 +79,7 @@ fn refuse_option_for_key<'a>(
     }
 }
 
-// Fails if `set comment` stands before two words that are no edit: `set-comment` may be meant.
+// Fails if `set comment` stands before two arguments that are no edit: `set-comment` may be meant.
 fn refuse_split_name<'a>(row: &'static CommandRow, words: &'a [String]) -> Result<(), Mistake<'a>> {
     let [first, _, last] = words else {
         return Ok(());
@@ -90,8 +91,8 @@ fn refuse_split_name<'a>(row: &'static CommandRow, words: &'a [String]) -> Resul
     Ok(())
 }
 
-/// Prints why words ask for nothing, and returns the exit status: help and the version on `output`, and a mistake, with
-/// the usage, on `errors`, with status 2. What can't be printed on `errors` is dropped.
+/// Prints why the arguments ask for nothing, and returns the exit status: help and the version on `output`, and a
+/// mistake, with the usage, on `errors`, with status 2. What can't be printed on `errors` is dropped.
 ///
 /// ```text
 /// if let Err(error) = asked_for(alloc, &words) {
@@ -119,7 +120,7 @@ pub fn explain<W: CountedWrite, E: CountedWrite>(
     }
 }
 
-/// Prints on `errors` what is wrong with words, and the usage, and returns the status of wrong arguments, 2.
+/// Prints on `errors` what is wrong with the arguments, and the usage, and returns the status for that, 2.
 pub fn explain_mistake<E: CountedWrite>(alloc: Global, mistake: Mistake<'_>, errors: &mut E) -> u8
     ensures status { result ≡ 2 }
     ensures same_error_sink { IsSameSink E.CountedWrite errors.old errors.new }
@@ -143,7 +144,7 @@ fn no_command<'a>(options: &Options<'a>) -> Mistake<'a> {
     }
 }
 
-// Returns what may be meant by a word in the place of a command, after these options and before these words.
+// Returns what may be meant by an argument in the place of a command, after these options and before these arguments.
 fn hint(options: &Options<'_>, word: &str, rest: &[String]) -> Hint {
     if let Some(row) = command_meant(word) {
         return Hint::Command(row);
@@ -157,7 +158,7 @@ fn hint(options: &Options<'_>, word: &str, rest: &[String]) -> Hint {
     file_hint(rest)
 }
 
-// Returns that a file may be meant by the word before these, if the first of them is a command.
+// Returns that a file may be meant by the argument before these, if the first of them is a command.
 fn file_hint(rest: &[String]) -> Hint {
     let [next, ..] = rest else {
         return Hint::Nothing;
@@ -168,7 +169,7 @@ fn file_hint(rest: &[String]) -> Hint {
     }
 }
 
-// Returns the words before a first `--`, and those after it.
+// Returns the arguments before a first `--`, and those after it.
 fn around_dashes(words: &[String]) -> (&[String], &[String]) {
     match words.iter().position(|word| word.as_str() == "--") {
         Some(at) => (
@@ -235,7 +236,7 @@ fn list<'a>(
     options.job(alloc, row, command)
 }
 
-// Returns the word after a command that takes one at most. A first `--` is dropped.
+// Returns the argument after a command that takes one at most. A first `--` is dropped.
 fn only_word<'a>(
     row: &'static CommandRow,
     words: &'a [String],
@@ -255,7 +256,7 @@ fn only_word<'a>(
     }
 }
 
-// Returns the word after a command that takes exactly one.
+// Returns the argument after a command that takes exactly one.
 fn required_word<'a>(
     row: &'static CommandRow,
     words: &'a [String],
@@ -266,7 +267,7 @@ fn required_word<'a>(
     }
 }
 
-// Returns whether a word would be an option of a command that has some.
+// Returns whether an argument would be an option of a command that has some.
 fn is_option_of(word: &str, row: &'static CommandRow) -> bool {
     match option_in(word, Some(row)) {
         Some(option) => !row.options.is_empty() && row.takes(option.option),
@@ -543,7 +544,7 @@ fn convert<'a>(
     change(alloc, row, options, Change::Conversion(conversion))
 }
 
-// Returns the request for help on the command that words name, or for all help, or what is wrong with the words.
+// Returns the request for help on the command that the arguments name, or for all help, or what is wrong with them.
 fn help<'a>(row: &'static CommandRow, options: &Options<'a>, words: &'a [String]) -> NoRequest<'a> {
     match only_word(row, words) {
         Ok(None) => NoRequest::Help(None),

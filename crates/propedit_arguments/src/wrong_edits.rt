@@ -1,4 +1,4 @@
-// What is said of words that are no edits.
+// Messages about arguments that are no edits.
 
 use crate::command_line::{CommandName, CommandRow, command_meant};
 use crate::mistake::show_meant;
@@ -6,7 +6,7 @@ use crate::wrong_options::show_dashes;
 use properties_tools::messages::Escaped;
 use std::fmt;
 
-/// Prints that a word is no edit, and which one may be meant, or what comes after an edit.
+/// Prints that an argument is no edit, and which one may be meant, or what comes after an edit.
 pub(crate) fn show_no_edit<W: fmt::Write>(f: &mut fmt::Formatter<W>, word: &str) -> fmt::Result {
     write!(f, "unknown edit '{}'", Escaped(word))?;
     match command_meant(word) {

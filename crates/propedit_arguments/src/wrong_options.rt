@@ -1,4 +1,4 @@
-// What is said of options.
+// Messages about options.
 
 use crate::command_line::{
     CommandName, CommandRow, OptionName, TypedOption, allowed, name_in, option_in, option_meant,
@@ -16,7 +16,7 @@ pub(crate) fn show_taken<W: fmt::Write>(
     write!(f, "; the option '{option}' took '{command}' as its value")
 }
 
-/// Prints that a word is no option, or none of this command, and what may be meant.
+/// Prints that an argument is no option, or none of this command, and what may be meant.
 pub(crate) fn show_unknown_option<W: fmt::Write>(
     f: &mut fmt::Formatter<W>,
     word: &str,

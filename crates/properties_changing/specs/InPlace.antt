@@ -41,7 +41,7 @@ replace_display e = problem_display (string_bytes e.temporary) e.problem ++? Som
 
 -- ---- what is printed
 
--- The line says of the file at this path why it is not replaced. Of the words of the system's errors nothing is known.
+-- The line says of the file at this path why it is not replaced. Of the text of the system's errors nothing is known.
 pub record IsProblemLine (path : List ℕ) (error : ReplaceError) (line : List ℕ) : Type 0 where
   pub words : List ℕ
   pub printed : IfSome (replace_display error) (λ known. words ≡ known)

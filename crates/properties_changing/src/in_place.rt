@@ -698,7 +698,7 @@ impl fmt::Display for Failed<'_> {
     }
 }
 
-// An error of the system, in whose words a lack of memory is as everywhere.
+// An error of the system. If memory ran out, it prints as everywhere else.
 #[derive(Clone, Copy)]
 struct SystemError<'a>(&'a io::Error);
 

@@ -1,4 +1,4 @@
--- What is said of the findings of a check.
+-- What the findings of a check say.
 use Rattle.std.proofs.Common.{◌≡◌, ℕ, ◌<◌, Bool, List, [], ◌∷◌, ◌++◌, get_or, length, map, refl, ap, sym, ◌∙◌, inl, inr, subst, arith}
 use Rattle.std.specs.Prelude.{◌&&◌, ◌==◌, not, Option, Some, None, filter}
 use Rattle.std.specs.List.{flat_map}

@@ -40,7 +40,7 @@ module _ (findings : List fold.Finding) (number : ℕ) (key value : List ℕ) wh
   unfolding place more
   grown = keys-append findings (found_pair number key value ∷ [])
 
-  -- what it adds to what is said
+  -- what it adds to the findings
   repeats-push : (w : Bool) (first : ℕ) → first ≡ unwrap_or (first_place (keys_among findings) key) number
       → flat_map (repeats_of w) (key_entries (keys_among findings)) ++ repeats_of w (record { number = number; key = key; first = first })
       ≡ flat_map (repeats_of w) (key_entries (keys_among more))

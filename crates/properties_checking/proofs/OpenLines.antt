@@ -138,7 +138,7 @@ last-open n h [] k = let some = open-some h.text k in rw some (grind (arith))
 last-open n h (i ∷ []) k = elim (cases_Bool (is_empty i.text)) [ inl none ↦ rw none (grind (arith)) | inr some ↦ rw some (grind (arith)) ]
 last-open n h (i ∷ j ∷ hs) k = let later = last-within (n + 2) j hs in grind (arith)
 
--- ---- what is said of the lines
+-- ---- the findings on the lines
 
 module _ {X : Type 0} (of : Misread → ℕ → X) where
   abbrev pub said_of_line : ℕ → Line → List X

@@ -37,7 +37,7 @@ use Rattle.properties_checking.specs.declared.request.Allowed.{Allowed}
 use Rattle.properties_checking.specs.declared.request.Allowed.TheVariants.{All, Latin1, Ascii}
 use Rattle.properties_checking.specs.declared.request.Check.{Check}
 
--- ---- what is said
+-- ---- what is reported
 
 -- What is wrong: U+0000; an ill-formed line, with these words; UTF-8 that is read as windows-1252; a non-ASCII character; this
 -- byte, which ISO 8859-1 reads otherwise; what Java reads otherwise; a malformed escape, perhaps in a comment; this key, which
@@ -52,7 +52,7 @@ pub data What : Type 0 where
   is_malformed : ErrorKind → Bool → What
   repeats_key : List ℕ → ℕ → What
 
--- what is said of a line
+-- what is reported of a line
 pub record SaidFinding : Type 0 where
   pub line : ℕ
   pub what : What
@@ -60,22 +60,22 @@ pub record SaidFinding : Type 0 where
 abbrev pub said : What → ℕ → SaidFinding
 said what number = record { line = number; what = what }
 
--- of the first line of which something is said, where there is one
+-- of the first line with a finding, if there is one
 abbrev pub first_of : {X : Type 0} → (ℕ → X) → Option ℕ → List X
 first_of of None = []
 first_of of (Some number) = of number ∷ []
 
--- what is said of the first ill-formed line of a source: what helps, if it is not UTF-8 and no line has U+0000
+-- the message for the first ill-formed line of a source: with what helps, if it is not UTF-8 and no line has U+0000
 abbrev pub first_words : Encoding → List ℕ → Bool → Words
 first_words e source has_zero =
     if is_in_utf_16 e source then NotUtf16 else (if starts_with_bom source then WithByteOrderMark else (if has_zero then NotUtf8 else WithEncoding))
 
--- and of those after it, which don't say it again
+-- and for those after it, which don't say it again
 abbrev pub words_after : Words → Words
 words_after NotUtf16 = NotUtf16
 words_after other = NotUtf8
 
--- of the ill-formed lines, where these words are said of the first
+-- what is reported of the ill-formed lines, if this is the message for the first
 abbrev pub ill_formed_of : {X : Type 0} → (Words → ℕ → X) → Words → List ℕ → List X
 ill_formed_of of words [] = []
 ill_formed_of of words (number ∷ numbers) = of words number ∷ ill_formed_of of (words_after words) numbers
@@ -151,8 +151,8 @@ repeats_of is_well_formed k =
     if not is_well_formed && has_replacement k.key then [] else
     said (repeats_key k.key k.first) k.number ∷ []
 
--- what is said of this line with U+0000, these ill-formed lines, this line that looks like UTF-8, these lines that aren't
--- ASCII, bytes that are read otherwise, escapes and keys, one kind after another
+-- the findings on this line with U+0000, these ill-formed lines, this line that looks like UTF-8, these lines that
+-- aren't ASCII, bytes that are read otherwise, escapes and keys, one kind after another
 abbrev pub all_said : Words → Option ℕ → List ℕ → Option ℕ → List ℕ → List SaidFinding → List MalformedEscape → List KeyEntry → List SaidFinding
 all_said words zero numbers utf_8 refused otherwise escapes keys =
     first_of (said holds_zero) zero
@@ -203,19 +203,19 @@ other_bytes byte [] = []
 other_bytes byte (c ∷ cs) = if c == byte then other_bytes (byte + 1) cs else byte ∷ other_bytes (byte + 1) cs
 
 module _ {X : Type 0} (of : ℕ → ℕ → X) where
-  -- This is said of the lines that have one of these bytes, byte by byte.
+  -- These are the findings on the lines that have one of these bytes, byte by byte.
   abbrev pub AreWithBytes : Encoding → List ℕ → List ℕ → List X → Type 0
   AreWithBytes e source [] findings = findings ≡ []
   AreWithBytes e source (byte ∷ bytes) findings =
       (numbers : List ℕ) × (others : List X) × AreFlawedLines (flaw.Byte byte) e source numbers
       × (findings ≡ map (of byte) numbers ++ others) × AreWithBytes e source bytes others
 
-  -- This is said of those with bytes that aren't allowed.
+  -- These are the findings on those with bytes that aren't allowed.
   abbrev pub AreOtherBytes : Allowed → Encoding → List ℕ → List X → Type 0
   AreOtherBytes Latin1 e source findings = AreWithBytes e source (other_bytes 0x80 windows_1252_table) findings
   AreOtherBytes other e source findings = findings ≡ []
 
--- This is said of what Java reads otherwise: than people think, and of bytes that aren't allowed.
+-- These are the findings on what Java reads otherwise than people think, and on bytes that aren't allowed.
 pub record AreOtherwise {X : Type 0} (of : Misread → ℕ → X) (of_byte : ℕ → ℕ → X) (allowed : Allowed) (e : Encoding) (source : List ℕ) (findings : List X)
     : Type 0 where
   pub misread : List X

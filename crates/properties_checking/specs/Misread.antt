@@ -46,7 +46,8 @@ misread_mark source = if starts_with_bom source then Some Mark else (if starts_w
 abbrev pub looks_open : List ℕ → Bool
 looks_open x = begins is_blank (reverse x) && is_open (reverse (without_leading_blanks (reverse x)))
 
--- What is said of a line that is no comment line. The flag says whether it is the last line, or the last but an empty one.
+-- What is reported of a line that is no comment line. The flag says whether it is the last line, or the last but an
+-- empty one.
 abbrev pub misread_end : List ℕ → Bool → Option Misread
 misread_end text is_last =
     if looks_open text then Some BlankAfterBackslash else (if is_open text && is_last then Some OpenAtEnd else None)
@@ -70,20 +71,20 @@ last_number (l ∷ m ∷ ls) = last_number (m ∷ ls)
 -- ---- a source
 
 module _ {X : Type 0} (of : Misread → ℕ → X) where
-  -- what is said of the line with this number, where there is something
+  -- the finding on the line with this number, if there is one
   abbrev pub misread_at : ℕ → Option Misread → List X
   misread_at number None = []
   misread_at number (Some misread) = of misread number ∷ []
 
-  -- This is said of the ends of the lines of a source, but for comment lines.
+  -- These are the findings on the ends of the lines of a source, but for comment lines.
   pub record AreMisreadEnds (e : Encoding) (source : List ℕ) (findings : List X) : Type 0 where
     pub groups : List (List Line)
     pub are_groups : HasGroups e source end groups
     pub is : findings ≡
         flat_map (λ l. misread_at l.number (misread_end l.text (l.number == last_number (lines_in groups)))) (lines_of_pairs groups)
 
-  -- This is said of what Java reads otherwise in a source: of its front, which is in line 1, of the lines with U+FEFF, and
-  -- of the ends of lines.
+  -- These are the findings on what Java reads otherwise in a source: on its front, which is in line 1, on the lines
+  -- with U+FEFF, and on the ends of lines.
   pub record AreMisread (e : Encoding) (source : List ℕ) (findings : List X) : Type 0 where
     pub inside : List ℕ
     pub are_inside : AreFlawedLines flaw.MarkInside e source inside

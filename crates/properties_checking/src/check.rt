@@ -58,7 +58,7 @@ pub(crate) enum FindingKind {
     Repeats(usize),
 }
 
-// What is said of an ill-formed line.
+// The message for an ill-formed line.
 #[derive(Clone, Copy)]
 pub(crate) enum Words {
     // It is not UTF-8, and another encoding reads it.
@@ -174,8 +174,8 @@ fn push_first(
     })?)
 }
 
-// Returns what is said of the first ill-formed line of a source. If it has U+0000, that line's words have said what
-// helps.
+// Returns the message for the first ill-formed line of a source. If the source has U+0000, that finding already says
+// what helps.
 fn words_for(source: &[u8], encoding: Encoding, has_zero: bool) -> Words
     ensures { result ≡ first_words (encoding_of encoding) source.now has_zero }
 {
@@ -190,7 +190,7 @@ fn words_for(source: &[u8], encoding: Encoding, has_zero: bool) -> Words
     }
 }
 
-// Returns what is said of the ill-formed lines after one.
+// Returns the message for the ill-formed lines after one with this message.
 fn words_after(words: Words) -> Words
     ensures { result ≡ words_after words }
 {

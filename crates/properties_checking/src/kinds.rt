@@ -32,9 +32,9 @@ pub enum Kind {
     EscapeInComment,
     /// A pair that repeats a key.
     RepeatedKey,
-    /// A key of the base that the source lacks.
+    /// A key of the base that the source doesn't have.
     MissingKey,
-    /// A key of the source that the base lacks.
+    /// A key of the source that the base doesn't have.
     SurplusKey,
 }
 

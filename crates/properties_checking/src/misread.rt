@@ -85,7 +85,7 @@ fn has_utf_32_mark(source: &[u8]) -> bool
 }
 
 impl Misread {
-    // Returns what is said of it, in words.
+    // Returns its message.
     pub(crate) fn words(self) -> &'static str
         ensures { result.now ≡ misread_words self }
     {

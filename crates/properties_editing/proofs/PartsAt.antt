@@ -1,4 +1,4 @@
--- Parts and the pieces that they stand for, of which one changes: what stays, and what is said of the keys.
+-- Parts and the pieces that they stand for, of which one changes: what stays, and the places and values of the keys.
 use Rattle.std.proofs.Common.{◌≡◌, ℕ, suc, ◌+◌, Bool, true, false, List, [], ◌∷◌, ◌++◌, Option, Some, None, length, take, drop, refl, ap, ap₂, sym, ◌∙◌, subst, inl, inr, append-nil, append_assoc, arith}
 use Rattle.std.specs.Prelude.{bytes_eq, get_or, map}
 use Rattle.std.specs.Map.{update}
@@ -101,7 +101,7 @@ end-bytes pieces [] k = refl
 end-bytes pieces (l ∷ []) k = ap (λ v. v ++ []) k
 end-bytes pieces (l ∷ m ∷ ls) k = absurd k
 
--- ---- what is said of a key
+-- ---- a key's places and value
 
 place-append : (b : Bool) (n : ℕ) (xs ys : List ℕ) → place_if b n (xs ++ ys) ≡ place_if b n xs ++ ys
 place-append true n xs ys = refl
@@ -194,7 +194,7 @@ alike-last key s a xs n =
     subst (SayAlike key n (xs ++ s ∷ [])) (append-nil xs)
     (alike-behind key (s ∷ []) [] (λ m. (ap (λ c. place_if c m []) a, other-value key s a)) xs n)
 
--- What is stored of one key changes, and what is said of the others stays.
+-- What is stored of one key changes, and the places and values of the others stay.
 pub placed-stored : (key : List ℕ) (x : Option KeyPlaces) (old new : NamedKeys) (ss us : List Said)
     → ((k : List ℕ) → stored_of new.places.entries k ≡ update bytes_eq (stored_of old.places.entries) key x k) → IsOrdered string_cmp new.places
     → new.all ≡ old.all → ArePlaced ss old → places_of x ≡ places_with key 0 us → (old.all ≡ true → value_of x ≡ value_said key us)

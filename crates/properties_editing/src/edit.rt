@@ -64,10 +64,10 @@ pub fn set_key(
 /// none, or two if a backslash leaves that line open. A key at the front of a file is escaped as [`set_key`] escapes
 /// it.
 ///
-/// In the value, backslashes, characters below the space, and what the encoding lacks are escaped as a writer escapes
-/// them. A first space becomes `\ `, since a reader would skip it. A last space becomes `\u0020`, which survives
-/// editors that trim lines. A first `=` or `:` takes a backslash if blanks alone separate it from the key. Everything
-/// else is written as it is. Every byte outside the pair stays, including a byte order mark.
+/// In the value, backslashes, characters below the space, and those that the encoding doesn't have are escaped as a
+/// writer escapes them. A first space becomes `\ `, since a reader would skip it. A last space becomes `\u0020`, which
+/// survives editors that trim lines. A first `=` or `:` takes a backslash if blanks alone separate it from the key.
+/// Everything else is written as it is. Every byte outside the pair stays, including a byte order mark.
 ///
 /// UTF-16 is refused. A source with a malformed escape anywhere is refused with the error that reading the source would
 /// return.

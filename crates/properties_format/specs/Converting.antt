@@ -45,8 +45,8 @@ is_unicode (surrogates high low) = true
 is_unicode spelling = false
 
 -- What becomes of a spelling. The spelling of an ASCII character stays. A character that the output has is written as
--- itself if the result is to be readable; otherwise its spelling stays. A character that the output lacks is written as
--- a `\u` escape, if it isn't already.
+-- itself if the result is to be readable; otherwise its spelling stays. A character that the output doesn't have is
+-- written as a `\u` escape, if it isn't already.
 abbrev pub respelt : Repertoire → Bool → Spelling → List ℕ
 respelt r readable p =
     let c = spelling_character p in

@@ -98,7 +98,7 @@ IsAligned utf_16be d = length d % 2 ≡ 0
 IsAligned e d = Unit {0}
 
 -- ---- What may stand unescaped in what is printed.
--- Source: java.util.Properties of Java SE 7, store (a character that the output lacks is escaped).
+-- Source: java.util.Properties of Java SE 7, store (a character that the output doesn't have is escaped).
 
 -- a set of characters: all; those whose bytes are read alike in ISO 8859-1; or those of ASCII, which are the same bytes
 -- in every encoding for output

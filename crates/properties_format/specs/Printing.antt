@@ -1,6 +1,6 @@
 -- How a line is printed: each character by itself, and the line from its parts.
--- Source: java.util.Properties of Java SE 7, store; a character that the encoding lacks is written as store writes it,
--- by `\u` and four hexadecimal digits for each of its UTF-16 units (The Unicode Standard, section 3.9, D91).
+-- Source: java.util.Properties of Java SE 7, store; a character that the encoding doesn't have is written as store
+-- writes it, by `\u` and four hexadecimal digits for each of its UTF-16 units (The Unicode Standard, section 3.9, D91).
 use Rattle.std.specs.Prelude.{ℕ, ◌+◌, ◌-◌, ◌/◌, ◌%◌, ◌==◌, ◌&&◌, ◌||◌, nat_lt, Bool, if◌then◌else◌, List, [], ◌∷◌, ◌++◌, is_some, unwrap_or}
 use Rattle.std.specs.Char.{digit_char}
 use Rattle.properties_format.specs.Text.{line_ending_text, tab, line_feed, form_feed, carriage_return, space, backslash, is_empty, is_blanks, is_comment_sign, is_separator}
@@ -50,8 +50,8 @@ abbrev pub has_letter : ℕ → Bool
 has_letter c = (c == tab || c == line_feed) || (c == form_feed || c == carriage_return)
 
 -- How a character is printed. In a key or a value, the characters with a special meaning and everything below the space
--- are escaped; in a comment, the backslash and the line endings are. Everywhere, a character that the encoding lacks is
--- escaped, and if only ASCII may stand unescaped, so is every character above U+007F.
+-- are escaped; in a comment, the backslash and the line endings are. Everywhere, a character that the encoding doesn't
+-- have is escaped, and if only ASCII may stand unescaped, so is every character above U+007F.
 abbrev pub printed_character : Repertoire → Place → ℕ → List ℕ
 printed_character r in_key_or_value c =
     if is_special c then backslash ∷ c ∷ [] else (if has_letter c then letter_escape c else (if nat_lt c space then unicode_escape c else literal r c))

@@ -66,7 +66,7 @@ has-flaw NonAscii e d k =
     let parts = and_parts (not (is_ascii e d)) (is_well_formed e d) k in
     (well e d parts.1, (decoded_line e d, decoded_line-meets e d, tells-ascii e d ∙ parts.0))
 
--- or that they lack it.
+-- or that they don't have it.
 first-false : (x y : Bool) → y ≡ true → (x && y) ≡ false → x ≡ false
 first-false false y h k = refl
 first-false true true h k = k

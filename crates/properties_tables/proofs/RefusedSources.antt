@@ -15,7 +15,7 @@ use Rattle.properties_tables.specs.Private.Sought.{or_else}
 use Rattle.properties_tables.specs.Sources.{first_in_pair, HasSoundBytes, IsFirstMalformedEscape, IsSound}
 use Rattle.properties_tables.proofs.SourceFindings.{escapes-append, escapes-groups, findings-groups}
 
--- what is said of the first escape of a pair
+-- the first escape of a pair, after those in comments
 record Begins (escapes : List format.MalformedEscape) (found : MalformedEscape) : Type 0 where
   pub before : List format.MalformedEscape
   pub escape : format.MalformedEscape

@@ -20,17 +20,17 @@ pub const STANDARD_OUTPUT: &str = "standard output";
 /// What is printed if there is no memory for a message.
 pub const NO_MEMORY: &str = "propedit: Out of memory.\n";
 
-/// What is said of U+0000 in a source without a byte order mark.
+/// The message for U+0000 in a source without a byte order mark.
 pub const HOLDS_ZERO: &str = "U+0000; if this is UTF-16, -e utf-16le or -e utf-16be reads it";
 
-/// What is said of a line that is not UTF-8, in a source without a byte order mark.
+/// The message for a line that is not UTF-8, in a source without a byte order mark.
 pub const NOT_UTF_8: &str =
     "not UTF-8; if it is in windows-1252 or Latin-1, -e windows-1252 reads it";
 
-/// What is said of it in a source with the byte order mark of UTF-8.
+/// The message for it in a source with the byte order mark of UTF-8.
 pub const NOT_UTF_8_BY_MARK: &str = "not UTF-8, though a byte order mark says so";
 
-/// What is said of a line that is not UTF-16.
+/// The message for a line that is not UTF-16.
 pub const NOT_UTF_16: &str = "not UTF-16";
 
 const NOT_ENDED: &str =

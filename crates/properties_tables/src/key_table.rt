@@ -92,7 +92,7 @@ impl Keys {
 }
 
 impl KeyTable {
-    /// Has no keys. There are slots for as many keys as a source of this length often has.
+    /// Returns an empty table, with slots for as many keys as a source of this length often has.
     pub fn for_source(alloc: Global, length: usize) -> Result<KeyTable, AllocError>
         ensures table { IfOk result IsKeyTable }
         ensures empty { IfOk result (λ table. table_places table ≡ []) }

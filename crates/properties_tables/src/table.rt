@@ -46,7 +46,7 @@ pub fn table_of(alloc: Global, source: &[u8], encoding: Encoding) -> Result<Tabl
 }
 
 impl Table {
-    /// Has no keys. There are slots for as many keys as a source of this length often has.
+    /// Returns an empty table, with slots for as many keys as a source of this length often has.
     pub fn for_source(alloc: Global, length: usize) -> Result<Table, AllocError>
         ensures table { IfOk result IsTable }
         ensures empty { IfOk result (λ table. rows_of table ≡ []) }

@@ -26,8 +26,8 @@ pub enum Spelling {
 /// Converts a source to the characters of a repertoire, and keeps all else: comments, blank lines, layout, line endings,
 /// and what each key, value and comment means.
 ///
-/// A character that the repertoire lacks becomes a `\u` escape. Other characters and escapes stay as they are written;
-/// if the result is to be readable, non-ASCII characters that the repertoire has are written as themselves. A byte order
+/// A character outside the repertoire becomes a `\u` escape. Other characters and escapes stay as they are written; if
+/// the result is to be readable, non-ASCII characters that the repertoire has are written as themselves. A byte order
 /// mark is dropped. Fails if memory runs out.
 pub fn convert(
     alloc: Global,

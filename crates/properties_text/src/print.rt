@@ -37,13 +37,13 @@ pub use crate::line_buffer::LineBuffer;
 pub use convert::convert_text;
 pub use readable::{print_readable_pair, print_readable_texts};
 
-/// Where a text stands that is neither a key nor a value. It decides what is escaped besides the characters that the
-/// repertoire lacks.
+/// Where a text stands that is neither a key nor a value. It decides what is escaped besides the characters outside the
+/// repertoire.
 #[derive(Clone, Copy)]
 pub enum Place {
     /// Escapes backslashes, CR and LF.
     Comment,
-    /// Escapes only the characters that the repertoire lacks.
+    /// Escapes only the characters outside the repertoire.
     Prefix,
 }
 
@@ -308,8 +308,8 @@ pub fn print_text(
 ///
 /// Spaces, separators and comment signs are not escaped, except at the ends: a space at the start is escaped with a
 /// backslash, and so is a separator at the start if only blanks come before it. A space at the end is `\u0020`, which
-/// survives editors that trim lines. Everything else is printed as in a key: what the repertoire lacks is escaped.
-/// Fails if memory runs out.
+/// survives editors that trim lines. Everything else is printed as in a key: characters outside the repertoire are
+/// escaped. Fails if memory runs out.
 ///
 /// ```text
 /// print_value(&mut line, repertoire, false, " a:b ")?; // appends `\ a:b\u0020`

@@ -1,4 +1,4 @@
--- What arguments ask `propfilter` for, word by word.
+-- What arguments ask `propfilter` for, one by one.
 use Rattle.std.proofs.Common.{◌≡◌, ℕ, true, false, List, [], ◌∷◌}
 use Rattle.std.specs.Prelude.{Option, Some, None}
 use Rattle.properties_tools.specs.Propfilter.{ascii_word, IsAsked, IsNamedWith}
@@ -9,7 +9,7 @@ pub named_alone : (name : List ℕ) (o : Option Form) → IsNamedWith name false
 named_alone name None h = λ r k. h r.encoding k.0
 named_alone name (Some asked) h = h
 
--- and with the word for ASCII-only output after it
+-- and with the argument for ASCII-only output after it
 pub named_ascii : (name word : List ℕ) (o : Option Form) → word ≡ ascii_word → IsNamedWith name true o → IsAsked (name ∷ word ∷ []) o
 named_ascii name word None is h = λ r k. h r.encoding k.0
 named_ascii name word (Some asked) is h = (h.0, is, h.1)

@@ -1,4 +1,4 @@
--- The keys of one table that are lacking in another are those of its pairs that no pair of the other has.
+-- The keys that one table has and another doesn't are those of its pairs that no pair of the other has.
 use Rattle.std.proofs.Common.{◌≡◌, ℕ, zero, suc, Bool, true, false, List, [], ◌∷◌, ◌++◌, refl, ap, sym, ◌∙◌, inl, inr, subst, arith, append_assoc}
 use Rattle.std.specs.Prelude.{◌&&◌, not, AllPairs, Contains, Option, Some, None, bytes_eq, filter, is_some, string_bytes}
 use Rattle.std.specs.Global.{Global}
@@ -88,7 +88,7 @@ kept-there p (k ∷ ks) key (suc n, l, e) h =
       | inr left ↦ rw left rest
     ]
 
--- ---- keys that are lacking
+-- ---- keys that the other table doesn't have
 
 both-true : (a b : Bool) → a && b ≡ true → (a ≡ true) × (b ≡ true)
 both-true true true h = (refl, refl)
@@ -170,7 +170,7 @@ module _ (name : List ℕ) (e : Encoding) (check : Check) (source : List ℕ) (r
     well_formed = subst (TellsWellFormed e source) (sym well) told;
   }
 
-  -- what is said beside a base
+  -- the report against a base
   pub said-against : (base : KnownBase) (w : Bool) (after all : String Global) → w ≡ (base.is_well_formed && r.is_well_formed)
       → AddsReport check.report (missing_line name base.name) (missing_value name base.name)
       (reported check.ignored (λ p. MissingKey) (lacking w (keys_at (table_places r.keys)) base.keys)) r.text after

@@ -12,8 +12,8 @@ abbrev pub after_first : {X : Type 0} → List X → List X
 after_first [] = []
 after_first (x ∷ xs) = xs
 
--- Arguments are the words after the first, unless memory runs out for them. Where one of them isn't UTF-8, there are none,
--- and any other error is returned.
+-- The arguments after the first, unless memory runs out for them. If one of them isn't UTF-8, there are none, and any
+-- other error is returned.
 abbrev pub TakesWords : {X Z : Type 0} → Result (IntoIter X Z) Error → Result (Option (Vec X)) Error → Type 0
 TakesWords (Ok arguments) (Ok (Some words)) = words.items ≡ after_first (into_iter_items arguments)
 TakesWords (Ok arguments) (Ok None) = ⊥

@@ -156,7 +156,7 @@ pub record HasSettledBefore {R W : Type 0} (reader : Reader R) (sink : Sink W) (
   pub only : (others : List Entry) → IsItems (output_encoding e) (pair_lines (form e false) items) end others → others ≡ items_after 0 (pairs_in items)
   pub same : pair_lines (form (output_encoding e) false) (items_after 0 (pairs_in items)) ≡ pair_lines (form e false) items
 
--- What filtering says of filtering its output anew.
+-- What filtering says about filtering its output again.
 abbrev pub Settles : {R W : Type 0} → Reader R → Sink W → Encoding → R → W → Result Unit PropertiesError → R → W → Type 0
 Settles reader sink e input output (Ok done) input' output' = HasSettled reader sink e input output input' output'
 Settles reader sink e input output (Err error) input' output' = HasSettledBefore reader sink e input output error input' output'

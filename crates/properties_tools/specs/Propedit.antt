@@ -146,7 +146,7 @@ pub record FailsInOutput {R W : Type 0} (reader : Reader R) (sink : Sink W) (job
   pub prints : PrintsAnswer reader sink job input output answer (Err error) input' output'
   pub is : failure ≡ Output error
 
--- What printing the answer to a command returns: the answer's status and what is said of it, or why it failed.
+-- What printing the answer to a command returns: the answer's status and the hint on it, if any; or why it failed.
 abbrev pub PrintsResult : {R W : Type 0} → Reader R → Sink W → Job → List (List ℕ) → R → W → Result (ℕ × Option (String Global)) Failure → R → W → Type 0
 PrintsResult reader sink job files input output (Ok said) input' output' =
     (answer : Answer) × (printed : PrintsAnswer reader sink job input output answer (Ok tt) input' output') × (said.0 ≡ answer.status)
@@ -155,7 +155,7 @@ PrintsResult reader sink job files input output (Err failure) input' output' =
     FailsInSource reader job input output failure input' output'
     ⊎ (HasNoAnswer reader job input output failure input' output' ⊎ FailsInOutput reader sink job input output failure input' output')
 
--- The status is that of the answer, and what is said of it is printed; or it ends as at any failure.
+-- The status is that of the answer, and the hint on it is printed, if there is one; or it ends as at any failure.
 abbrev pub EndsSaying : {E : Type 0} → Sink E → List ℕ → E → Result (ℕ × Option (String Global)) Failure → ℕ → E → Type 0
 EndsSaying error_sink name errors (Ok said) status errors' = (status ≡ said.0) × PrintsHint error_sink errors (hint_bytes said.1) errors'
 EndsSaying error_sink name errors (Err failure) status errors' = EndsRun error_sink name errors (Err failure) status errors'

@@ -19,12 +19,12 @@ not_utf_8 = codes "propfilter: an argument is not UTF-8"
 
 -- ---- arguments
 
--- the word that asks for ASCII-only output
+-- the argument that asks for ASCII-only output
 abbrev pub ascii_word : List ℕ
 ascii_word = codes "ascii"
 
 -- the arguments ask for this encoding, and for ASCII-only output or not: none for windows-1252, and one by its name,
--- which the word for ASCII only may follow
+-- which the argument for ASCII only may follow
 abbrev pub Asks : List (List ℕ) → Form → Type 0
 Asks [] r = (r.encoding ≡ windows_1252) × (r.ascii_only ≡ false)
 Asks (name ∷ []) r = (name ≡ name_of r.encoding) × (r.ascii_only ≡ false)

@@ -8,8 +8,7 @@ use std::alloc::{AllocError, Global};
 use std::env::Args;
 use std::io::{self, ErrorKind};
 
-/// Returns the words after a program's name, from what `env::args` returned, or `None` if one of the arguments isn't
-/// UTF-8.
+/// Returns the arguments after a program's name, from what `env::args` returned, or `None` if an argument isn't UTF-8.
 ///
 /// ```text
 /// let Some(words) = words(alloc, env::args(&rt))? else {

@@ -120,7 +120,7 @@ pub fn run<R: CountedRead, W: CountedWrite, E: CountedWrite>(
     }
 }
 
-// Prints what the command gives for the source, and returns the status of the answer, and what is to be said of it.
+// Prints what the command gives for the source, and returns the status of the answer, and the hint on it, if any.
 fn print_answer<R: CountedRead, W: CountedWrite>(
     alloc: Global,
     job: &Job,

@@ -127,7 +127,7 @@ module _ {I : Type 0} (steps : Steps I) where
     given = (to, (from, b, s.given), k);
   }
 
-  -- so does a lack of memory
+  -- so does running out of memory
   pub join-lacks : (before from to after : I) (first next : NaturalLine) (text : List ℕ) (error : LineError)
       → steps before (Some (Ok first)) from → JoinsSoFar from first text to → steps to (Some (Ok next)) after → error ≡ why.Memory
       → LacksMemory steps before error after

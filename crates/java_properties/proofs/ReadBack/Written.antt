@@ -83,7 +83,7 @@ scalars-pairs : (pairs : List Pair) → AreOfScalars (calls_of pairs) → ArePai
 scalars-pairs [] h = tt
 scalars-pairs (p ∷ pairs) h = (h.0, scalars-pairs pairs h.1)
 
--- Pairs that were written are the only ones that write their bytes, and writing anew changes none of these.
+-- Pairs that were written are the only ones that write their bytes, and writing again changes none of these.
 pub made-only : {W : Type 0} {sink : Sink W} {old new : Writing W} {calls : List Call} → IsGoodWriter old → AreOfScalars calls → HasMade sink old calls new
     → (pairs : List Pair) → ArePairsWritten old calls pairs → IsWritingOf sink old pairs new
 made-only {old = old} {calls = calls} good scalars made pairs these =

@@ -1,4 +1,4 @@
--- The edits that words ask for.
+-- The edits that arguments ask for.
 use Rattle.std.specs.Prelude.{◌≡◌, ◌≢◌, ◌==◌, Bool, false, ℕ, List, [], ◌∷◌, ◌++◌, Result, Ok, Err, codes, map, string_bytes}
 use Rattle.std.specs.Borrow.{Bor}
 use Rattle.std.specs.Global.{Vec}
@@ -15,12 +15,12 @@ use Rattle.propedit_arguments.specs.declared.edits.BorrowedEdit.TheVariants as B
 use Rattle.propedit_arguments.specs.declared.mistake.Mistake.{Mistake}
 use Rattle.propedit_arguments.specs.declared.mistake.Mistake.TheVariants.{Memory, NoEdit, NoKey, NoNewKey, NoText, NoValue, TwoAssignments}
 
--- Words and texts are their UTF-8.
+-- Arguments and texts are their UTF-8.
 
--- ---- the words of an edit
+-- ---- the arguments of an edit
 
--- an edit that words ask for: a key to set and its value, a key to remove, a key to rename and its new name, or a key whose
--- comment is set and the text of it
+-- an edit that arguments ask for: a key to set and its value, a key to remove, a key to rename and its new name, or a
+-- key whose comment is set and the text of it
 pub data Edit : Type 0 where
   set : List ℕ → List ℕ → Edit
   remove : List ℕ → Edit
@@ -44,7 +44,7 @@ pub data Form : Type 0 where
   plain : Form
   literal : Form
 
--- the words for texts
+-- the arguments for texts
 abbrev pub text_words : Form → List (List ℕ) → List (List ℕ)
 text_words plain texts = texts
 text_words literal texts = codes "--" ∷ texts
@@ -54,7 +54,7 @@ abbrev pub MayBegin : Form → List (List ℕ) → Type 0
 MayBegin literal texts = Unit {0}
 MayBegin plain texts = (others : List (List ℕ)) → texts ≡ codes "--" ∷ others → ⊥
 
--- the words of an edit
+-- the arguments of an edit, its command first
 abbrev pub edit_words : Form → Edit → List (List ℕ)
 edit_words form edit = command_of edit ∷ text_words form (edit_texts edit)
 
@@ -85,7 +85,7 @@ pub record WrittenEdit : Type 0 where
   pub form : Form
   pub may : MayBeWritten form edit
 
--- the words of edits, one after another
+-- the arguments of edits, one edit after another
 abbrev pub written_words : List WrittenEdit → List (List ℕ)
 written_words [] = []
 written_words (w ∷ ws) = edit_words w.form w.edit ++ written_words ws
@@ -111,15 +111,15 @@ asked_edit (Asked.SetComment key text) = commented (chars (string_bytes key)) (c
 abbrev pub asked_edits : List AskedEdit → List Meant
 asked_edits edits = map asked_edit edits
 
--- The words are those of edits, and these are made.
+-- The arguments are those of edits, and these are made.
 pub record AreWordsOfEdits (words : List (List ℕ)) (edits : List Meant) : Type 0 where
   pub asked : List WrittenEdit
   pub is : words ≡ written_words asked
   pub made : edits ≡ map (λ w. meant_edit w.edit) asked
 
--- ---- words that ask for no edit
+-- ---- arguments that ask for no edit
 
--- This is what is wrong at the front of words that begin with no edit: the first is no command that edits; a key, a
+-- This is what is wrong at the front of arguments that begin with no edit: the first is no command that edits; a key, a
 -- value, a new key or a text is missing; or a key and a value both look like NAME=TEXT.
 pub data IsMistakeAt (words : List (List ℕ)) (mistake : Mistake) : Type 0 where
   no_edit : (word : Bor (List ℕ)) (others : List (List ℕ)) → words ≡ word.now ∷ others → word.now ≢ codes "set" → word.now ≢ codes "remove"
@@ -135,16 +135,16 @@ pub data IsMistakeAt (words : List (List ℕ)) (mistake : Mistake) : Type 0 wher
   assignments : (key value : Bor (List ℕ)) (others : List (List ℕ)) → words ≡ codes "set" ∷ (key.now ∷ (value.now ∷ others))
       → IsAssignment key.now → IsAssignment value.now → mistake ≡ TwoAssignments key value → IsMistakeAt words mistake
 
--- The words are those of edits up to some that begin with no edit, and this is what is wrong with those.
+-- The arguments are those of edits up to some that begin with no edit, and this is what is wrong with those.
 pub record AreWrong (words : List (List ℕ)) (mistake : Mistake) : Type 0 where
   pub before : List WrittenEdit
   pub rest : List (List ℕ)
   pub is : words ≡ written_words before ++ rest
   pub wrong : IsMistakeAt rest mistake
 
--- What the words give: the edits that they ask for; or they ask for none, and the mistake says why, or memory ran out.
--- The words are the first command and what stands after its options. A later command has none: a word there that begins
--- with a dash is a key.
+-- What the arguments give: the edits that they ask for; or they ask for none, and the mistake says why, or memory ran
+-- out. The arguments are the first command and what comes after its options. A later command has no options: an
+-- argument there that begins with a dash is a key.
 abbrev pub GivesEdits : List (List ℕ) → Result (Vec AskedEdit) Mistake → Type 0
 GivesEdits words (Ok edits) = AreWordsOfEdits words (asked_edits edits.items)
 GivesEdits words (Err mistake) = mistake ≢ Memory → AreWrong words mistake × ((edits : List WrittenEdit) → words ≡ written_words edits → ⊥)
@@ -158,17 +158,17 @@ borrowed_edit (Borrowed.Remove key) = remove (string_bytes key.now)
 borrowed_edit (Borrowed.Rename old new) = rename (string_bytes old.now) (string_bytes new.now)
 borrowed_edit (Borrowed.SetComment key text) = set_comment (string_bytes key.now) (string_bytes text.now)
 
--- the edit that begins the words and the words after it; or what is wrong with their front, if there are words
+-- the edit that begins the arguments and those after it; or what is wrong with their front, if there are any
 abbrev pub TakesEdit : {Z : Type 0} → List (List ℕ) → Result (BorrowedEdit × Bor (List (String Z))) Mistake → Type 0
 TakesEdit words (Ok next) =
     (form : Form) × MayBeWritten form (borrowed_edit next.0) × (words ≡ edit_words form (borrowed_edit next.0) ++ map string_bytes next.1.now)
 TakesEdit words (Err mistake) = words ≢ [] → IsMistakeAt words mistake
 
--- The texts are written so by the words.
+-- The texts are written so by the arguments.
 abbrev pub AreAfterDashes : List (List ℕ) → List (List ℕ) → Type 0
 AreAfterDashes words texts = (form : Form) × (words ≡ text_words form texts) × MayBegin form texts
 
--- No plain words begin with a key and a value that both look like NAME=TEXT; or the mistake names these.
+-- No plain arguments begin with a key and a value that both look like NAME=TEXT; or the mistake names these.
 abbrev pub RefusesAssignments : List (List ℕ) → Result Unit Mistake → Type 0
 RefusesAssignments words (Ok _) = (key value : List ℕ) (others : List (List ℕ)) → words ≡ key ∷ (value ∷ others) → IsAssignment key → IsAssignment value → ⊥
 RefusesAssignments words (Err mistake) = IsMistakeAt (codes "set" ∷ words) mistake

@@ -40,7 +40,7 @@ abbrev pub SplitsRecord : List ℕ → Option (code.Record × Bor (List ℕ)) �
 SplitsRecord list (Some (first, rest)) = Splits list (record_in first) rest.now
 SplitsRecord list None = (first : Record) (rest : List ℕ) → Splits list first rest → ⊥
 
--- The status says that what was given is bad in this way, that it lacks a text in this way, or that memory ran out.
+-- The status says that what was given is bad in this way, that it has no text in this way, or that memory ran out.
 abbrev pub RefusesFor : Type 0 → Type 0 → Status → Type 0
 RefusesFor IsBad Lacks BadList = IsBad
 RefusesFor IsBad Lacks NotUtf8 = Lacks

@@ -47,7 +47,7 @@ abbrev pub IsRenameProblem : Error → Problem → Type 0
 IsRenameProblem error result =
     ((error_kind error ≡ ResourceBusy) × (result ≡ problem.Busy)) ⊎ ((error_kind error ≢ ResourceBusy) × (result ≡ problem.NotRenamed error))
 
--- What is said of a file whose bytes were those of the source, where these are to replace them: a line, if that is
+-- What is printed of a file whose bytes were those of the source, where these are to replace them: a line, if that is
 -- asked for.
 abbrev pub SaysOf : FileChange → List ℕ → Option (Vec ℕ) → Option (String Global) → Type 0
 SaysOf file source bytes None = file.verbose ≡ false
@@ -61,7 +61,7 @@ EditsBytes file source (Ok made) = Replaces (encoding_of file.encoding) source f
 EditsBytes file source (Err failure) =
     ((error : PropertiesError) × (failure ≡ Input error)) ⊎ Changes (encoding_of file.encoding) source file.change (Err failure)
 
--- This is said of what replaces some bytes.
+-- This is printed of what replaces some bytes.
 abbrev pub SaysOfSome : FileChange → Option (String Global) → Type 0
 SaysOfSome file said = (source : List ℕ) × (bytes : Option (Vec ℕ)) × EditsBytes file source (Ok (bytes, said))
 

@@ -50,7 +50,7 @@ row_findings is_well_formed number key row first =
 
 -- ---- what they say
 
--- what is said of a row that isn't there
+-- the place of a row that isn't there
 abbrev pub no_place : KeyPlace
 no_place = record { number = 0; key = [] }
 

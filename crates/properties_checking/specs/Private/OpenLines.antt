@@ -33,12 +33,12 @@ is_end [] = true
 is_end (h ∷ []) = is_empty h.text
 is_end (h ∷ i ∷ hs) = false
 
--- what is said of a line, given those after it
+-- what is reported of a line, given those after it
 abbrev pub said_end : Bool → List ℕ → Bool → Option Misread
 said_end is_joined text is_last = if is_comment_after is_joined text then None else misread_end text is_last
 
 module _ {X : Type 0} (of : Misread → ℕ → X) where
-  -- what is said of the lines after so many
+  -- the findings on the lines after so many
   abbrev pub ends_from : Bool → ℕ → List HeldLine → List X
   ends_from is_joined n [] = []
   ends_from is_joined n (h ∷ hs) =
@@ -48,7 +48,7 @@ module _ {X : Type 0} (of : Misread → ℕ → X) where
 abbrev pub ends_left : Bool → List ℕ → Scanner → List Finding
 ends_left is_joined body s = ends_from misread_finding is_joined s.passed (held_lines_left body s)
 
--- What is said of the ends of lines comes after the findings.
+-- The findings on the ends of lines come after the others.
 abbrev pub AddsEnds : Encoding → List ℕ → List Finding → List Finding → Type 0
 AddsEnds e source old new = (ends : List Finding) × AreMisreadEnds misread_finding e source ends × (new ≡ old ++ ends)
 
@@ -80,7 +80,7 @@ may_end_line bytes =
     holds_byte backslash (drop (length bytes - 3) bytes)
     || (holds_pair space bytes || (holds_pair tab bytes || holds_pair form_feed bytes))
 
--- Nothing is said of the lines of a body, or something may be.
+-- There are no findings on the ends of the lines of a body, or there may be some.
 abbrev pub SeesNone : Encoding → List ℕ → Bool → Type 0
 SeesNone e body true = Unit {0}
 SeesNone e body false = ends_from misread_finding false 0 (held_lines_of e body) ≡ []

@@ -10,7 +10,7 @@ use Rattle.properties_editing.specs.Private.BodyParts.{ArePlaced, Said, places_o
 use Rattle.properties_editing.specs.declared.parts.KeyPlaces.{KeyPlaces}
 use Rattle.properties_editing.specs.declared.parts.Parts.{Parts}
 
--- The keys of parts have the places of their pairs, where something is said of each part.
+-- The keys of parts have the places of their pairs. `said` has the pair of each part, or `None`.
 pub record HavePlaces (parts : Parts) : Type 0 where
   pub said : List Said
   pub size : length parts.parts.items ≡ length said

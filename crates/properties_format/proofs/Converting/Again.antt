@@ -265,7 +265,7 @@ respelt-itself t readable c = elim (cases_Bool (nat_lt c 0x80)) [
     past-itself true false k f g = taken t readable (itself c) true false false k f g refl ∙ rw f refl
     past-itself false r k f g = taken t readable (itself c) false r false k f g refl ∙ rw f refl
 
--- Escapes that stay: those of characters that the output lacks, and all if the result isn't to be readable.
+-- Escapes that stay: those of characters that the output doesn't have, and all if the result isn't to be readable.
 pub respelt-unicode : (t : Repertoire) (readable : Bool) (p : Spelling) (m r : Bool) → 0x80 ≤ spelling_character p → is_unicode p ≡ true
     → may_be_unescaped t (spelling_character p) ≡ m → readable ≡ r → (m && r) ≡ false → respelt t readable p ≡ spelling_text p
 respelt-unicode t readable p true true k u f g n = absurd (cc)

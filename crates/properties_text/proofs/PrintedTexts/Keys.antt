@@ -61,7 +61,7 @@ module _ (m : Meaning) (r : Repertoire) (first : Bool) (old : List ℕ) (at : �
     printed = rw other h.printed;
   }
 
-  -- One that does, and comes first, was put anew, with its first character escaped.
+  -- One that does, and comes first, was put again, with its first character escaped.
   pub key-escaped : (out new : List ℕ) (mid : ℕ) (h : IsPut m (puts_of r) old at out mid) (result : Result ℕ UnescapeError)
       → (first && begins_like_bom (puts_of r h.meant)) ≡ true
       → take at out ≡ take at old → Prints m (escaped_key r) out at new result → Prints m (key_bytes r first) old at new result

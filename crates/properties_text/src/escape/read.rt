@@ -120,8 +120,8 @@ fn read_unicode(encoding: LineEncoding, text: &[u8]) -> Result<ReadCharacter, Ma
     }
 }
 
-// The character of a surrogate whose escape was read, and of the escape at the front of the text, if that is the other
-// half. Kept out of line because surrogates are rare.
+// Joins the surrogate `high` with the `\u` escape at the front of the text, if that is the other half. Kept out of line
+// because surrogates are rare.
 #[inline(never)]
 fn low_surrogate(high: u32, text: &[u8]) -> Option<char>
     requires { 0xd800 ≤ high }

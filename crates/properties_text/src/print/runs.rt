@@ -48,7 +48,7 @@ pub fn put_printed(out: &mut [u8], at: usize, repertoire: Repertoire, character:
     put_past(out, at, repertoire, character)
 }
 
-// Puts a non-ASCII character as it is, or as a `\u` escape if the repertoire lacks it, and returns the index after it.
+// Puts a non-ASCII character, as a `\u` escape if it is outside the repertoire, and returns the index after it.
 #[inline(always)]
 #[tactic(auto, using(crate::proofs::PrintedTexts::Steps::put_lacked, crate::proofs::PrintedTexts::Steps::put_escaped, crate::proofs::PrintedTexts::Steps::put_latin_1, crate::proofs::PrintedTexts::Steps::put_latin_1_lacked, crate::proofs::PrintedTexts::Steps::latin_1_below))]
 fn put_past(out: &mut [u8], at: usize, repertoire: Repertoire, character: char) -> usize
@@ -83,7 +83,7 @@ pub fn is_latin_1(character: char) -> bool
     matches!(character, '\u{0}'..='\u{7f}' | '\u{a0}'..='\u{ff}')
 }
 
-/// Puts a character as it is, or as a `\u` escape if the repertoire lacks it, and returns the index after it.
+/// Puts a character, as a `\u` escape if it is outside the repertoire, and returns the index after it.
 #[inline(always)]
 pub fn put_literal(out: &mut [u8], at: usize, repertoire: Repertoire, character: char) -> usize
     requires { at + 12 ≤ length out.old }
@@ -135,8 +135,8 @@ fn begins_with_stop<Stops: ByteClass>(text: &[u8]) -> bool
     begins_escape::<Stops>(text) || Stops::contains(text[0])
 }
 
-// Puts the rest of a text. Kept out of line because most texts have no stops, and there is room for them. Bytes and
-// size come one by one: a `Part` would be built in memory before each call.
+// Puts the rest of a text. Kept out of line because most texts have no stops, and there is room for them. `bytes` and
+// `size` are separate arguments because a `Part` would be built in memory before each call.
 #[inline(never)]
 fn print_rest<Stops: ByteClass>(
     out: &mut Vec<u8>,

@@ -1,4 +1,4 @@
--- How what is said of an answer is found.
+-- How the hint on an answer is found.
 use Rattle.std.specs.Prelude.{ℕ, List, Option, Result, Ok, Err}
 use Rattle.std.specs.Global.{Global}
 use Rattle.std.specs.declared.string.String.{String}
@@ -16,7 +16,7 @@ abbrev pub FindsFileHint : Encoding → List ℕ → List (List ℕ) → Result 
 FindsFileHint e source files (Ok hint) = IsFileHint e source files (hint_bytes hint)
 FindsFileHint e source files (Err failure) = IsSound e source → IsMemoryFailure failure
 
--- What is said of an answer. It fails only as the command might have failed itself.
+-- The hint on an answer. Finding it fails only as the command might have failed itself.
 abbrev pub FindsHint : Job → List (List ℕ) → List ℕ → ℕ → Result (Option (String Global)) Failure → Type 0
 FindsHint job files source status (Ok hint) = IsHint job files source status (hint_bytes hint)
 FindsHint job files source status (Err failure) = (answer : Answer) → Answers job source (Ok answer) → Answers job source (Err failure)

@@ -23,7 +23,7 @@ known_base b = record { name = string_bytes b.name; keys = table_places b.keys; 
 abbrev pub IsBase : Inside → Type 0
 IsBase b = IsKeyTable b.keys
 
--- ---- keys that are lacking
+-- ---- keys that the other table doesn't have
 
 -- whether a key is among some
 abbrev pub is_among : List ℕ → List (List ℕ) → Bool
@@ -34,7 +34,7 @@ is_among key (k ∷ ks) = if bytes_eq k key then true else is_among key ks
 abbrev pub is_lacking : Bool → List (List ℕ) → List ℕ → Bool
 is_lacking are_well_formed keys key = not (is_among key keys) && is_compared are_well_formed key
 
--- the places of the keys that are lacking among some
+-- the places of the compared keys that aren't among some
 abbrev pub lacking : Bool → List (List ℕ) → List KeyPlace → List KeyPlace
 lacking are_well_formed keys places = filter (λ p. is_lacking are_well_formed keys p.key) places
 
@@ -48,7 +48,7 @@ abbrev pub lacking_kind : LackingKey → Kind
 lacking_kind Missing = MissingKey
 lacking_kind Surplus = SurplusKey
 
--- the places of the keys that are lacking among the others, unless that is ignored
+-- the places of the compared keys that aren't among the others, unless that is ignored
 abbrev pub lacking_places : Sides → List KeyPlace
 lacking_places s =
     reported s.heading.ignored (λ p. lacking_kind s.lacking) (lacking s.are_well_formed (place_keys (table_places s.others.now)) (table_places s.keys.now))
@@ -62,7 +62,7 @@ abbrev pub lacking_value : LackingKey → List ℕ → List ℕ → KeyPlace →
 lacking_value Missing = missing_value
 lacking_value Surplus = surplus_value
 
--- What is said of these keys was added.
+-- The report of these keys was added.
 abbrev pub AddsLacking : LackingKey → Sides → List KeyPlace → String Global → String Global → Type 0
 AddsLacking lacks s places old new =
     AddsReport s.heading.report (lacking_line lacks s.heading.name.now s.base_name.now) (lacking_value lacks s.heading.name.now s.base_name.now) places old new

@@ -19,7 +19,7 @@ use Rattle.properties_tables.specs.declared.ill_formed.Flaw.TheVariants.{IllForm
 use Rattle.properties_checking.specs.declared.kinds.Kind.TheVariants.{MissingKey, SurplusKey}
 use Rattle.properties_checking.specs.declared.request.Check.{Check}
 
--- ---- keys that are lacking
+-- ---- keys that the other source doesn't have
 
 abbrev pub keys_at : List KeyPlace → List (List ℕ)
 keys_at places = map (λ p. p.key) places
@@ -33,7 +33,7 @@ pub record AreKeyPlaces (pairs : List Entry) (places : List KeyPlace) : Type 0 w
 abbrev pub is_compared : Bool → List ℕ → Bool
 is_compared are_well_formed key = are_well_formed || not (has_replacement key)
 
--- These keys are lacking: some pair has them, and none of the other pairs. Each stands once, with the line of its first
+-- Each of these keys is that of some pair, and of none of the other pairs. Each stands once, with the line of its first
 -- pair, and in the order of these.
 pub record AreLacking (are_well_formed : Bool) (pairs other : List Entry) (lacking : List KeyPlace) : Type 0 where
   pub each : (key : List ℕ) → Contains (keys_at lacking) key
@@ -101,9 +101,9 @@ surplus_value name base p = object (
 
 -- ---- a report
 
--- The text is what a check reports of a source, then a line or an object for each key of the base that the source lacks, in
--- the order of the base, and then one for each key of the source that the base lacks, in the order of the source, unless these
--- kinds are ignored.
+-- The text is what a check reports of a source, then a line or an object for each key of the base that the source
+-- doesn't have, in the order of the base, and then one for each key of the source that the base doesn't have, in the
+-- order of the source, unless these kinds are ignored.
 pub record IsReportAgainst (base : KnownBase) (name : List ℕ) (e : Encoding) (check : Check) (source text : List ℕ) : Type 0 where
   pub report : List ℕ
   pub is_report : IsReport name e check source report

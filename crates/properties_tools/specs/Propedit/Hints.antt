@@ -1,4 +1,4 @@
--- What is said of words that may have been meant otherwise.
+-- The hints on arguments that may have been meant otherwise.
 use Rattle.std.specs.Prelude.{◌≡◌, ◌==◌, ℕ, Bool, true, false, List, [], ◌∷◌, ◌++◌, Option, Some, None, codes, string_bytes}
 use Rattle.std.specs.Borrow.{Bor}
 use Rattle.std.specs.Global.{Global}
@@ -23,7 +23,7 @@ borrowed_bytes text = text.now
 
 -- ---- before standard input is read
 
--- what is said in a terminal
+-- the line that is printed in a terminal
 abbrev pub reading_line : List ℕ
 reading_line = printed_line (codes "propedit: reading standard input; '-f FILE' reads a file")
 
@@ -61,7 +61,7 @@ key_line key = codes "propedit: no pair has the key '" ++ (escaped key ++ (codes
 abbrev pub prefix_line : List ℕ → List ℕ
 prefix_line prefix = codes "propedit: no key begins with '" ++ (escaped prefix ++ (codes "'; " ++ printed_line is_a_file))
 
--- what is said of a PREFIX, where no file is named
+-- the hint on a PREFIX, if no file is named
 abbrev pub prefix_hint : Source → List ℕ → Option (List ℕ)
 prefix_hint StandardInput (byte ∷ bytes) = Some (prefix_line (byte ∷ bytes))
 prefix_hint source prefix = None
@@ -77,7 +77,7 @@ abbrev pub IsFileHint : Encoding → List ℕ → List (List ℕ) → Option (Li
 IsFileHint e source files None = HoldsKeys e source files
 IsFileHint e source files (Some line) = NamesFile e source files line
 
--- What is said where a command found nothing in a source. These files are there.
+-- The hint if a command found nothing in a source. These files are there.
 abbrev pub IsHintOf : Source → Encoding → Command → List (List ℕ) → List ℕ → Option (List ℕ) → Type 0
 IsHintOf from e (Get keys default end) files source hint = IsFileHint e source files hint
 IsHintOf from e (Comment key) files source hint = IsFileHint e source files hint
@@ -90,7 +90,7 @@ abbrev pub IsHintIf : Bool → Job → List (List ℕ) → List ℕ → Option (
 IsHintIf true job files source hint = hint ≡ None
 IsHintIf false job files source hint = IsHintOf job.source (encoding_of job.encoding) job.command files source hint
 
--- What is said of an answer with this status: nothing where something was found.
+-- The hint on an answer with this status: none if something was found.
 abbrev pub IsHint : Job → List (List ℕ) → List ℕ → ℕ → Option (List ℕ) → Type 0
 IsHint job files source status hint = IsHintIf (status == 0) job files source hint
 

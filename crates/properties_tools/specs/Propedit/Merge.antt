@@ -154,7 +154,7 @@ module _ {R : Type 0} (reader : Reader R) (asked : Merge) where
   ReadsPairs pairs (Ok edits) pairs' = SetsWhole pairs (Ok edits) pairs'
   ReadsPairs pairs (Err why) pairs' = FailsInPairs pairs why pairs' ⊎ SetsWhole pairs (Err why) pairs'
 
--- What reading a merge returns: the change by the edits that set its pairs, where nothing is said; or the status at a
+-- What reading a merge returns: the change by the edits that set its pairs, with nothing printed; or the status at a
 -- failure, whose message names the source of the pairs.
 abbrev pub ReadsMerge : {R E : Type 0} → Reader R → Sink E → Merge → R → E → Result Merged ℕ → R → E → Type 0
 ReadsMerge reader error_sink asked pairs errors (Ok change) pairs' errors' =

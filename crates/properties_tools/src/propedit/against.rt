@@ -148,12 +148,12 @@ impl LackingKey {
     }
 }
 
-// The keys of a source or of its base, those of the other one, and how what is lacking there is printed.
+// The keys of a source or of its base, those of the other one, and how the keys that it doesn't have are printed.
 #[derive(Clone, Copy)]
 struct Sides<'a> {
     heading: Heading<'a>,
     base_name: &'a str,
-    // What a key is that is lacking among the others.
+    // What a key is that isn't among the others.
     lacking: LackingKey,
     keys: &'a KeyTable,
     others: &'a KeyTable,
@@ -161,7 +161,7 @@ struct Sides<'a> {
     are_well_formed: bool,
 }
 
-// Appends what is said of each key that is lacking among the others, unless that is ignored.
+// Appends the report of each compared key that isn't among the others, unless that is ignored.
 fn push_lacking(alloc: Global, text: &mut String, sides: &Sides<'_>) -> Result<(), AllocError>
     requires { HaveTables sides.now }
     ensures { OnOk result (AddsLacking sides.now.lacking sides.now (lacking_places sides.now) text.old text.new) }
@@ -187,7 +187,7 @@ fn is_lacking(key: &str, keys: &KeyTable, are_well_formed: bool) -> bool
     keys.find(key).is_none() && (are_well_formed || !may_stand_for_bytes(key))
 }
 
-// Appends what is said of a key that is lacking, whose first pair begins in this line.
+// Appends the report of a key that is missing among the others, whose first pair begins in this line.
 #[inline(never)]
 fn push_key<'a>(
     alloc: Global,
@@ -204,7 +204,7 @@ fn push_key<'a>(
     }
 }
 
-// Appends what is said of a key of the base.
+// Appends the report of a key that only the base has.
 fn push_missing<'a>(
     alloc: Global,
     text: &mut String,
@@ -238,7 +238,7 @@ fn push_missing<'a>(
     Ok(())
 }
 
-// Appends what is said of a key of the source.
+// Appends the report of a key that only the source has.
 fn push_surplus<'a>(
     alloc: Global,
     text: &mut String,
@@ -271,7 +271,7 @@ fn push_surplus<'a>(
     Ok(())
 }
 
-// What is said of a key that a source lacks.
+// The message about a key that a source doesn't have.
 #[derive(Clone, Copy)]
 struct MissingKey<'a> {
     key: &'a str,
@@ -293,7 +293,7 @@ impl fmt::Display for MissingKey<'_> {
     }
 }
 
-// What is said of a key that a base lacks.
+// The message about a key that a base doesn't have.
 #[derive(Clone, Copy)]
 struct SurplusKey<'a> {
     key: &'a str,

@@ -351,12 +351,12 @@ pub(crate) trait DiffForm {
     /// What is printed of a difference.
     ghost printed: { Self → Difference → List ℕ };
 
-    /// Appends what is printed of a row of the old source whose key the new one lacks.
+    /// Appends what is printed of a row of the old source whose key the new one doesn't have.
     fn gone(&self, alloc: Global, text: &mut Vec<u8>, old: Side<'_>) -> Result<(), AllocError>
         requires { IsSide old }
         ensures { OnOk result (text.new.items ≡ text.old.items ++ printed self.now (gone (row_at old.entry))) };
 
-    /// Appends what is printed of a row of the new source whose key the old one lacks.
+    /// Appends what is printed of a row of the new source whose key the old one doesn't have.
     fn came(&self, alloc: Global, text: &mut Vec<u8>, new: Side<'_>) -> Result<(), AllocError>
         requires { IsSide new }
         ensures { OnOk result (text.new.items ≡ text.old.items ++ printed self.now (came (row_at new.entry))) };

@@ -1,4 +1,4 @@
-// What is said of words that may have been meant otherwise.
+// The hints on arguments that may have been meant otherwise.
 
 ghost use Rattle.std.specs.Prelude.{◌≡◌, map, IfOk, string_bytes};
 ghost use Rattle.std.specs.Option.{option_map};
@@ -79,8 +79,8 @@ pub fn print_reading<E: CountedWrite>(errors: &mut E)
     print_line(errors, READING);
 }
 
-/// Returns the line that says, of an answer with this status, which word may have been meant as a file: a PREFIX that
-/// no key begins with, if no file is named, or a KEY that no pair has, if it is one of the `files`.
+/// Returns the line that says, of an answer with this status, which argument may have been meant as a file: a PREFIX
+/// that no key begins with, if no file is named, or a KEY that no pair has, if it is one of the `files`.
 pub(crate) fn hint(
     alloc: Global,
     job: &Job,
@@ -140,7 +140,7 @@ fn key_line(alloc: Global, key: &str) -> Result<String, AllocError>
     format!(in alloc; "propedit: no pair has the key '{key}'; {IS_A_FILE}\n")
 }
 
-// Returns what is said of a PREFIX: that a file is named otherwise, where none is.
+// Returns the hint on a PREFIX: that a file is named otherwise, if none is named.
 fn prefix_hint(alloc: Global, source: &Source, prefix: &str) -> Result<Option<String>, AllocError>
     ensures { IfOk result (λ hint. hint_bytes hint ≡ prefix_hint source.now prefix.now) }
 {

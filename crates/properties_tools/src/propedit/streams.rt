@@ -5,6 +5,6 @@
 pub struct Sinks<W, E> {
     /// Takes its answer.
     pub output: W,
-    /// Takes what is to be said of it, or went wrong.
+    /// Takes hints on it, and errors.
     pub errors: E,
 }
