@@ -9,7 +9,7 @@ pub fn migrate(alloc: Global, file: &[u8]) -> Result<Vec<u8>, PropertiesError> {
     let mut document = Document::parse(alloc, file, Encoding::UTF_8)?;
     rename(alloc, &mut document, "server.port", "port")?;
     remove_all(alloc, &mut document, "debug.")?;
-    if !document.contains_key("retries") {
+    if document.get("retries").is_none() {
         document.put("retries", "3")?;
     }
     Ok(document.to_bytes()?)

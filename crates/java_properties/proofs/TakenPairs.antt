@@ -40,7 +40,7 @@ use Rattle.properties_editing.proofs.PassedOver.{passed-no_pair}
 use Rattle.properties_items.specs.declared.error.PropertiesError.{PropertiesError}
 use Rattle.properties_editing.specs.Comments.{passes_over}
 use Rattle.properties_editing.specs.Documents.{HasValueFor}
-use Rattle.properties_editing.specs.Private.Sound.{IsFault, IsSoundFor}
+use Rattle.properties_editing.specs.Private.Sound.{IsErrorOfLine, IsSoundFor}
 use Rattle.properties_editing.specs.declared.source.Comments.{Comments}
 use Rattle.properties_editing.specs.declared.source.Comments.TheVariants.{Read, PassedOver}
 use Rattle.java_properties.specs.Findings.{IsSourceError}
@@ -280,7 +280,7 @@ module _ {T : Type 0} {Has : T → (List ℕ → Option (List ℕ)) → Type 0} 
 
   -- one came that has no item
   pub taken-refused : {to next : Bor (List ℕ)} {taker : T} {s : ReaderState} (error : PropertiesError) (number : ℕ) (new : LineState)
-      → HasTaken Has comments e from taker s to.now → JoinsNext slice_reader s to number new next → IsFault comments number (chars new.line) error
+      → HasTaken Has comments e from taker s to.now → JoinsNext slice_reader s to number new next → IsErrorOfLine comments number (chars new.line) error
       → IsSourceError comments e from error
   taken-refused error number new h n (other, inr says) = source-memory e from comments _ says
   taken-refused error number new h n (other, inl (how, broke, says)) =

@@ -4,7 +4,7 @@ ghost use Rattle.std.specs.Prelude.{◌≡◌, IfOk};
 ghost use Rattle.std.specs.Option.{option_map};
 ghost use Rattle.std.specs.Str.{chars};
 ghost use Rattle.properties_text.specs.Encoding.{encoding_of};
-ghost use Rattle.properties_editing.specs.Documents.{HasKeysInOrder, HasValueAt, OpensDocument, OpensDocumentWith, PutsInto, RemovesFrom, SetsValueIn, TurnsAsciiOnly, ChecksHasKey};
+ghost use Rattle.properties_editing.specs.Documents.{HasKeysInOrder, HasValueAt, OpensDocument, OpensDocumentWith, PutsInto, RemovesFrom, SetsValueIn, TurnsAsciiOnly};
 
 use crate::parts::NamedKeys;
 use crate::parts::source_parts::SourceParts;
@@ -114,19 +114,6 @@ impl Document {
         ensures { HasValueAt self.now (chars key.now) (option_map (λ value. chars value.now) result) }
     {
         Some(self.edited.parts.keys.places.get(key)?.value.as_str())
-    }
-
-    /// Returns whether a pair has the key.
-    ///
-    /// ```text
-    /// let document = Document::parse(alloc, b"port = 80\n", Encoding::UTF_8)?;
-    /// assert!(rt; document.contains_key("port"));
-    /// assert!(rt; !document.contains_key("host"));
-    /// ```
-    pub fn contains_key(&self, key: &str) -> bool
-        ensures { ChecksHasKey self.now (chars key.now) result }
-    {
-        self.get(key).is_some()
     }
 
     /// Returns the keys in the order of the file, each once. A key that several pairs have is in the position of the

@@ -53,9 +53,6 @@ TellsKeySize x None = IsSoundOutcome (outcome_of x) × (outcome_pair (outcome_of
 TellsKeySize x (Some size) = (pair : List ℕ × List ℕ) × (outcome_pair (outcome_of x) ≡ Some pair) × (size ≡ length (encode_utf8_all pair.0))
 
 -- the characters of a key and of its value
-abbrev pub pair_characters : {Y Z : Type 0} → String Y × String Z → List ℕ × List ℕ
-pair_characters p = (characters p.0, characters p.1)
-
 abbrev pub text_characters : Bor (List ℕ) × Bor (List ℕ) → List ℕ × List ℕ
 text_characters p = (chars p.0.now, chars p.1.now)
 

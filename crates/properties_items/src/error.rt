@@ -19,7 +19,7 @@ use std::{fmt, io};
 /// It prints as a description in words, without a line number.
 ///
 /// ```text
-/// for escape in &malformed_escapes(alloc, &mut input, Encoding::UTF_8)? {
+/// for escape in &malformed_escapes(alloc, source, Encoding::UTF_8)? {
 ///     println!(rt; "{}: {}", escape.line_number, escape.kind)?;
 /// }
 /// ```

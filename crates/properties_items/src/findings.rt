@@ -1,11 +1,11 @@
-// What is found about the lines of an input: the keys of pairs, and malformed escapes.
+// What is found about the lines of a source: the keys of pairs, and malformed escapes.
 
 use crate::error::ErrorKind;
 
 /// The key of a pair, with the number of the line that the pair begins in.
 ///
 /// ```text
-/// for key in &key_lines(alloc, &mut input, Encoding::UTF_8)? {
+/// for key in &key_lines(alloc, source, Encoding::UTF_8)? {
 ///     if key.first_line_number != key.line_number {
 ///         println!(rt; "{name}:{}: the key of line {} again", key.line_number, key.first_line_number)?;
 ///     }
@@ -25,7 +25,7 @@ pub struct KeyLine {
 /// The first malformed escape of a logical line.
 ///
 /// ```text
-/// for escape in &malformed_escapes(alloc, &mut input, Encoding::UTF_8)? {
+/// for escape in &malformed_escapes(alloc, source, Encoding::UTF_8)? {
 ///     println!(rt; "{name}:{}: {}", escape.line_number, escape.kind)?;
 /// }
 /// ```

@@ -9,7 +9,7 @@ ghost use Rattle.properties_format.specs.Items.{given};
 ghost use Rattle.properties_format.specs.Computed.Body.{outcome_key};
 ghost use Rattle.properties_items.specs.Line.{entry_of};
 ghost use Rattle.properties_items.specs.Texts.{characters};
-ghost use Rattle.properties_items.specs.BorrowedItems.{pair_characters, text_characters, outcome_pair, FindsItem, FindsText, FindsContent, FindsIn, borrowed_entry, borrowed_content, is_borrowed, BorrowsPlain, found_bytes, found_content, found_entry, AreTextsIn, spans_of, IsFoundIn, IsFoundText, TellsKeySize};
+ghost use Rattle.properties_items.specs.BorrowedItems.{text_characters, outcome_pair, FindsItem, FindsText, FindsContent, FindsIn, borrowed_entry, borrowed_content, is_borrowed, BorrowsPlain, found_bytes, found_content, found_entry, AreTextsIn, spans_of, IsFoundIn, IsFoundText, TellsKeySize};
 ghost use Rattle.properties_format.specs.Split.{IsSplit};
 ghost use Rattle.properties_text.specs.Escaping.{holds_backslash};
 
@@ -219,24 +219,6 @@ pub fn item_key(alloc: Global, found: Found, line: &str) -> Result<Option<String
     match found.content {
         FoundContent::Comment(_) => Ok(None),
         FoundContent::KVPair(key, _) => Ok(Some(key.into_owned(alloc, line)?)),
-    }
-}
-
-/// Returns the key and the value, or `None` if the item is a comment.
-pub fn item_pair(
-    alloc: Global,
-    found: Found,
-    line: &str,
-) -> Result<Option<(String, String)>, AllocError>
-    requires { IsFoundIn line.now found }
-    ensures { IfOk result (λ pair. option_map pair_characters pair ≡ outcome_pair (given (found_content line.now found.content))) }
-{
-    match found.content {
-        FoundContent::Comment(_) => Ok(None),
-        FoundContent::KVPair(key, value) => {
-            let key = key.into_owned(alloc, line)?;
-            Ok(Some((key, value.into_owned(alloc, line)?)))
-        }
     }
 }
 

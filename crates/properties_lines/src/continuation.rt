@@ -82,11 +82,11 @@ fn after_blanks(bytes: &[u8]) -> &[u8]
     &bytes[leading_blanks(bytes)..]
 }
 
-/// Returns whether the next line is joined to the line with these bytes. If so, makes `joined` this line without the
-/// backslash that leaves it open.
+// Returns whether the next line is joined to the line with these bytes. If so, makes `joined` this line without the
+// backslash that leaves it open.
 #[inline(always)]
 #[tactic(auto, using(crate::proofs::OpenLines::open_lines))]
-pub fn begin_bytes(joined: &mut LineBuffer, bytes: &[u8]) -> Result<bool, AllocError>
+pub(crate) fn begin_bytes(joined: &mut LineBuffer, bytes: &[u8]) -> Result<bool, AllocError>
     ensures { BeginsText bytes.now result joined.new }
 {
     if !is_continued(bytes) {
@@ -97,10 +97,10 @@ pub fn begin_bytes(joined: &mut LineBuffer, bytes: &[u8]) -> Result<bool, AllocE
     Ok(true)
 }
 
-/// Joins the line with these bytes to `joined`, and returns whether the next line is joined too.
+// Joins the line with these bytes to `joined`, and returns whether the next line is joined too.
 #[inline(always)]
 #[tactic(auto, using(crate::proofs::OpenLines::open_lines))]
-pub fn join_bytes(joined: &mut LineBuffer, bytes: &[u8]) -> Result<bool, AllocError>
+pub(crate) fn join_bytes(joined: &mut LineBuffer, bytes: &[u8]) -> Result<bool, AllocError>
     ensures { AddsText bytes.now joined.old result joined.new }
 {
     let rest = after_blanks(bytes);

@@ -88,9 +88,9 @@ impl LineReader {
         &self.input.held()[line.start..line.end]
     }
 
-    /// Returns the bytes that are held, from the start of that line on.
+    // Returns the bytes that are held, from the start of that line on.
     #[inline(always)]
-    pub fn bytes_onward(&self) -> &[u8]
+    pub(crate) fn bytes_onward(&self) -> &[u8]
         ensures line { take (length self.now.line) result.now ≡ self.now.line }
         ensures within { length self.now.line ≤ length result.now }
     {

@@ -162,8 +162,8 @@ impl Scanner {
         self.is_done = true;
     }
 
-    /// Records that the first `count` bytes of those that are held are released, and the last line with them.
-    pub fn release(&mut self, count: usize)
+    // Records that the first `count` bytes of those that are held are released, and the last line with them.
+    pub(crate) fn release(&mut self, count: usize)
         requires { count ≤ self.old.at }
         ensures { self.new ≡ record self.old { at = self.old.at - count; line = record self.old.line { start = 0; end = 0 } } }
     {

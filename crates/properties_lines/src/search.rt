@@ -41,18 +41,18 @@ pub fn unit_size(encoding: Encoding) -> usize
     }
 }
 
-/// Returns how many of `length` bytes form whole units.
-///
-/// If a search found no line ending among them, the next search, over these bytes and more, continues there.
-pub fn whole_units(encoding: Encoding, length: usize) -> usize
+// Returns how many of `length` bytes form whole units.
+//
+// If a search found no line ending among them, the next search, over these bytes and more, continues there.
+pub(crate) fn whole_units(encoding: Encoding, length: usize) -> usize
     ensures { result ≡ whole_units (encoding_of encoding) length }
 {
     length - length % unit_size(encoding)
 }
 
-/// Finds the first CR or LF among the units of the bytes. The bytes before `from` are whole units that contain none.
+// Finds the first CR or LF among the units of the bytes. The bytes before `from` are whole units that contain none.
 #[inline(always)]
-pub fn find_line_ending(encoding: Encoding, bytes: &[u8], from: usize) -> Option<FoundEnding>
+pub(crate) fn find_line_ending(encoding: Encoding, bytes: &[u8], from: usize) -> Option<FoundEnding>
     requires { IsSearched (encoding_of encoding) bytes.now from }
     ensures { FindsLineEnding (encoding_of encoding) bytes.now result }
 {
@@ -62,9 +62,9 @@ pub fn find_line_ending(encoding: Encoding, bytes: &[u8], from: usize) -> Option
     }
 }
 
-/// Finds the first CR or LF, where units are one byte long.
+// Finds the first CR or LF, where units are one byte long.
 #[inline(always)]
-pub fn find_in_bytes(bytes: &[u8], from: usize) -> Option<FoundEnding>
+fn find_in_bytes(bytes: &[u8], from: usize) -> Option<FoundEnding>
     requires within { from ≤ length bytes.now }
     requires none_before { HoldsNoLineEnding (take from bytes.now) }
     ensures { FindsLineEndingByte bytes.now result }
@@ -75,10 +75,10 @@ pub fn find_in_bytes(bytes: &[u8], from: usize) -> Option<FoundEnding>
     Some(FoundEnding { at, is_cr })
 }
 
-/// Finds the first CR or LF, where units are two bytes long. The byte of a CR or LF counts only in a unit whose other
-/// byte is zero.
+// Finds the first CR or LF, where units are two bytes long. The byte of a CR or LF counts only in a unit whose other
+// byte is zero.
 #[inline(never)]
-pub fn find_in_units(encoding: Encoding, bytes: &[u8], from: usize) -> Option<FoundEnding>
+fn find_in_units(encoding: Encoding, bytes: &[u8], from: usize) -> Option<FoundEnding>
     requires size { unit_size (encoding_of encoding) ≡ 2 }
     requires searched { IsSearched (encoding_of encoding) bytes.now from }
     ensures { FindsLineEnding (encoding_of encoding) bytes.now result }

@@ -18,7 +18,7 @@ use std::borrow::CowStr;
 
 mod read;
 
-pub use read::read_escape;
+pub(crate) use read::read_escape;
 
 // Up to this many bytes, a backslash is searched for inline. In longer texts, the larger steps of `memchr` pay off.
 const SHORT: usize = 128;

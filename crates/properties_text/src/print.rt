@@ -34,7 +34,7 @@ mod readable;
 mod runs;
 
 pub use crate::line_buffer::LineBuffer;
-pub use convert::convert_text;
+pub(crate) use convert::convert_text;
 pub use readable::{print_readable_pair, print_readable_texts};
 
 /// Where a text stands that is neither a key nor a value. It decides what is escaped besides the characters outside the
@@ -85,9 +85,9 @@ pub struct Pair<'a> {
 }
 
 impl<'a> Pair<'a> {
-    /// A key and a value.
+    // A key and a value.
     #[inline(always)]
-    pub fn literal(key: &'a str, value: &'a str) -> Pair<'a>
+    fn literal(key: &'a str, value: &'a str) -> Pair<'a>
         ensures well { IsWellPair result }
         ensures key { key_meaning result ≡ means (chars key.now) }
         ensures value { value_meaning result ≡ means (chars value.now) }

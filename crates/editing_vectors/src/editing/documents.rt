@@ -53,7 +53,7 @@ fn take_step(
         ("all-characters", []) => document.set_ascii_only(false),
         ("remove", [key]) => {
             let key = text(key)?;
-            let was_there = document.contains_key(key);
+            let was_there = document.get(key).is_some();
             if document.remove(key) != was_there {
                 outcome.fail(format!(in alloc; "a document reports another removal of {key:?}")?);
             }

@@ -25,7 +25,7 @@ use Rattle.properties_items.specs.declared.error.ErrorKind.TheVariants as error
 use Rattle.properties_items.specs.declared.error.PropertiesError.{PropertiesError}
 use Rattle.properties_items.specs.declared.line.LineEnding.{LineEnding}
 use Rattle.properties_items.specs.declared.line.LineEnding.TheVariants.{CR, LF, CRLF}
-use Rattle.properties_editing.specs.Private.Sound.{AreSoundFor, IsSoundFor, IsErrorOfGroups, IsFault}
+use Rattle.properties_editing.specs.Private.Sound.{AreSoundFor, IsSoundFor, IsErrorOfGroups, IsErrorOfLine}
 use Rattle.properties_editing.specs.Private.BodyGroups.{closing_of}
 use Rattle.properties_editing.specs.declared.source.Comments.{Comments}
 use Rattle.properties_editing.specs.declared.groups.Group.{Group}
@@ -250,7 +250,7 @@ AddsTold d group next (Some (key, value)) gap old after new =
 abbrev pub ReadsGroupParts : Comments → List ℕ → List ℕ → Group → ℕ → Gap → Parts → Result Gap PropertiesError → Parts → Type 0
 ReadsGroupParts comments d line group next gap old (Ok after) new =
     IsSoundFor comments (chars line) × AddsTold d group next (outcome_pair (outcome_of (chars line))) gap old after new
-ReadsGroupParts comments d line group next gap old (Err e) new = IsFault comments group.number (chars line) e ⊎ IsBareError error.Memory e
+ReadsGroupParts comments d line group next gap old (Err e) new = IsErrorOfLine comments group.number (chars line) e ⊎ IsBareError error.Memory e
 
 -- The last gap became parts.
 pub record ClosesGap (gap : Gap) (end : ℕ) (old new : Parts) : Type 0 where

@@ -31,14 +31,14 @@ abbrev pub AreSound : List (List HeldLine) → Type 0
 AreSound groups = AreSoundFor PassedOver groups
 
 -- A logical line, which has this number and isn't passed over, has no item for this reason.
-abbrev pub IsFault : Comments → ℕ → List ℕ → PropertiesError → Type 0
-IsFault comments number line e = (passes_over comments line ≡ false) × IsNoItem number line e
+abbrev pub IsErrorOfLine : Comments → ℕ → List ℕ → PropertiesError → Type 0
+IsErrorOfLine comments number line e = (passes_over comments line ≡ false) × IsNoItem number line e
 
 -- One of these groups, which comes after sound ones, has no item for this reason; or memory ran out.
 abbrev pub IsErrorOfGroups : Comments → List (List HeldLine) → PropertiesError → Type 0
 IsErrorOfGroups comments groups e =
     ((before : List (List HeldLine)) × (g : List HeldLine) × (after : List (List HeldLine)) × (groups ≡ before ++ g ∷ after) × AreSoundFor comments before
-    × IsFault comments (1 + length (held_in before)) (joined (as_lines g)) e)
+    × IsErrorOfLine comments (1 + length (held_in before)) (joined (as_lines g)) e)
     ⊎ IsBareError kind.Memory e
 
 -- the results of an edit that makes such bytes of the source

@@ -32,10 +32,10 @@ static DIGIT_VALUES: [u32; 256] = [
     NONE, NONE, NONE, NONE, NONE, NONE, NONE,
 ];
 
-/// Reads the escape at the front of a well-formed text, whose first byte is a backslash. A backslash at the end of the
-/// text means U+0000.
+// Reads the escape at the front of a well-formed text, whose first byte is a backslash. A backslash at the end of the
+// text means U+0000.
 #[inline(always)]
-pub fn read_escape(encoding: LineEncoding, text: &[u8]) -> Result<ReadCharacter, Malformed>
+pub(crate) fn read_escape(encoding: LineEncoding, text: &[u8]) -> Result<ReadCharacter, Malformed>
     requires some { 0 < length text.now }
     requires escape { get_or text.now 0 0 ≡ backslash }
     requires well { IsWell encoding text.now }

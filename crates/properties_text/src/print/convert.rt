@@ -40,9 +40,9 @@ struct Respelling {
     encoding: LineEncoding,
 }
 
-/// Returns a text, each of whose spellings is converted: a character outside the repertoire is escaped, and if
-/// `readable`, the spelling of a non-ASCII character that it has becomes the character. Fails if memory runs out.
-pub fn convert_text(
+// Returns a text, each of whose spellings is converted: a character outside the repertoire is escaped, and if
+// `readable`, the spelling of a non-ASCII character that it has becomes the character. Fails if memory runs out.
+pub(crate) fn convert_text(
     alloc: Global,
     repertoire: Repertoire,
     readable: bool,
