@@ -28,8 +28,7 @@ use std::alloc::{AllocError, Global};
 /// edits of other keys are made. A conversion keeps what is malformed.
 ///
 /// Of steps, each is made to what the one before it left, and the first that is refused refuses the change. A step reads
-/// the source once, or twice if it removes a key with its comments, sets its comment, or renames keys whose names all
-/// differ. For other renames, `rename_keys` says how often.
+/// the source once, or twice if it removes a key with its comments, sets its comment, or renames keys.
 ///
 /// ```text
 /// let edits = Change::Edits(Edits {
