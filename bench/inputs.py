@@ -48,7 +48,7 @@ def sentence(source, length):
 
 
 def escaped(source, count):
-    """Escapes in runs, of characters that windows-1252 lacks, as in texts of Russian, Greek or Chinese."""
+    """Escapes in runs, of characters that windows-1252 doesn't have, as in texts of Russian, Greek or Chinese."""
     start, many = source.choice([(0x430, 32), (0x3b1, 24), (0x4e00, 2000)])
     text = ""
     while count > 0:

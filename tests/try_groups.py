@@ -198,7 +198,7 @@ def of_parts(todrenval, source, group, as_it_stands):
         if joined(sign) not in (b"#", b"!") or joined(more).strip(b" \t\f"):
             yield "it isn't a comment"
     if not ill_formed_line(source, group):
-        # Python's cp1252 lacks five bytes.
+        # Python's cp1252 doesn't have five bytes.
         wanted = parts if source.in_force == "utf-8" else [re.sub(rb"[\x81\x8d\x8f\x90\x9d]", b"?", part) for part in parts]
         if [text.encode(source.in_force, "replace") for text in standing] != wanted:
             yield f"{parts} is {standing}"

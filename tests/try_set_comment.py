@@ -81,7 +81,7 @@ def drawn_text(draw, comment):
 
 
 def encoded(text, encoding):
-    """Bytes of the text. What windows-1252 lacks is left out."""
+    """Bytes of the text. What windows-1252 doesn't have is left out."""
     return text.encode() if encoding == "utf-8" else bytes(WINDOWS_1252.index(c) for c in text if c in WINDOWS_1252)
 
 

@@ -365,7 +365,7 @@ def changed(source, encoding, edits, comments="read"):
 
 
 def by_document(source, encoding, edits):
-    """The same by a document, which has no edit that prints a pair anew: that one is made to its bytes."""
+    """The same by a document, which has no edit that prints the whole pair: that one is made to its bytes."""
     for ascii_only, single in edits:
         document = todrenval.Document(source, encoding=encoding, errors="replace", ascii_only=ascii_only)
         if isinstance(single, SetKey):

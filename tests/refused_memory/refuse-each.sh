@@ -9,7 +9,7 @@
 # is wanted.
 #
 # `calls` names the calls, and `allocations` says how many allocations each has. A call with more gets more runs, and
-# then `allocations` is written anew.
+# then `allocations` is rewritten.
 set -u
 MOST=512
 here=$(cd "$(dirname "$0")" && pwd) || exit 2
@@ -103,5 +103,5 @@ awk -v counts="$work/allocations" '
         exit wrong > 0
     }' "$work/names" "$work/ended" "$work/came"
 status=$?
-cmp -s "$work/allocations" "$here/allocations" || { cp "$work/allocations" "$here/allocations"; echo "allocations is written anew"; }
+cmp -s "$work/allocations" "$here/allocations" || { cp "$work/allocations" "$here/allocations"; echo "allocations is rewritten"; }
 exit $status

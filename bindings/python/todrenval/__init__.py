@@ -724,7 +724,7 @@ def set_key(
     ascii_only: bool = True,
     comments: str = "skip",
 ) -> bytes:
-    r"""Does what `set_value` does, but prints the pair anew, as `dumps` does with readable=False.
+    r"""Does what `set_value` does, but prints the whole pair, as `dumps` does with readable=False.
 
     >>> set_key(b"port    = 80\n", "port", "8080")
     b'port=8080\n'
@@ -898,7 +898,7 @@ def convert(
     r"""Returns the file in another encoding: ascii, cp1252, iso-8859-1 or utf-8. Everything else stays: comments, blank
     lines, layout, line endings, and what each key, value and comment means.
 
-    A character that `to` lacks becomes an escape. Other characters and escapes stay as they are written; but if the
+    A character that `to` doesn't have becomes an escape. Other characters and escapes stay as they are written; but if the
     result is to be readable, each non-ASCII character that `to` has becomes itself. Escapes of ASCII characters stay.
 
     A byte order mark is dropped, and if the result would begin like one, its first character becomes an escape. Malformed

@@ -10,7 +10,7 @@ FEATURES = ("cx16", "lahf_lm", "pni", "popcnt", "sse4_1", "sse4_2", "ssse3")
 
 
 def lacking(cpuinfo: str = "/proc/cpuinfo") -> List[str]:
-    """Returns the features that the processor lacks. Where nothing says which it has, it lacks none.
+    """Returns the features that the processor doesn't have, or none if nothing tells which it has.
 
     >>> lacking("/dev/null")
     []

@@ -242,7 +242,7 @@ pub enum Spelling {
 }
 
 /// Writes the bytes of a file in another encoding, and keeps all else: comments, layout, line endings, and what each text
-/// means. What the target lacks becomes an escape, and a byte order mark is dropped. A malformed escape stays as it is.
+/// means. What the target doesn't have becomes an escape, and a byte order mark is dropped. A malformed escape stays as it is.
 ///
 /// ```
 /// use todrenval::{convert, Spelling, Target, UTF_8};

@@ -161,7 +161,7 @@
 //!
 //! | writing | `java-properties` 2.0.0 | here |
 //! |---|---|---|
-//! | a character that the encoding lacks | `\u` and as many digits as it has | `\u` and four digits, twice past U+FFFF: it reads back |
+//! | a character that the encoding doesn't have | `\u` and as many digits as it has | `\u` and four digits, twice past U+FFFF: it reads back |
 //! | many escapes in a row | some are lost when a buffer is full | are all written |
 //! | line endings and backslashes in a comment | are written as they are | are `\n`, `\r` and `\\`: it stays one comment |
 //! | a first key that begins like a byte order mark | is written as it is | its first character is an escape: it reads back |

@@ -52,7 +52,7 @@ pub struct PropertiesWriter<W: Write> {
 }
 
 impl<W: Write> PropertiesWriter<W> {
-    /// Writes windows-1252, with escapes for characters that it lacks.
+    /// Writes windows-1252, with escapes for characters that it doesn't have.
     pub fn new(writer: W) -> Self {
         Self::new_with_encoding(writer, WINDOWS_1252)
     }

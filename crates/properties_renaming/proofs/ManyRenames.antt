@@ -47,15 +47,15 @@ same-name k = (bytes_eq-Decides k k).1 refl
 pub other-names : (k l : List ℕ) → k ≢ l → bytes_eq k l ≡ false
 other-names k l n = false_from_ne_true (bytes_eq k l) (λ h. n ((bytes_eq-Decides k l).0 h))
 
--- What the first of these renames says of its old key,
+-- A pair has to have the old key of the first rename,
 pub needed-old : (n : NewName) (ns : List NewName) → needed (n ∷ ns) n.old ≡ Some true
 needed-old n ns = let t = same-name n.old in rw t refl
 
--- of its new one,
+-- none may have its new one,
 pub needed-new : (n : NewName) (ns : List NewName) → n.old ≢ n.new → needed (n ∷ ns) n.new ≡ Some false
 needed-new n ns apart = let o = other-names n.new n.old (λ q. apart (sym q)) in let t = same-name n.new in rw (o, t) refl
 
--- and of no other.
+-- and the others decide about any other key.
 pub needed-other : (n : NewName) (ns : List NewName) (key : List ℕ) → key ≢ n.old → key ≢ n.new → needed (n ∷ ns) key ≡ needed ns key
 needed-other n ns key o w = let a = other-names key n.old o in let b = other-names key n.new w in rw (a, b) refl
 

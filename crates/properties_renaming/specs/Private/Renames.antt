@@ -75,8 +75,7 @@ RenamesFront options source renames (Err error) = IsBareError kind.Memory error
 
 -- ---- several renames in one pass
 
--- what the first of these renames that has a key as one of its names says of it: a pair has to have the key, or none may
--- have it
+-- whether a pair has to have a key before these renames, or none may: the first of them with that name decides
 abbrev pub needed : List NewName → List ℕ → Option Bool
 needed [] key = None
 needed (n ∷ ns) key = if bytes_eq key n.old then Some true else (if bytes_eq key n.new then Some false else needed ns key)
