@@ -27,7 +27,7 @@ use Rattle.properties_format.proofs.Split.Unique.{split_of-only}
 use Rattle.properties_format.proofs.Undecoded.{decodes, splits, in_text}
 use Rattle.properties_text.specs.Escaping.{malformed_in, text_in, IsWell, Checks}
 use Rattle.properties_text.specs.Parsing.{bytes_in, spanned, in_characters, IsSpan, AreSpans, IsCommentAt, IsPairAt, AreInPlace, AreFoundInText}
-use Rattle.properties_text.proofs.Spelt.Escapes.{no-text}
+use Rattle.properties_text.proofs.SpeltTexts.Escapes.{no-text}
 use Rattle.properties_text.specs.declared.encoding.line_encoding.LineEncoding.{LineEncoding}
 use Rattle.properties_text.specs.declared.encoding.line_encoding.LineEncoding.TheVariants.{Windows1252, Utf8}
 use Rattle.properties_text.specs.declared.escape.Malformed.{Malformed}

@@ -18,8 +18,8 @@ use Rattle.properties_format.proofs.Body.Decoded.{decoded-nil}
 use Rattle.properties_format.proofs.Body.Groups.{held_groups_of-only}
 use Rattle.properties_format.proofs.Edited.Fronts.{outcome-empty}
 use Rattle.properties_format.proofs.Items.Unique.{outcome_of-only}
-use Rattle.properties_format.proofs.InTurn.Lines.{AreLinesBy, bytes-unended, unended-some}
-use Rattle.properties_format.proofs.InTurn.Merged.{in-turn, turn-at}
+use Rattle.properties_format.proofs.GroupsInTurn.Lines.{AreLinesBy, bytes-unended, unended-some}
+use Rattle.properties_format.proofs.GroupsInTurn.Merged.{in-turn, turn-at}
 use Rattle.properties_format.proofs.Valued.Lined.{held_in-append}
 use Rattle.properties_items.specs.Errors.{IsBareError, IsMalformed}
 use Rattle.properties_items.specs.declared.error.ErrorKind.TheVariants as reason

@@ -1,6 +1,6 @@
 pub mod Counting
 pub mod KnownEdits
-pub mod LookedUp
+pub mod SoughtKeys
 pub mod RefusedRenames
 pub mod Statuses
 pub mod Steps

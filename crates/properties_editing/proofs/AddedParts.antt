@@ -12,7 +12,7 @@ use Rattle.properties_format.specs.Edits.{Edit, IsEdited, put}
 use Rattle.properties_format.specs.Plan.{Change, at_last, put_change, put_in, with_key_set}
 use Rattle.properties_format.specs.Computed.Body.{held_groups_of, safe_ending}
 use Rattle.properties_format.specs.Computed.Lines.{ends_in_cr}
-use Rattle.properties_format.proofs.InTurn.Merged.{AreInTurn}
+use Rattle.properties_format.proofs.GroupsInTurn.Merged.{AreInTurn}
 use Rattle.properties_format.proofs.Lines.Plain.{ends_in_cr-append}
 use Rattle.properties_format.proofs.Plan.Slots.{group_of, lf-no_key, no_line}
 use Rattle.properties_format.proofs.Plan.Added.{all_closed, blank, groups_added, groups_put}

@@ -16,7 +16,7 @@ use Rattle.properties_format.specs.Computed.Body.{held_groups_of}
 use Rattle.properties_format.specs.Computed.Valued.{last_between, or_else, separator_by}
 use Rattle.properties_format.proofs.Body.Decoded.{cut_of-lines}
 use Rattle.properties_format.proofs.Body.Groups.{held-body, held_groups_of-meets}
-use Rattle.properties_format.proofs.InTurn.Merged.{AreInTurn, in-turn, merged, merged-final}
+use Rattle.properties_format.proofs.GroupsInTurn.Merged.{AreInTurn, in-turn, merged, merged-final}
 use Rattle.properties_format.proofs.Items.Unique.{outcome_of-only}
 use Rattle.properties_format.proofs.Lines.Only.{lines_of-plain}
 use Rattle.properties_format.proofs.Plan.Slots.{AreSlotsOf, slots-merged, turn-cons}

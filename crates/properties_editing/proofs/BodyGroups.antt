@@ -27,7 +27,7 @@ use Rattle.properties_lines.specs.Scanner.{raw_line_bytes, GivesScannedLine, Has
 use Rattle.properties_lines.specs.declared.scanner.RawLine.{RawLine}
 use Rattle.properties_lines.specs.declared.logical.LogicalLine.{LogicalLine}
 use Rattle.properties_lines.specs.declared.scanner.Scanner.{Scanner}
-use Rattle.properties_lines.proofs.Tested.{ascii-line}
+use Rattle.properties_lines.proofs.TestedBytes.{ascii-line}
 use Rattle.properties_text.specs.Escaping.{text_in}
 use Rattle.properties_lines.proofs.HeldLines.{body-next, body-after, body-lines_left}
 use Rattle.properties_editing.specs.Private.BodyGroups.{IsWithin, groups_left, IsBegun, TakesHeldLine, IsSpanOf, TakesHeldGroup, groups_from, ReadsGroup, group_span_bytes}

@@ -29,7 +29,7 @@ use Rattle.properties_format.specs.Computed.Escapes.{meaning_of}
 use Rattle.properties_format.specs.Computed.Items.{outcome_of, pair_outcome, split_outcome}
 use Rattle.properties_format.specs.Computed.Edited.{IsSoundOutcome}
 use Rattle.properties_format.proofs.Escapes.Unique.{means-only, meaning_of-only}
-use Rattle.properties_format.proofs.InTurn.Lines.{bytes-unended}
+use Rattle.properties_format.proofs.GroupsInTurn.Lines.{bytes-unended}
 use Rattle.properties_format.proofs.Valued.Read.{front-unended}
 use Rattle.properties_editing.specs.Private.BodyValues.{IsBeforeValue, IsFrontSize, IsPairAlone, IsNewValue, IsGroupAlone, IsBetweenAt}
 use Rattle.std.specs.Str.{IsUtf8, chars}

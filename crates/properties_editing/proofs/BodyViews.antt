@@ -57,7 +57,7 @@ use Rattle.properties_format.specs.Edited.{is_editable}
 use Rattle.properties_editing.proofs.CutMeanings.{AreJoined, IsAlone, cut-meets, group-added, group-alone, group-joined}
 use Rattle.properties_format.specs.Body.{ending_bytes, last_ending}
 use Rattle.properties_format.specs.Computed.Body.{unended_bytes}
-use Rattle.properties_format.proofs.InTurn.Lines.{bytes-unended}
+use Rattle.properties_format.proofs.GroupsInTurn.Lines.{bytes-unended}
 use Rattle.properties_format.proofs.Split.Unique.{split_of-meets}
 use Rattle.properties_editing.proofs.CutOrder.{cut-ordered, cut-unended, counts-ordered}
 use Rattle.properties_format.specs.Encoding.{windows_1252, utf_8, utf_16le, utf_16be}

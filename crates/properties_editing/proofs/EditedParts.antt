@@ -15,7 +15,7 @@ use Rattle.properties_format.specs.Plan.{Change, become, all_stay, at_last, put_
 use Rattle.properties_format.specs.Computed.Body.{held_groups_of}
 use Rattle.properties_format.proofs.Body.Decoded.{cut_of-lines}
 use Rattle.properties_format.proofs.Edited.Pair.{pair-decoded, pair-outcome, pair-plain}
-use Rattle.properties_format.proofs.InTurn.Merged.{AreInTurn}
+use Rattle.properties_format.proofs.GroupsInTurn.Merged.{AreInTurn}
 use Rattle.properties_format.proofs.Lines.Only.{lines_of-plain}
 use Rattle.properties_format.proofs.Plan.Slots.{become-after, AreSlotsOf, group_of, groups_after}
 use Rattle.properties_format.proofs.Plan.Added.{groups_put, pair-fit}

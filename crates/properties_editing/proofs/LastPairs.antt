@@ -28,7 +28,7 @@ use Rattle.properties_format.specs.Edited.{is_editable}
 use Rattle.properties_format.specs.Computed.Settings.{is_good_separator}
 use Rattle.properties_format.specs.Computed.Valued.{separator_by, between_if_pair, between_in, last_between}
 use Rattle.properties_format.proofs.Settings.Tests.{is_good_separator-from}
-use Rattle.properties_format.proofs.InTurn.Lines.{bytes-unended}
+use Rattle.properties_format.proofs.GroupsInTurn.Lines.{bytes-unended}
 use Rattle.properties_format.proofs.Valued.Made.{new_separator-meets}
 use Rattle.properties_format.proofs.Valued.Separators.{new_separator-fit}
 use Rattle.properties_editing.proofs.BodyValues.{middle-of}

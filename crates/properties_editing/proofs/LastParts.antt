@@ -16,13 +16,13 @@ use Rattle.properties_editing.specs.declared.parts.source_parts.SourceParts.{Sou
 use Rattle.properties_editing.proofs.PartsRemoved.{IsTail, empty-none, tail-next, lf-no_pair, tail-back}
 use Rattle.properties_editing.proofs.ValuedParts.{alone-groups}
 use Rattle.properties_format.specs.Computed.Body.{unended_bytes, held_groups_of}
-use Rattle.properties_format.proofs.InTurn.Merged.{AreInTurn, after-lf, are_one_ending, merged, merged-one, merged-two, one-ending, turn-first}
+use Rattle.properties_format.proofs.GroupsInTurn.Merged.{AreInTurn, after-lf, are_one_ending, merged, merged-one, merged-two, one-ending, turn-first}
 use Rattle.std.proofs.lemmas.Bool.{cases_Bool}
 use Rattle.properties_format.specs.Text.{crlf, lf}
 use Rattle.properties_format.specs.Lines.{joined}
 use Rattle.properties_format.specs.Computed.Split.{split_of}
 use Rattle.properties_format.specs.Computed.Valued.{between_if_pair, last_between, or_else}
-use Rattle.properties_format.proofs.InTurn.Lines.{texts-with, bytes-unended}
+use Rattle.properties_format.proofs.GroupsInTurn.Lines.{texts-with, bytes-unended}
 use Rattle.properties_editing.specs.Private.Sound.{AreSound, IsSoundFor}
 use Rattle.properties_editing.specs.declared.source.Comments.TheVariants.{PassedOver}
 use Rattle.properties_editing.proofs.LastPairs.{between-some, between-unpaired}

@@ -19,7 +19,7 @@ use Rattle.properties_format.specs.Computed.Split.{split_of}
 use Rattle.properties_format.specs.Computed.Valued.{without_indent}
 use Rattle.properties_format.proofs.Body.Groups.{held_groups_of-meets, held-body}
 use Rattle.properties_format.proofs.Encodings.Pieces.{pieces_of-meets}
-use Rattle.properties_format.proofs.InTurn.Lines.{bytes-unended}
+use Rattle.properties_format.proofs.GroupsInTurn.Lines.{bytes-unended}
 use Rattle.properties_format.proofs.Split.Blanks.{without_leading_blanks-only}
 use Rattle.properties_format.proofs.Split.Unique.{split_of-meets}
 use Rattle.properties_text.specs.Encoding.{encoding_of}

@@ -21,8 +21,8 @@ use Rattle.properties_format.proofs.Edits.Escapes.{escapes_of_body}
 use Rattle.properties_format.proofs.Edits.PairValues as pairs
 use Rattle.properties_format.specs.Edits.{AreInComments, pair_from}
 use Rattle.properties_format.specs.Found.{escapes_from}
-use Rattle.properties_format.proofs.InTurn.Lines.{bytes-unended, texts-with}
-use Rattle.properties_format.proofs.InTurn.Merged.{AreInTurn, after-lf, are_one_ending, merged, merged-one, merged-two, one-ending}
+use Rattle.properties_format.proofs.GroupsInTurn.Lines.{bytes-unended, texts-with}
+use Rattle.properties_format.proofs.GroupsInTurn.Merged.{AreInTurn, after-lf, are_one_ending, merged, merged-one, merged-two, one-ending}
 use Rattle.properties_format.proofs.Keys.{pair_keys}
 use Rattle.properties_format.proofs.Maps as entry
 use Rattle.properties_format.proofs.Plan.Added.{blank}

@@ -17,8 +17,8 @@ use Rattle.properties_format.specs.Plan.{Change, all_stay, at_last}
 use Rattle.properties_format.specs.Computed.Items.{outcome_of}
 use Rattle.properties_format.specs.Computed.Body.{has_key, held_lines_of, unended_bytes}
 use Rattle.properties_format.proofs.Edited.Made.{has_key-false, has_key-true}
-use Rattle.properties_format.proofs.InTurn.Lines.{bytes-of, ending-of, texts-with, bytes-unended, bytes-with, ending-with, unended-with, with_ending}
-use Rattle.properties_format.proofs.InTurn.Merged.{AreInTurn, IsLastGroup, after-cr, are_one_ending}
+use Rattle.properties_format.proofs.GroupsInTurn.Lines.{bytes-of, ending-of, texts-with, bytes-unended, bytes-with, ending-with, unended-with, with_ending}
+use Rattle.properties_format.proofs.GroupsInTurn.Merged.{AreInTurn, IsLastGroup, after-cr, are_one_ending}
 use Rattle.properties_format.proofs.Plan.Last.{at_last-none, at_last-some, first_behind}
 use Rattle.properties_format.proofs.Plan.Slots.{IsGroupText, group-bytes, group-lines, group_of, lf-no_key, no_line}
 use Rattle.properties_items.specs.BorrowedItems.{outcome_pair}

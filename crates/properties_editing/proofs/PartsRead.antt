@@ -15,8 +15,8 @@ use Rattle.properties_format.specs.Edited.{final_group, is_editable, is_empty_li
 use Rattle.properties_format.specs.Computed.Body.{held_groups_of, unended_bytes}
 use Rattle.properties_format.proofs.Body.Groups.{held-body, held_groups_of-meets, groups_bytes-append}
 use Rattle.properties_format.proofs.Edited.Steps.{final_group-push}
-use Rattle.properties_format.proofs.InTurn.Lines.{bytes-unended, lines-some, unended-some}
-use Rattle.properties_format.proofs.InTurn.Merged.{AreInTurn, in-turn, turn-first}
+use Rattle.properties_format.proofs.GroupsInTurn.Lines.{bytes-unended, lines-some, unended-some}
+use Rattle.properties_format.proofs.GroupsInTurn.Merged.{AreInTurn, in-turn, turn-first}
 use Rattle.properties_format.proofs.Plan.Slots.{lf-ignored}
 use Rattle.properties_text.specs.Encoding.{encoding_of}
 use Rattle.properties_items.specs.BorrowedItems.{outcome_pair}

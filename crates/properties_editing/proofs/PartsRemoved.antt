@@ -10,8 +10,8 @@ use Rattle.properties_format.specs.Edited.{final_group, is_empty_line, is_left_o
 use Rattle.properties_format.specs.Body.{HeldLine, ending_bytes, group_bytes, groups_bytes, last_ending}
 use Rattle.properties_format.specs.Computed.Body.{has_key, unended_bytes}
 use Rattle.properties_format.specs.Plan.{removal}
-use Rattle.properties_format.proofs.InTurn.Lines.{bytes-unended}
-use Rattle.properties_format.proofs.InTurn.Merged.{AreInTurn, after-lf, are_one_ending, one-ending, turn-first, turn-some, after-cr}
+use Rattle.properties_format.proofs.GroupsInTurn.Lines.{bytes-unended}
+use Rattle.properties_format.proofs.GroupsInTurn.Merged.{AreInTurn, after-lf, are_one_ending, one-ending, turn-first, turn-some, after-cr}
 use Rattle.properties_format.proofs.Plan.Slots.{groups_after, last-empty, lf-no_key, no_line, turn-cons, lf-ignored}
 use Rattle.properties_editing.specs.Private.BodyParts.{AreEnded, ArePartsOf, ArePlaced, AreTextsWithin, EndsAlone, IsEnd, IsPartOf, Piece, Said, StandFor, group_said, is_empty_part, no_part, parts_behind, piece_groups, piece_said, pieces_groups, place_if, places_with, said_with, taken_all, taken_out, value_among, value_if, value_said, outcome, IsOthersPart, IsLastWithin, IsOthersText, IsTextWithin, begins_so, cut_text, is_empty_text, last_pair_bytes, pair_bytes_of, span_bytes, part_text_bytes, without_lf, without_lf_first}
 use Rattle.properties_editing.specs.Private.BodyGroups.{closing_of}

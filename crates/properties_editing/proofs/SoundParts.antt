@@ -12,7 +12,7 @@ use Rattle.properties_format.specs.Computed.Body.{has_key}
 use Rattle.properties_format.specs.Computed.Edited.{IsSoundOutcome}
 use Rattle.properties_format.proofs.Body.Decoded.{decoded-nil}
 use Rattle.properties_format.proofs.Edited.Fronts.{outcome-empty}
-use Rattle.properties_format.proofs.InTurn.Merged.{AreInTurn, are_one_ending}
+use Rattle.properties_format.proofs.GroupsInTurn.Merged.{AreInTurn, are_one_ending}
 use Rattle.properties_format.proofs.Plan.Slots.{group_of, no_line}
 use Rattle.properties_format.proofs.Plan.Added.{all_closed, blank, groups_added}
 use Rattle.properties_items.specs.BorrowedItems.{outcome_pair}

@@ -17,8 +17,8 @@ use Rattle.properties_format.specs.Plan.{planned, removal, with_key_removed}
 use Rattle.properties_format.specs.Computed.Body.{held_groups_of, unended_bytes}
 use Rattle.properties_format.proofs.Body.Groups.{groups_bytes-append, held-body, held_groups_of-meets}
 use Rattle.properties_format.proofs.Edited.ByteOrderMarks.{ending-cut, in_force}
-use Rattle.properties_format.proofs.InTurn.Lines.{AreLinesBy, bytes-unended, ending-of}
-use Rattle.properties_format.proofs.InTurn.Merged.{AreInTurn, IsEndedGroup, in-turn}
+use Rattle.properties_format.proofs.GroupsInTurn.Lines.{AreLinesBy, bytes-unended, ending-of}
+use Rattle.properties_format.proofs.GroupsInTurn.Merged.{AreInTurn, IsEndedGroup, in-turn}
 use Rattle.properties_format.proofs.Plan.Slots.{AreSlotsOf, lf-no_key, removal-plan, slots-removed, turn-after, turn-cons}
 use Rattle.properties_format.proofs.Plan.Added.{blank}
 use Rattle.properties_format.proofs.Plan.Last.{first_behind}

@@ -20,8 +20,8 @@ use Rattle.properties_format.specs.Computed.Valued.{between_of, value_front, has
 use Rattle.properties_format.proofs.Body.Groups.{IsLastFit}
 use Rattle.properties_format.proofs.Edited.LogicalLines.{key-outcome}
 use Rattle.properties_format.proofs.Edited.Made.{has_key-true}
-use Rattle.properties_format.proofs.InTurn.Lines.{AreLinesBy, lines-with, texts-with}
-use Rattle.properties_format.proofs.InTurn.Merged.{AreInTurn, IsLastGroup, turn-at}
+use Rattle.properties_format.proofs.GroupsInTurn.Lines.{AreLinesBy, lines-with, texts-with}
+use Rattle.properties_format.proofs.GroupsInTurn.Merged.{AreInTurn, IsLastGroup, turn-at}
 use Rattle.properties_format.proofs.Items.Unique.{outcome_of-only}
 use Rattle.properties_format.proofs.Plan.Slots.{all-after, AreSlotsOf, SayPair, IsFitChange, groups_after, slots-merged}
 use Rattle.properties_format.proofs.Plan.Values.{new_text, new-said, value-fit, value-with}

@@ -18,7 +18,7 @@ pub mod Maps
 pub mod Keys
 pub mod Body
 pub mod Edited
-pub mod InTurn
+pub mod GroupsInTurn
 pub mod Plan
 pub mod Valued
 pub mod Edits
@@ -26,5 +26,5 @@ pub mod Changed
 pub mod Laws
 pub mod EditLaws
 pub mod Undecoded
-pub mod Alike
+pub mod RespeltTexts
 pub mod Converting

@@ -5,7 +5,7 @@ pub mod ScannerSearch
 pub mod Scans
 pub mod HeldLines
 pub mod LineReaders
-pub mod Tested
+pub mod TestedBytes
 pub mod OpenLines
 pub mod LineTexts
 pub mod LogicalLines

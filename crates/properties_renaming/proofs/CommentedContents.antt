@@ -35,7 +35,7 @@ use Rattle.properties_format.proofs.Edited.ByteOrderMarks.{in_force as stays_in_
 use Rattle.properties_format.proofs.Edited.Fronts.{outcome-empty, with_line}
 use Rattle.properties_format.proofs.Edited.LogicalLines.{none-lines}
 use Rattle.properties_format.proofs.Edits.Lines.{OfEach, logical_lines_of}
-use Rattle.properties_format.proofs.InTurn.Merged.{AreInTurn, IsEndedGroup, in-turn}
+use Rattle.properties_format.proofs.GroupsInTurn.Merged.{AreInTurn, IsEndedGroup, in-turn}
 use Rattle.properties_format.proofs.Items.Unique.{items_of-only, outcome_of-meets, outcome_of-only}
 use Rattle.properties_format.proofs.Lines.Plain.{plain-append}
 use Rattle.properties_format.proofs.Plan.Added.{blank}

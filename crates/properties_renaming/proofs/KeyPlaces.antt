@@ -17,7 +17,7 @@ use Rattle.properties_format.proofs.Body.Groups.{IsLastFit, group_bytes-append}
 use Rattle.properties_format.proofs.Cut.Byline.{decoded_line-only, nothing-decoded}
 use Rattle.properties_format.proofs.Encodings.Cuts.{cut-at_ascii}
 use Rattle.properties_format.proofs.Encodings.PieceEnds.{none-right}
-use Rattle.properties_format.proofs.InTurn.Lines.{AreLinesBy}
+use Rattle.properties_format.proofs.GroupsInTurn.Lines.{AreLinesBy}
 use Rattle.properties_format.proofs.Lines.Plain.{plain-right}
 use Rattle.properties_format.proofs.Printing.Characters.{blanks-ascii}
 use Rattle.properties_format.proofs.Split.Blanks.{no_blanks, without_leading_blanks-blanks, without_leading_blanks-meets, without_leading_blanks-only}

@@ -16,8 +16,8 @@ use Rattle.properties_format.specs.Printing.{encoded_text}
 use Rattle.properties_format.proofs.Body.Groups.{held-body, held_groups_of-meets, held_groups_of-only}
 use Rattle.properties_format.proofs.Edited.ByteOrderMarks.{groups-unmarked, in_force as stays_in_force, source-whole}
 use Rattle.properties_format.proofs.Edited.Made.{has_key-false}
-use Rattle.properties_format.proofs.InTurn.Lines.{AreLinesBy, ending-of}
-use Rattle.properties_format.proofs.InTurn.Merged.{AreInTurn, are_one_ending, in-turn, merged, merged-one, merged-two, one-ending, turn-first, turn-some}
+use Rattle.properties_format.proofs.GroupsInTurn.Lines.{AreLinesBy, ending-of}
+use Rattle.properties_format.proofs.GroupsInTurn.Merged.{AreInTurn, are_one_ending, in-turn, merged, merged-one, merged-two, one-ending, turn-first, turn-some}
 use Rattle.properties_format.proofs.Items.Unique.{outcome_of-only}
 use Rattle.properties_format.proofs.Plan.Slots.{lf-no_key, slots-merged, turn-cons}
 use Rattle.properties_editing.specs.Editing.{asked_for}

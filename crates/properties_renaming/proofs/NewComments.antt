@@ -24,8 +24,8 @@ use Rattle.properties_format.specs.Computed.Lines.{ends_in_cr}
 use Rattle.properties_format.proofs.Body.Decoded.{decoded-nil}
 use Rattle.properties_format.proofs.Body.Groups.{groups_bytes-append}
 use Rattle.properties_format.proofs.Edited.Pair.{editable-own}
-use Rattle.properties_format.proofs.InTurn.Lines.{AreLinesBy, bytes-unended}
-use Rattle.properties_format.proofs.InTurn.Merged.{in-turn, turn-at}
+use Rattle.properties_format.proofs.GroupsInTurn.Lines.{AreLinesBy, bytes-unended}
+use Rattle.properties_format.proofs.GroupsInTurn.Merged.{in-turn, turn-at}
 use Rattle.properties_format.proofs.Split.Blanks.{without_leading_blanks-meets}
 use Rattle.properties_format.proofs.Valued.Heads.{ascii-among}
 use Rattle.properties_text.specs.declared.print.Repertoire as code

@@ -26,7 +26,7 @@ use Rattle.properties_format.proofs.Edited.ByteOrderMarks.{ending-cut}
 use Rattle.properties_format.proofs.Encodings.PieceEnds.{no-front, none-right}
 use Rattle.properties_format.proofs.Escapes.Unique.{meaning_of-meets}
 use Rattle.properties_format.proofs.Groups.Open.{is_open-after, is_open-other}
-use Rattle.properties_format.proofs.InTurn.Lines.{AreLinesBy, first-none}
+use Rattle.properties_format.proofs.GroupsInTurn.Lines.{AreLinesBy, first-none}
 use Rattle.properties_format.proofs.Lines.Plain.{plain-append, plain-no_lf, plain-right}
 use Rattle.properties_format.proofs.Printing.Characters.{blanks-ascii, printed_key-encodable}
 use Rattle.properties_format.proofs.ReadBack.Bytes.{AreWritable, key-scalars}

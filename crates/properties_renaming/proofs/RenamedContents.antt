@@ -20,7 +20,7 @@ use Rattle.properties_format.proofs.Changed.Items.{IsSoundLine, sound-source, so
 use Rattle.properties_format.proofs.Edited.ByteOrderMarks.{groups-unmarked, in_force as stays_in_force, ending-cut}
 use Rattle.properties_format.proofs.Edited.LogicalLines.{lines-pair, none-lines}
 use Rattle.properties_format.proofs.Edits.Lines.{OfEach, logical_lines_of}
-use Rattle.properties_format.proofs.InTurn.Merged.{AreInTurn, in-turn}
+use Rattle.properties_format.proofs.GroupsInTurn.Merged.{AreInTurn, in-turn}
 use Rattle.properties_format.proofs.Items.Unique.{items_of-meets, items_of-only, outcome_of-meets, outcome_of-only}
 use Rattle.properties_format.proofs.Plan.Lines.{lines_of, slots-lines}
 use Rattle.properties_format.proofs.Plan.Slots.{AreSlotsOf, lf-no_key, turn-cons}
@@ -34,7 +34,7 @@ use Rattle.properties_editing.specs.declared.source.SourceOptions.{SourceOptions
 use Rattle.properties_renaming.specs.Laws.{HasSoundEntries, IsName, IsRenameRefused, RenamingAgainIsRefused, RenamingBackGivesTheContents, RenamingChangesTheKey, RenamingMovesTheValue, renamed, renamed_map}
 use Rattle.properties_format.proofs.Edited.Made.{has_key-false}
 use Rattle.properties_format.proofs.Encodings.PieceEnds.{no-front}
-use Rattle.properties_format.proofs.InTurn.Lines.{AreLinesBy, bytes-of, bytes-unended}
+use Rattle.properties_format.proofs.GroupsInTurn.Lines.{AreLinesBy, bytes-of, bytes-unended}
 use Rattle.properties_renaming.proofs.NewPairs.{rekeyed-pair, IsNamed, IsNewGroup}
 use Rattle.properties_format.specs.Maps.{IsMap}
 use Rattle.properties_format.specs.Computed.Maps.{first_value}

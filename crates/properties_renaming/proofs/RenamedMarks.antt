@@ -9,8 +9,8 @@ use Rattle.properties_format.specs.Body.{HeldLine, ending_bytes, group_bytes, gr
 use Rattle.properties_format.specs.Edited.{is_editable}
 use Rattle.properties_format.specs.Computed.Split.{ends_key}
 use Rattle.properties_format.proofs.Edited.ByteOrderMarks.{groups-unmarked, in_force as stays_in_force}
-use Rattle.properties_format.proofs.InTurn.Lines.{AreLinesBy}
-use Rattle.properties_format.proofs.InTurn.Merged.{AreInTurn, in-turn}
+use Rattle.properties_format.proofs.GroupsInTurn.Lines.{AreLinesBy}
+use Rattle.properties_format.proofs.GroupsInTurn.Merged.{AreInTurn, in-turn}
 use Rattle.properties_format.proofs.Cut.Byline.{nothing-decoded}
 use Rattle.properties_format.proofs.Encodings.PieceEnds.{no-front}
 use Rattle.properties_format.proofs.ReadBack.Unmarked.{byte_order_mark-cut}

@@ -22,7 +22,7 @@ use Rattle.properties_format.specs.Escapes.{letter_u, escaped_character, Spellin
 use Rattle.properties_format.proofs.Printing.Characters.{AreAscii, encoded_text-append, encoded_text-ascii, unicode_escape-ascii}
 use Rattle.properties_format.specs.Converting.{TextUnit, spelt, unit_text, IsUnit, is_unicode, respelt, converted_unit, first_escaped, at_front, IsConverted}
 use Rattle.properties_format.specs.Computed.Converting.{units_of, converted_of}
-use Rattle.properties_format.proofs.Alike.Parts.{escaped-beyond}
+use Rattle.properties_format.proofs.RespeltTexts.Parts.{escaped-beyond}
 use Rattle.properties_format.proofs.Converting.Units.{below-ascii, unicode-ascii, whole-past, units-writable}
 use Rattle.properties_format.proofs.Converting.Laws.{text-scalars}
 use Rattle.properties_format.proofs.Converting.Again.{below-stays, respelt-itself, respelt-unicode, respelt-held, respelt-kept, respelt-lacked}
@@ -40,8 +40,8 @@ use Rattle.properties_text.specs.declared.encoding.line_encoding.ReadCharacter.{
 use Rattle.properties_text.specs.declared.print.Repertoire.{Repertoire}
 use Rattle.properties_text.specs.declared.print.Repertoire.TheVariants as repertoire
 use Rattle.properties_format.proofs.Undecoded.{decodes}
-use Rattle.properties_text.proofs.Spelt.First.{ascii-first, ascii-back}
-use Rattle.properties_text.proofs.Spelt.Escapes.{after-u}
+use Rattle.properties_text.proofs.SpeltTexts.First.{ascii-first, ascii-back}
+use Rattle.properties_text.proofs.SpeltTexts.Escapes.{after-u}
 
 -- ---- bytes and characters
 

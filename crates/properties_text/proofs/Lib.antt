@@ -9,7 +9,7 @@ pub mod Blocks
 pub mod KeyFronts
 pub mod BlankFronts
 pub mod Latin1
-pub mod Spelt
+pub mod SpeltTexts
 pub mod PrintedTexts
 pub mod UnitBlocks
 pub mod Converted

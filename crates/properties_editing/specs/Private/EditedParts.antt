@@ -5,7 +5,7 @@ use Rattle.properties_format.specs.Encoding.{Encoding, Repertoire}
 use Rattle.properties_format.specs.Body.{HeldLine, groups_bytes}
 use Rattle.properties_format.specs.Computed.Body.{held_groups_of}
 use Rattle.properties_format.specs.Computed.Valued.{last_between}
-use Rattle.properties_format.proofs.InTurn.Merged.{AreInTurn}
+use Rattle.properties_format.proofs.GroupsInTurn.Merged.{AreInTurn}
 use Rattle.properties_text.specs.Encoding.{encoding_of}
 use Rattle.properties_format.specs.Edits.{Edit, IsEdited, put, remove, set_value}
 use Rattle.properties_editing.specs.Private.BodyParts.{StandFor, value_among}

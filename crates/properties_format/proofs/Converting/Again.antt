@@ -10,8 +10,8 @@ use Rattle.properties_format.proofs.Printing.Characters.{may_be_unescaped-ascii}
 use Rattle.properties_format.specs.Escapes.{letter_u, Spelling, itself, escaped, unicode, surrogates, last, spelling_text, spelling_character, IsSpelling, NoSpelling, four_text}
 use Rattle.properties_format.proofs.Escapes.Laws.{IsWhole, IsWhole-spelling}
 use Rattle.properties_format.specs.Converting.{TextUnit, spelt, stray, unit_text, units_before, IsUnit, AreUnits, is_unicode, respelt, converted_unit, converted_units, first_escaped, at_front}
-use Rattle.properties_format.proofs.Alike.Parts.{Part, text, AreParts}
-use Rattle.properties_format.proofs.Alike.Meant.{one, two, at-first}
+use Rattle.properties_format.proofs.RespeltTexts.Parts.{Part, text, AreParts}
+use Rattle.properties_format.proofs.RespeltTexts.Meant.{one, two, at-first}
 use Rattle.properties_format.proofs.Converting.Units.{both, escape-respelt, not-below, whole-past, past-scalar, none-left, backslash-front, all-unmarked}
 use Rattle.properties_format.proofs.ReadBack.Texts.{rest-scalars}
 use Rattle.properties_format.proofs.ReadBack.Unmarked.{front-unmarked}

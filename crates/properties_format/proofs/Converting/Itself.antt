@@ -21,7 +21,7 @@ use Rattle.properties_format.proofs.Undecoded.{decodes}
 use Rattle.properties_format.specs.Converting.{TextUnit, spelt, stray, unit_text, units_before, IsUnit, AreUnits, respelt, converted_units, at_front, IsConverted, KeptIsItself, AsciiIsItself}
 use Rattle.properties_format.specs.Computed.Converting.{units_of, converted_of}
 use Rattle.properties_format.proofs.Escapes.Digits.{digits}
-use Rattle.properties_format.proofs.Alike.Parts.{escaped-beyond}
+use Rattle.properties_format.proofs.RespeltTexts.Parts.{escaped-beyond}
 use Rattle.properties_format.proofs.Converting.Again.{below-stays, respelt-unicode, respelt-kept}
 use Rattle.properties_format.proofs.Converting.One.{units-found}
 use Rattle.properties_format.proofs.Converting.Chunks.{units_of-meets, converted_of-unit, converted_of-is}

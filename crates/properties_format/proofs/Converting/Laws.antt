@@ -16,12 +16,12 @@ use Rattle.properties_format.proofs.Encodings.Characters.{pieces_of-scalar}
 use Rattle.properties_format.proofs.Items.Unique.{items_of-only}
 use Rattle.properties_format.proofs.ReadBack.Bytes.{text-decoded}
 use Rattle.properties_format.specs.Converting.{units_before, converted_units, at_front, IsConverted, AreSameEntries, ConvertingKeepsItems, ConvertingKeepsLogicalLines, endings, ConvertingKeepsEndings}
-use Rattle.properties_format.proofs.Alike.Parts.{Part, text, AreParts}
-use Rattle.properties_format.proofs.Alike.Lined.{PartEnded, ended_on, lines_on, lines-alike}
+use Rattle.properties_format.proofs.RespeltTexts.Parts.{Part, text, AreParts}
+use Rattle.properties_format.proofs.RespeltTexts.Lined.{PartEnded, ended_on, lines_on, lines-alike}
 use Rattle.properties_format.proofs.Lines.Only.{lines_of-only}
 use Rattle.properties_format.proofs.Groups.Input.{groups_in-only}
-use Rattle.properties_format.proofs.Alike.Entries.{same-items}
-use Rattle.properties_format.proofs.Alike.Items.{groups_of-alike, items-alike}
+use Rattle.properties_format.proofs.RespeltTexts.Entries.{same-items}
+use Rattle.properties_format.proofs.RespeltTexts.Items.{groups_of-alike, items-alike}
 use Rattle.properties_format.proofs.Converting.Units.{all-both, all-writable, all-unmarked}
 
 -- The result is decoded to what was written.

@@ -17,7 +17,7 @@ use Rattle.properties_format.proofs.ReadBack.Spellings.{unicode-printed}
 use Rattle.properties_format.proofs.ReadBack.Texts.{safe-whole, rest-scalars}
 use Rattle.properties_format.proofs.ReadBack.Unmarked.{front-unmarked}
 use Rattle.properties_format.specs.Converting.{TextUnit, spelt, stray, unit_text, units_before, AreUnits, is_unicode, respelt, converted_units, first_escaped, at_front}
-use Rattle.properties_format.proofs.Alike.Parts.{Part, same, after_backslash, past, lone, text, IsPast, AreParts, escaped-beyond}
+use Rattle.properties_format.proofs.RespeltTexts.Parts.{Part, same, after_backslash, past, lone, text, IsPast, AreParts, escaped-beyond}
 
 -- ---- spellings of non-ASCII characters
 

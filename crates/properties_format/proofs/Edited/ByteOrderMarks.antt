@@ -12,8 +12,8 @@ use Rattle.properties_format.proofs.Printing.Characters.{encoded-ascii, encoded_
 use Rattle.properties_format.proofs.ReadBack.Law.{default_settings-good}
 use Rattle.properties_format.proofs.ReadBack.Unmarked.{byte_order_mark-cut, pair-unmarked}
 use Rattle.properties_format.proofs.Body.Groups.{groups_bytes-append, held-body}
-use Rattle.properties_format.proofs.InTurn.Lines.{bytes-of, ending-of}
-use Rattle.properties_format.proofs.InTurn.Merged.{AreInTurn, IsEndedGroup, in-turn}
+use Rattle.properties_format.proofs.GroupsInTurn.Lines.{bytes-of, ending-of}
+use Rattle.properties_format.proofs.GroupsInTurn.Merged.{AreInTurn, IsEndedGroup, in-turn}
 
 -- ---- the byte order mark of a source
 

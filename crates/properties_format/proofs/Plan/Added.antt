@@ -19,8 +19,8 @@ use Rattle.properties_format.proofs.Body.Groups.{as_lines-append, group_bytes-ap
 use Rattle.properties_format.proofs.Edited.ByteOrderMarks.{empty-last}
 use Rattle.properties_format.proofs.Edited.LogicalLines.{fit-closed, fit-open, closed-by_empty, ends-right}
 use Rattle.properties_format.proofs.Edited.Pair.{pair_line, pair-decoded, pair-outcome, pair-plain, pair-whole}
-use Rattle.properties_format.proofs.InTurn.Lines.{AreLinesBy, first-none, lines-some, bytes-unended, ending-of, with_ending, texts-with, bytes-with, lines-with}
-use Rattle.properties_format.proofs.InTurn.Merged.{AreInTurn, IsEndedGroup, IsLastGroup}
+use Rattle.properties_format.proofs.GroupsInTurn.Lines.{AreLinesBy, first-none, lines-some, bytes-unended, ending-of, with_ending, texts-with, bytes-with, lines-with}
+use Rattle.properties_format.proofs.GroupsInTurn.Merged.{AreInTurn, IsEndedGroup, IsLastGroup}
 use Rattle.properties_format.proofs.Plan.Slots.{IsGroupText, SayPair, AreSlotsOf, group_of, group-bytes, text-ended, no_line, turn-cons, last-empty, own-slots, slots-final, slots-none, slots-last, groups_after}
 
 -- ---- a printed pair is a group

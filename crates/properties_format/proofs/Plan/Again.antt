@@ -15,7 +15,7 @@ use Rattle.properties_format.specs.Computed.Body.{held_groups_of}
 use Rattle.properties_format.specs.Computed.Valued.{has_value, last_between, separator_by}
 use Rattle.properties_format.proofs.Edited.ByteOrderMarks.{source-whole}
 use Rattle.properties_format.proofs.Edited.LogicalLines.{ends-right}
-use Rattle.properties_format.proofs.InTurn.Merged.{turn-at}
+use Rattle.properties_format.proofs.GroupsInTurn.Merged.{turn-at}
 use Rattle.properties_format.proofs.Valued.Made.{new_separator-meets}
 use Rattle.properties_format.proofs.Valued.Separators.{added_bytes, new_separator-fit}
 use Rattle.properties_format.proofs.Plan.Slots.{again-at, SayPair, AreSlotsOf, own-slots, group_of, groups_after, no_line, Becomes, no_line-other, become-after, last-stays}

@@ -7,8 +7,8 @@ use Rattle.properties_format.specs.Body.{HeldLine, HasKey, NoneHasKey, ending_by
 use Rattle.properties_format.specs.Plan.{Change, stay, go, become, planned, at_last, all_stay, this_or_later}
 use Rattle.properties_format.specs.Computed.Body.{has_key}
 use Rattle.properties_format.proofs.Edited.Made.{has_key-true, has_key-false, HasKey-test, no_key-test}
-use Rattle.properties_format.proofs.InTurn.Lines.{lines-some}
-use Rattle.properties_format.proofs.InTurn.Merged.{AreInTurn}
+use Rattle.properties_format.proofs.GroupsInTurn.Lines.{lines-some}
+use Rattle.properties_format.proofs.GroupsInTurn.Merged.{AreInTurn}
 
 -- whether a group behind these is the first of its body
 abbrev pub first_behind : Bool → List (List HeldLine) → Bool

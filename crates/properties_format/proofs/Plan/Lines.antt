@@ -18,8 +18,8 @@ use Rattle.properties_format.proofs.Body.Groups.{as_lines-append, IsLastFit}
 use Rattle.properties_format.proofs.Edited.Fronts.{with_line, logical_lines, outcome-empty}
 use Rattle.properties_format.proofs.Edited.LogicalLines.{lines-append, lines-pair, none-lines, pair-lines, fit-open, closed-by_empty}
 use Rattle.properties_format.proofs.Edited.Made.{has_key-true, has_key-false}
-use Rattle.properties_format.proofs.InTurn.Lines.{AreLinesBy, texts-with, with_ending}
-use Rattle.properties_format.proofs.InTurn.Merged.{AreInTurn, turn-first, turn-at, merged, are_one_ending, one-ending, after-lf}
+use Rattle.properties_format.proofs.GroupsInTurn.Lines.{AreLinesBy, texts-with, with_ending}
+use Rattle.properties_format.proofs.GroupsInTurn.Merged.{AreInTurn, turn-first, turn-at, merged, are_one_ending, one-ending, after-lf}
 use Rattle.properties_format.proofs.Valued.Made.{new_separator-meets}
 use Rattle.properties_format.proofs.Valued.Separators.{added_bytes, new_separator-fit}
 use Rattle.properties_format.proofs.Plan.Slots.{AreSlotsOf, SayPair, IsPairAfter, said-group, group_of, groups_after, no_line, slots-merged, lf-ignored, become-after, stay-after}

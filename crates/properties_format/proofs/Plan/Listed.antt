@@ -14,7 +14,7 @@ use Rattle.properties_format.proofs.Body.Decoded.{decoded-nil}
 use Rattle.properties_format.proofs.Edited.ByteOrderMarks.{in_force, key_set-in_force, source-whole}
 use Rattle.properties_format.proofs.Edited.LogicalLines.{ends-right}
 use Rattle.properties_format.proofs.Edits.Results.{edit_made, edit-is_made, edit-encoding, edit-editable}
-use Rattle.properties_format.proofs.InTurn.Merged.{IsEndedGroup}
+use Rattle.properties_format.proofs.GroupsInTurn.Merged.{IsEndedGroup}
 use Rattle.properties_format.proofs.Plan.Made.{key_set-meets, value_set-meets}
 use Rattle.properties_format.proofs.Plan.Slots.{AreSlotsOf, groups_after, slots-removed, turn-cons}
 use Rattle.properties_format.proofs.Plan.Added.{blank, groups_put, slots-put}

@@ -10,7 +10,7 @@ use Rattle.properties_format.specs.Computed.Valued.{has_value, value_front, betw
 use Rattle.properties_format.specs.Plan.{Change, planned, planned_or, removal, at_last, put_change, put_added, put_in, value_change, value_added, value_in, with_key_set, with_value_set, with_key_removed}
 use Rattle.properties_format.proofs.Body.Groups.{groups_bytes-append, held_groups_of-meets, held_groups_of-only}
 use Rattle.properties_format.proofs.Edited.Made.{has_key-true, has_key-false, HasKey-test, no_key-test}
-use Rattle.properties_format.proofs.InTurn.Merged.{AreInTurn, in-turn, turn-at}
+use Rattle.properties_format.proofs.GroupsInTurn.Merged.{AreInTurn, in-turn, turn-at}
 use Rattle.properties_format.proofs.Valued.Fronts.{AreDecoded, front_of-meets, front_of-only}
 use Rattle.properties_format.proofs.Valued.Made.{HasPair-test, has_value-true, new_separator-meets, new_separator-only, raw-pair}
 use Rattle.properties_format.proofs.Plan.Slots.{last-stays}

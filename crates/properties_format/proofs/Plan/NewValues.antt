@@ -14,8 +14,8 @@ use Rattle.properties_format.specs.Computed.Body.{held_groups_of, held_lines_of,
 use Rattle.properties_format.specs.Computed.Valued.{last_between, separator_by, has_value}
 use Rattle.properties_format.proofs.Lines.Plain.{plain-no_cr, ends_in_cr-append}
 use Rattle.properties_format.proofs.Printing.Characters.{encoded_text-append}
-use Rattle.properties_format.proofs.InTurn.Lines.{AreLinesBy, unended-some}
-use Rattle.properties_format.proofs.InTurn.Merged.{AreInTurn}
+use Rattle.properties_format.proofs.GroupsInTurn.Lines.{AreLinesBy, unended-some}
+use Rattle.properties_format.proofs.GroupsInTurn.Merged.{AreInTurn}
 use Rattle.properties_format.proofs.Valued.Fronts.{front_of-only}
 use Rattle.properties_format.proofs.Valued.Made.{new_separator-meets, one-value}
 use Rattle.properties_format.proofs.Valued.Separators.{IsFitSeparator, IsAddedPair, added_bytes, added_line, added-pair, added-text, new_separator-fit}

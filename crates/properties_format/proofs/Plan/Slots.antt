@@ -21,8 +21,8 @@ use Rattle.properties_format.proofs.Body.Groups.{IsLastFit, groups_bytes-append,
 use Rattle.properties_format.proofs.Cut.Meets.{cut_of-meets}
 use Rattle.properties_format.proofs.Edited.Fronts.{outcome-empty}
 use Rattle.properties_format.proofs.Edited.Made.{has_key-false, HasKey-test}
-use Rattle.properties_format.proofs.InTurn.Lines.{AreLinesBy, bytes-unended, ending-of, with_ending, texts-with, unended-some, unended-with, ending-with, bytes-with, lines-with}
-use Rattle.properties_format.proofs.InTurn.Merged.{AreInTurn, in-turn, turn-first, turn-at, IsEndedGroup, IsLastGroup, merged, merged-final, merged-groups, are_one_ending, IsOneEnding, one-ending, one-bytes, after-lf, last-lines}
+use Rattle.properties_format.proofs.GroupsInTurn.Lines.{AreLinesBy, bytes-unended, ending-of, with_ending, texts-with, unended-some, unended-with, ending-with, bytes-with, lines-with}
+use Rattle.properties_format.proofs.GroupsInTurn.Merged.{AreInTurn, in-turn, turn-first, turn-at, IsEndedGroup, IsLastGroup, merged, merged-final, merged-groups, are_one_ending, IsOneEnding, one-ending, one-bytes, after-lf, last-lines}
 use Rattle.properties_format.proofs.Plan.Last.{first_behind, IsLastPlan, at_last-meets, at_last-some, planned-at}
 
 -- ---- the groups after a plan

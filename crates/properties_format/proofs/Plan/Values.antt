@@ -16,7 +16,7 @@ use Rattle.properties_format.specs.Computed.Valued.{value_front, between_of, has
 use Rattle.properties_format.proofs.Lines.Plain.{plain-no_cr, plain-no_lf, ends_in_cr-append}
 use Rattle.properties_format.proofs.Body.Groups.{IsLastFit, group_bytes-append}
 use Rattle.properties_format.proofs.Edited.Made.{has_key-true}
-use Rattle.properties_format.proofs.InTurn.Lines.{AreLinesBy, first-none, lines-last, with_ending}
+use Rattle.properties_format.proofs.GroupsInTurn.Lines.{AreLinesBy, first-none, lines-last, with_ending}
 use Rattle.properties_format.proofs.Valued.Fronts.{AreDecoded, front_of-meets, front_of-only}
 use Rattle.properties_format.proofs.Valued.Made.{has_value-true, one-value, raw-pair}
 use Rattle.properties_format.proofs.Valued.Pair.{after-bytes, new_line, new_bytes, IsChangedPair, changed-pair}

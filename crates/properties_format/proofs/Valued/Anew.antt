@@ -29,8 +29,8 @@ use Rattle.properties_format.proofs.Edited.Pair.{alone-whole}
 use Rattle.properties_format.proofs.Changed.Maps.{other-test}
 use Rattle.properties_format.proofs.Valued.Revalued.{text-own}
 use Rattle.properties_format.proofs.Valued.Separators.{IsFitSeparator, added_bytes, text-some}
-use Rattle.properties_format.proofs.InTurn.Lines.{texts-with}
-use Rattle.properties_format.proofs.InTurn.Merged.{merged, are_one_ending, one-ending}
+use Rattle.properties_format.proofs.GroupsInTurn.Lines.{texts-with}
+use Rattle.properties_format.proofs.GroupsInTurn.Merged.{merged, are_one_ending, one-ending}
 use Rattle.properties_format.proofs.Plan.Made.{value_set-is_planned}
 use Rattle.properties_format.proofs.Plan.Slots.{AreSlotsOf, group_of, group-bytes, group-unended, text-ended, no_line, last-empty, turn-cons, said-group, slots-merged, becomes-bytes, no_line-other}
 use Rattle.properties_format.proofs.Plan.Last.{at_last-some, first_behind}

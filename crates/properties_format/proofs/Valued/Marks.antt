@@ -11,7 +11,7 @@ use Rattle.properties_format.proofs.Cut.Byline.{decoded_line-only}
 use Rattle.properties_format.proofs.Printing.Characters.{encoded-ascii}
 use Rattle.properties_format.proofs.ReadBack.Unmarked.{pair-unmarked}
 use Rattle.properties_format.proofs.Body.Groups.{group_bytes-append}
-use Rattle.properties_format.proofs.InTurn.Merged.{AreInTurn, in-turn}
+use Rattle.properties_format.proofs.GroupsInTurn.Merged.{AreInTurn, in-turn}
 use Rattle.properties_format.proofs.Edited.ByteOrderMarks.{in_force, ending-cut, changed-unmarked, added-unmarked, groups-unmarked}
 use Rattle.properties_format.proofs.Valued.Heads.{ascii-end}
 use Rattle.properties_format.proofs.Valued.Revalued.{front-ends}

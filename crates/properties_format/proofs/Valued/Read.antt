@@ -11,7 +11,7 @@ use Rattle.properties_format.specs.Computed.Body.{unended_bytes}
 use Rattle.properties_format.proofs.Body.Groups.{held-body, groups_bytes-append}
 use Rattle.properties_format.proofs.Edited.ByteOrderMarks.{source-whole}
 use Rattle.properties_format.proofs.Changed.Occur.{all-kept, occur-after, occur-alone, others-kept}
-use Rattle.properties_format.proofs.InTurn.Lines.{bytes-unended}
+use Rattle.properties_format.proofs.GroupsInTurn.Lines.{bytes-unended}
 use Rattle.properties_format.proofs.Valued.Lined.{last_ending-append}
 use Rattle.properties_format.proofs.Valued.Made.{group-decoded}
 use Rattle.properties_format.proofs.Valued.Fronts.{front_of-meets}

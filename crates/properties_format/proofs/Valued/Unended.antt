@@ -10,7 +10,7 @@ use Rattle.properties_format.specs.Body.{HeldLine, as_lines, ending_bytes, group
 use Rattle.properties_format.specs.Computed.Body.{unended_bytes}
 use Rattle.properties_format.specs.Computed.Valued.{added_by, before_value, between_in, front_in, value_front, between_of, is_pair_to, has_value}
 use Rattle.properties_format.specs.Computed.Items.{outcome_of}
-use Rattle.properties_format.proofs.InTurn.Lines.{texts-with, with_ending}
+use Rattle.properties_format.proofs.GroupsInTurn.Lines.{texts-with, with_ending}
 use Rattle.properties_format.proofs.Valued.Fronts.{joined_by, joined-by, pair-unmarked, front-here, front-later}
 use Rattle.properties_format.proofs.Valued.Parts.{pair-line, before_value-pair}
 

@@ -15,7 +15,7 @@ use Rattle.properties_text.specs.declared.escape.UnescapeError.TheVariants as er
 use Rattle.properties_text.specs.declared.print.Repertoire.{Repertoire}
 use Rattle.properties_text.proofs.Printing.Characters.{first_escaped_more}
 use Rattle.properties_text.proofs.PrintedTexts.Runs.{read-meaning, empty-means, front-kept, fewer-kept}
-use Rattle.properties_text.proofs.Spelt.Escapes.{no-text}
+use Rattle.properties_text.proofs.SpeltTexts.Escapes.{no-text}
 use Rattle.properties_text.specs.Escaping.{IsReadBy}
 
 -- ---- what was put

@@ -13,7 +13,7 @@ use Rattle.properties_text.specs.declared.print.Pair.{Pair}
 use Rattle.properties_text.specs.declared.print.part.Part.{Part}
 use Rattle.properties_text.specs.declared.print.Repertoire.{Repertoire}
 use Rattle.properties_text.proofs.PrintedTexts.Runs.{empty-means}
-use Rattle.properties_text.proofs.Spelt.Escapes.{no-text}
+use Rattle.properties_text.proofs.SpeltTexts.Escapes.{no-text}
 
 -- ---- what is appended
 

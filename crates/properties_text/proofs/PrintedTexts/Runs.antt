@@ -27,8 +27,8 @@ use Rattle.properties_text.proofs.Printing.Vectors.{spelt}
 use Rattle.properties_text.specs.declared.print.Repertoire.{Repertoire}
 use Rattle.properties_text.specs.declared.print.runs.Put.{Put}
 use Rattle.properties_text.proofs.Texts.Resolving.{text_in_front-append}
-use Rattle.properties_text.proofs.Spelt.First.{ascii-back}
-use Rattle.properties_text.proofs.Spelt.Escapes.{spells-meaning}
+use Rattle.properties_text.proofs.SpeltTexts.First.{ascii-back}
+use Rattle.properties_text.proofs.SpeltTexts.Escapes.{spells-meaning}
 use Rattle.properties_text.proofs.Printing.Bytes.{printed_bytes-append}
 use Rattle.properties_text.proofs.PrintedTexts.Steps.{printed-one, rest-well, past-well, starts-well, run-of, not-inside}
 

@@ -29,7 +29,7 @@ use Rattle.properties_text.specs.declared.print.Repertoire.TheVariants as repert
 use Rattle.properties_text.proofs.Texts.Characters.{AreWide, AreInside, one, wide, encoded as bytes-of, character_and, wide-no_backslash}
 use Rattle.properties_text.proofs.Texts.Resolving.{text_in_front-append}
 use Rattle.properties_text.proofs.Printing.Bytes.{ascii-printed, byte-printed, escaped-printed, past-special, past-letter, past-control, past-byte}
-use Rattle.properties_text.proofs.Spelt.First.{ascii-first}
+use Rattle.properties_text.proofs.SpeltTexts.First.{ascii-first}
 
 -- ---- a character
 

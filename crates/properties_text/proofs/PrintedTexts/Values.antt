@@ -23,7 +23,7 @@ use Rattle.properties_text.specs.declared.escape.UnescapeError.TheVariants as er
 use Rattle.properties_text.specs.declared.print.Repertoire.{Repertoire}
 use Rattle.properties_text.proofs.Printing.Values.{stops, one-before, run-before, run-last, first-plain, after-first, ascii-run, run-no_backslash, clear-before, clear-all}
 use Rattle.properties_text.proofs.PrintedTexts.Runs.{read-meaning, empty-means}
-use Rattle.properties_text.proofs.Spelt.Escapes.{no-text}
+use Rattle.properties_text.proofs.SpeltTexts.Escapes.{no-text}
 use Rattle.properties_text.proofs.Texts.Characters.{is_empty-chars}
 use Rattle.properties_text.proofs.Texts.Resolving.{text_in_front-append}
 

@@ -21,7 +21,7 @@ use Rattle.properties_text.specs.Printing.{in_format, inside_bytes, is_first_esc
 use Rattle.properties_text.specs.Escaping.{text_in, IsWell}
 use Rattle.properties_text.specs.declared.encoding.line_encoding.LineEncoding.{LineEncoding}
 use Rattle.properties_text.proofs.Printing.Bytes.{ascii-printed}
-use Rattle.properties_text.proofs.Spelt.First.{ascii-first}
+use Rattle.properties_text.proofs.SpeltTexts.First.{ascii-first}
 use Rattle.properties_format.proofs.Valued.Fronts.{right-some}
 
 -- A text without bytes has no characters.

@@ -7,7 +7,7 @@ use Rattle.properties_text.specs.Encoding.{encoding_of}
 use Rattle.java_properties.specs.Maps.{characters}
 use Rattle.properties_changing.specs.Private.Collected.{first_without}
 use Rattle.properties_tables.specs.Values.{value_texts}
-use Rattle.properties_changing.proofs.LookedUp.{absent-found, as-many, lost, of-none}
+use Rattle.properties_changing.proofs.SoughtKeys.{absent-found, as-many, lost, of-none}
 use Rattle.properties_changing.proofs.change.first_absent.Goals as goal
 
 pub first_without_value-requires : goal.first_without_value-requires

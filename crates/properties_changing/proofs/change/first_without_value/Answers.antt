@@ -5,7 +5,7 @@ use Rattle.std.specs.Str.{chars}
 use Rattle.std.specs.declared.string.String.{String}
 use Rattle.std.proofs.lemmas.List.{get_or-map, length-map}
 use Rattle.java_properties.specs.Maps.{characters}
-use Rattle.properties_changing.proofs.LookedUp.{without-more, without-one}
+use Rattle.properties_changing.proofs.SoughtKeys.{without-more, without-one}
 use Rattle.properties_changing.proofs.change.first_without_value.Goals as goal
 
 no-text : {Z : Type 0} (value : Option (String Z)) (none : Bool) → is_some value ≡ not none → none ≡ true → option_map characters value ≡ None

@@ -9,7 +9,7 @@ use Rattle.java_properties.specs.Maps.{characters}
 use Rattle.properties_changing.specs.Private.Collected.{with_values}
 use Rattle.properties_tables.specs.Values.{value_texts, HaveValues}
 use Rattle.properties_changing.specs.Change.{edited_key, AreKnown}
-use Rattle.properties_changing.proofs.LookedUp.{as-many, refused}
+use Rattle.properties_changing.proofs.SoughtKeys.{as-many, refused}
 use Rattle.properties_changing.proofs.KnownEdits.{known-are}
 use Rattle.properties_changing.proofs.change.known_edits.Goals as goal
 

@@ -7,7 +7,7 @@ use Rattle.properties_format.specs.Encoding.{Repertoire}
 use Rattle.properties_format.specs.Printing.{encoded_text}
 use Rattle.properties_format.specs.Computed.Valued.{between_in}
 use Rattle.properties_editing.specs.Views.{viewed_line}
-use Rattle.properties_format.proofs.InTurn.Merged.{in-turn, turn-at}
+use Rattle.properties_format.proofs.GroupsInTurn.Merged.{in-turn, turn-at}
 use Rattle.properties_renaming.specs.Renaming.{key_text}
 use Rattle.properties_renaming.specs.Private.Renaming.{later, past_joins}
 use Rattle.properties_renaming.proofs.KeyPlaces.{placed}

@@ -3,7 +3,7 @@ use Rattle.std.proofs.lemmas.List.{take_rest}
 use Rattle.std.proofs.lemmas.Result.{err_from_is_err_and}
 use Rattle.properties_text.specs.Escaping.{malformed_in}
 use Rattle.properties_text.proofs.Texts.Resolving.{resolved_end, resolved_broken}
-use Rattle.properties_text.proofs.Spelt.Searches.{split-in, plain-in, one-read}
+use Rattle.properties_text.proofs.SpeltTexts.Searches.{split-in, plain-in, one-read}
 use Rattle.properties_text.proofs.escape.check_escapes.Goals as goal
 
 pub read_escape-requires-clause-well : goal.read_escape-requires-clause-well

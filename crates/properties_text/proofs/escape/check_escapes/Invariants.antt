@@ -1,5 +1,5 @@
 use Rattle.std.proofs.Common.{length}
-use Rattle.properties_text.proofs.Spelt.Searches.{IsReadTo}
+use Rattle.properties_text.proofs.SpeltTexts.Searches.{IsReadTo}
 use Rattle.properties_text.proofs.escape.check_escapes.Given as goal
 
 abbrev pub invariant-loop-at : goal.invariant-loop-at

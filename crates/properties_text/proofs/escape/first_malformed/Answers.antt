@@ -1,5 +1,5 @@
 use Rattle.std.proofs.lemmas.List.{take_rest}
-use Rattle.properties_text.proofs.Spelt.FirstMalformed.{spelt-to, spelt-more, spelt-broken, spelt-all}
+use Rattle.properties_text.proofs.SpeltTexts.FirstMalformed.{spelt-to, spelt-more, spelt-broken, spelt-all}
 use Rattle.properties_text.proofs.escape.first_malformed.Goals as goal
 
 pub read_escape-requires-clause-well : goal.read_escape-requires-clause-well

@@ -1,5 +1,5 @@
 use Rattle.std.proofs.Common.{length, ◌-◌}
-use Rattle.properties_text.proofs.Spelt.FirstMalformed.{HasSpelt}
+use Rattle.properties_text.proofs.SpeltTexts.FirstMalformed.{HasSpelt}
 use Rattle.properties_text.proofs.escape.first_malformed.Given as goal
 
 abbrev pub invariant-loop-next : goal.invariant-loop-next

@@ -8,7 +8,7 @@ use Rattle.properties_format.proofs.Escapes.Unique.{text_in_front-breaks}
 use Rattle.properties_text.specs.Escaping.{malformed_in}
 use Rattle.properties_text.specs.declared.encoding.line_encoding.LineEncoding.TheVariants.{Utf8}
 use Rattle.properties_text.proofs.Texts.Units.{units-more}
-use Rattle.properties_text.proofs.Spelt.Escapes.{spells-meaning}
+use Rattle.properties_text.proofs.SpeltTexts.Escapes.{spells-meaning}
 use Rattle.properties_text.proofs.escape.put_escapes.Goals as goal
 
 pub loop-run-init : goal.loop-run-init

@@ -3,7 +3,7 @@ use Rattle.std.proofs.lemmas.Bool.{leb-false}
 use Rattle.properties_lines.specs.LineReader.{LineReading}
 use Rattle.properties_lines.specs.LogicalLine.{TellsLine}
 use Rattle.properties_lines.specs.declared.scanner.RawLine.{RawLine}
-use Rattle.properties_lines.proofs.Tested.{ascii-line, some-byte, known-text}
+use Rattle.properties_lines.proofs.TestedBytes.{ascii-line, some-byte, known-text}
 use Rattle.properties_lines.proofs.reader.LineReader.is_well_formed.Goals as goal
 
 pub returns-then-is_ascii-clause-tells : goal.returns-then-is_ascii-clause-tells

@@ -8,7 +8,7 @@ use Rattle.properties_lines.specs.declared.error.LineError.TheVariants as why
 use Rattle.properties_lines.specs.declared.scanner.Scanner.{Scanner}
 use Rattle.properties_lines.proofs.LineReaders.{reading_of, fits-left, fits-filled, done-left, passed-left, line-left, fails}
 use Rattle.properties_lines.proofs.ScannerFront.{release}
-use Rattle.properties_lines.proofs.Tested.{tested-left, tested-filled, released-empty}
+use Rattle.properties_lines.proofs.TestedBytes.{tested-left, tested-filled, released-empty}
 use Rattle.properties_lines.proofs.reader.LineReader.read.Goals as goal
 
 -- The invariant after bytes were released and others were added.

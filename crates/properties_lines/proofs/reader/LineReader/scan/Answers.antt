@@ -2,7 +2,7 @@ use Rattle.std.proofs.Common.{List, ℕ, subst}
 use Rattle.properties_lines.specs.Scanner.{Scans}
 use Rattle.properties_lines.specs.LineReader.{LineReading, ScansHeld}
 use Rattle.properties_lines.proofs.LineReaders.{reading_of, scans-held}
-use Rattle.properties_lines.proofs.Tested.{fits-scan, done-scan, tested-scan}
+use Rattle.properties_lines.proofs.TestedBytes.{fits-scan, done-scan, tested-scan}
 use Rattle.properties_lines.proofs.reader.LineReader.scan.Goals as goal
 
 pub returns : goal.returns

@@ -6,7 +6,7 @@ use Rattle.properties_lines.specs.Scanner.{is_decided}
 use Rattle.properties_lines.specs.LineReader.{LineReading}
 use Rattle.properties_lines.specs.LogicalLine.{TellsLine}
 use Rattle.properties_lines.specs.declared.scanner.RawLine.{RawLine}
-use Rattle.properties_lines.proofs.Tested.{between-length, tested-now, tells-text}
+use Rattle.properties_lines.proofs.TestedBytes.{between-length, tested-now, tells-text}
 use Rattle.properties_lines.proofs.reader.LineReader.test.Goals as goal
 use Rattle.properties_lines.proofs.reader.LineReader.test.Goals.{After-well_formed_length}
 

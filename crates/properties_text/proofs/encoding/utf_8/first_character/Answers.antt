@@ -1,7 +1,7 @@
 use Rattle.std.proofs.Common.{arith, ◌∙◌, subst, sym}
 use Rattle.std.specs.Char.{IsScalar}
 use Rattle.properties_format.proofs.Encodings.WellFormed.{scalar-from_char}
-use Rattle.properties_text.proofs.Spelt.First.{utf_8-first, the-character, in-range}
+use Rattle.properties_text.proofs.SpeltTexts.First.{utf_8-first, the-character, in-range}
 use Rattle.properties_text.proofs.encoding.utf_8.first_character.Goals as goal
 
 pub slice_bounds-sequence_character-end : goal.slice_bounds-sequence_character-end

@@ -1,6 +1,6 @@
 use Rattle.std.proofs.Common.{inl, arith, ◌∙◌}
 use Rattle.properties_format.proofs.Encodings.WellFormed.{char-from_scalar}
-use Rattle.properties_text.proofs.Spelt.Escapes.{reads-ascii}
+use Rattle.properties_text.proofs.SpeltTexts.Escapes.{reads-ascii}
 use Rattle.properties_text.proofs.escape.read.read_escape.Goals as goal
 
 pub returns-then-text-lt128 : goal.returns-then-text-lt128

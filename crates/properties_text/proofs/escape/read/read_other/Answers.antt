@@ -1,6 +1,6 @@
 use Rattle.std.proofs.Common.{arith}
 use Rattle.std.proofs.lemmas.List.{take_rest}
-use Rattle.properties_text.proofs.Spelt.Escapes.{after-one, reads-end, reads-past}
+use Rattle.properties_text.proofs.SpeltTexts.Escapes.{after-one, reads-end, reads-past}
 use Rattle.properties_text.proofs.escape.read.read_other.Goals as goal
 
 pub returns-then-text-eq1 : goal.returns-then-text-eq1

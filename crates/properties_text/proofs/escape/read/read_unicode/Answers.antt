@@ -1,7 +1,7 @@
 use Rattle.std.proofs.Common.{refl, sym, subst}
 use Rattle.std.proofs.lemmas.List.{take_rest}
 use Rattle.std.specs.Char.{IsScalar}
-use Rattle.properties_text.proofs.Spelt.Escapes.{after-u, reads-none, reads-unit, reads-pair, reads-unpaired}
+use Rattle.properties_text.proofs.SpeltTexts.Escapes.{after-u, reads-none, reads-unit, reads-pair, reads-unpaired}
 use Rattle.properties_text.proofs.escape.read.read_unicode.Goals as goal
 
 pub what_is_wrong-requires : goal.what_is_wrong-requires

@@ -1,6 +1,6 @@
 use Rattle.std.proofs.Common.{◌≡◌, length, ap, sym, ◌∙◌, eqb-true, arith}
 use Rattle.properties_text.specs.Escaping.{text_in}
-use Rattle.properties_text.proofs.Spelt.Escapes.{no-text}
+use Rattle.properties_text.proofs.SpeltTexts.Escapes.{no-text}
 use Rattle.properties_text.proofs.escape.read.what_is_wrong.Goals as goal
 
 pub returns-then-is_empty : goal.returns-then-is_empty

@@ -1,7 +1,7 @@
 use Rattle.std.proofs.lemmas.Result.{err_from_is_err_and}
 use Rattle.properties_text.specs.Encoding.{encoding_of}
 use Rattle.properties_tables.specs.Values.{value_texts}
-use Rattle.properties_changing.proofs.LookedUp.{refused}
+use Rattle.properties_changing.proofs.SoughtKeys.{refused}
 use Rattle.properties_tools.proofs.propedit.get.get.Goals as goal
 
 pub returns-in_err-values : goal.returns-in_err-values

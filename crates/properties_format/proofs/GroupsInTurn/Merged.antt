@@ -15,7 +15,7 @@ use Rattle.properties_format.proofs.Cut.Meets.{cut_of-meets}
 use Rattle.properties_format.proofs.Body.Decoded.{decoded-nil, IsCut-lines}
 use Rattle.properties_format.proofs.Body.Groups.{held_of-meets, held_of-only, IsLastFit, AreFit, fit, fit-some, held_ended, ended-bytes, held-bytes, cut-off, lines-front as front-left, lines-back}
 use Rattle.properties_format.proofs.Valued.Lined.{groups-fit}
-use Rattle.properties_format.proofs.InTurn.Lines.{AreLinesBy, first-none, lines-front, lines-last, bytes-unended, ending-of, with_ending, texts-with, bytes-with, lines-with}
+use Rattle.properties_format.proofs.GroupsInTurn.Lines.{AreLinesBy, first-none, lines-front, lines-last, bytes-unended, ending-of, with_ending, texts-with, bytes-with, lines-with}
 
 -- ---- groups in turn
 

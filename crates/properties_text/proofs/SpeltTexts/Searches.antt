@@ -16,8 +16,8 @@ use Rattle.properties_text.specs.Escaping.{holds_backslash, text_in, IsWell, IsR
 use Rattle.properties_text.specs.declared.encoding.line_encoding.LineEncoding.{LineEncoding}
 use Rattle.properties_text.specs.declared.encoding.line_encoding.LineEncoding.TheVariants.{Windows1252, Utf8}
 use Rattle.properties_text.specs.declared.encoding.line_encoding.ReadCharacter.{ReadCharacter}
-use Rattle.properties_text.proofs.Spelt.First.{own-byte}
-use Rattle.properties_text.proofs.Spelt.Escapes.{spells-meaning}
+use Rattle.properties_text.proofs.SpeltTexts.First.{own-byte}
+use Rattle.properties_text.proofs.SpeltTexts.Escapes.{spells-meaning}
 use Rattle.properties_text.proofs.Texts.Resolving.{found_some, found_none, split_at, plain, IsResolvedTo, resolved_many}
 
 -- ---- windows-1252

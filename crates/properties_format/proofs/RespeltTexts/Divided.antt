@@ -9,8 +9,8 @@ use Rattle.properties_format.specs.Escapes.{letter_u, Spelling, itself, escaped,
 use Rattle.properties_format.proofs.Escapes.Laws.{IsWhole}
 use Rattle.properties_format.proofs.Escapes.Digits.{digits}
 use Rattle.properties_format.proofs.Escapes.Trimmed.{full-last}
-use Rattle.properties_format.proofs.Alike.Parts.{Part, same, after_backslash, past, lone, on, text, IsPart, AreParts, on-whole, on-beyond, escaped-beyond}
-use Rattle.properties_format.proofs.Alike.Joined.{skip, skips, skip-parts}
+use Rattle.properties_format.proofs.RespeltTexts.Parts.{Part, same, after_backslash, past, lone, on, text, IsPart, AreParts, on-whole, on-beyond, escaped-beyond}
+use Rattle.properties_format.proofs.RespeltTexts.Joined.{skip, skips, skip-parts}
 
 -- ---- without trailing blanks
 

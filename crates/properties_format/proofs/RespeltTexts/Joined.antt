@@ -9,7 +9,7 @@ use Rattle.properties_format.specs.Escapes.{letter_u, Spelling, itself, escaped,
 use Rattle.properties_format.proofs.Escapes.Laws.{IsWhole}
 use Rattle.properties_format.proofs.Escapes.Digits.{hexadecimal-plain}
 use Rattle.properties_format.proofs.Groups.Open.{is_open-after, without_last-push}
-use Rattle.properties_format.proofs.Alike.Parts.{Part, same, after_backslash, past, lone, on, text, AreParts, on-whole, on-beyond, text-append}
+use Rattle.properties_format.proofs.RespeltTexts.Parts.{Part, same, after_backslash, past, lone, on, text, AreParts, on-whole, on-beyond, text-append}
 
 -- ---- which lines are open
 

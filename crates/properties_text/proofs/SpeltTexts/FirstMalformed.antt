@@ -18,7 +18,7 @@ use Rattle.properties_text.specs.MalformedEscapes.{IsMalformedAt}
 use Rattle.properties_text.specs.declared.encoding.line_encoding.LineEncoding.{LineEncoding}
 use Rattle.properties_text.specs.declared.encoding.line_encoding.LineEncoding.TheVariants.{Windows1252, Utf8}
 use Rattle.properties_text.specs.declared.encoding.line_encoding.ReadCharacter.{ReadCharacter}
-use Rattle.properties_text.proofs.Spelt.Searches.{no-backslash, split-in, plain-in}
+use Rattle.properties_text.proofs.SpeltTexts.Searches.{no-backslash, split-in, plain-in}
 use Rattle.properties_text.proofs.Texts.Resolving.{found_some, split_at, no_backslash, holds_backslash-text}
 
 -- ---- spellings

@@ -10,10 +10,10 @@ use Rattle.properties_format.specs.Items.{comment, pair, Entry, item, read_fault
 use Rattle.properties_format.specs.Computed.Items.{comment_outcome, pair_outcome, split_outcome, outcome_of, followed, entries_of}
 use Rattle.properties_format.specs.Converting.{AreSameEntries, HoldNoMalformed, AreSameOutcomes, AreSameGroups}
 use Rattle.properties_format.proofs.Items.Unique.{outcome_of-only}
-use Rattle.properties_format.proofs.Alike.Parts.{Part, text, AreParts}
-use Rattle.properties_format.proofs.Alike.Joined.{ends_open, comment_parts, opens, comments, PartLine, line_on, AreLinesOfParts, joined_parts, joins, joined-parts}
-use Rattle.properties_format.proofs.Alike.Divided.{LogicalParts, nothing, a_comment, a_pair, logical_on, AreLogical, split_parts, splits, split-parts}
-use Rattle.properties_format.proofs.Alike.Meant.{MeanAlike, both_mean, both_break, mean-alike}
+use Rattle.properties_format.proofs.RespeltTexts.Parts.{Part, text, AreParts}
+use Rattle.properties_format.proofs.RespeltTexts.Joined.{ends_open, comment_parts, opens, comments, PartLine, line_on, AreLinesOfParts, joined_parts, joins, joined-parts}
+use Rattle.properties_format.proofs.RespeltTexts.Divided.{LogicalParts, nothing, a_comment, a_pair, logical_on, AreLogical, split_parts, splits, split-parts}
+use Rattle.properties_format.proofs.RespeltTexts.Meant.{MeanAlike, both_mean, both_break, mean-alike}
 
 -- ---- one logical line
 

@@ -9,7 +9,7 @@ use Rattle.properties_format.specs.Computed.Escapes.{first_spelling, meaning_of}
 use Rattle.properties_format.proofs.Escapes.First.{spelling_of-none, first_spelling-found, IsFirst, IsFound}
 use Rattle.properties_format.proofs.Escapes.Laws.{IsWhole, IsWhole-spelling}
 use Rattle.properties_format.proofs.Escapes.Unique.{meaning_of-spelling, meaning_of-fault}
-use Rattle.properties_format.proofs.Alike.Parts.{Part, same, after_backslash, past, lone, on, text, IsPast, AreParts, on-whole, on-beyond, escaped-beyond}
+use Rattle.properties_format.proofs.RespeltTexts.Parts.{Part, same, after_backslash, past, lone, on, text, IsPast, AreParts, on-whole, on-beyond, escaped-beyond}
 use Rattle.properties_format.proofs.Escapes.Digits.{digits}
 
 -- What parts mean on the one side, they mean on the other.

@@ -8,8 +8,8 @@ use Rattle.properties_format.specs.Computed.Lines.{is_lone_lf, cr_before, charac
 use Rattle.properties_format.specs.Escapes.{letter_u, Spelling, itself, escaped, unicode, surrogates, last, spelling_text, spelling_character, Four, are_hexadecimal, four_text}
 use Rattle.properties_format.proofs.Escapes.Laws.{IsWhole}
 use Rattle.properties_format.proofs.Lines.Meets.{before-plain}
-use Rattle.properties_format.proofs.Alike.Parts.{Part, same, after_backslash, past, lone, on, part_text, text, IsPart, AreParts, on-whole, on-beyond, escaped-beyond}
-use Rattle.properties_format.proofs.Alike.Joined.{PartLine, line_on, AreLinesOfParts}
+use Rattle.properties_format.proofs.RespeltTexts.Parts.{Part, same, after_backslash, past, lone, on, part_text, text, IsPart, AreParts, on-whole, on-beyond, escaped-beyond}
+use Rattle.properties_format.proofs.RespeltTexts.Joined.{PartLine, line_on, AreLinesOfParts}
 use Rattle.properties_format.proofs.Escapes.Digits.{digits, digit-plain}
 
 -- a line of parts with its end

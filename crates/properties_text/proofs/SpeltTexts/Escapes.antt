@@ -18,7 +18,7 @@ use Rattle.properties_text.specs.declared.escape.Malformed.{Malformed}
 use Rattle.properties_text.specs.declared.escape.Malformed.TheVariants.{NotEnoughDigits, NotHex, InvalidCharacter}
 use Rattle.properties_text.proofs.Texts.Escapes.{IsUnit, IsUnread, malformed-unread, malformed-unpaired, scalar-unit, surrogate-unit, other-character}
 use Rattle.properties_text.proofs.Texts.Units.{ascii-digits}
-use Rattle.properties_text.proofs.Spelt.First.{IsAfter, ascii-first, ascii-back}
+use Rattle.properties_text.proofs.SpeltTexts.First.{IsAfter, ascii-first, ascii-back}
 
 -- ---- a backslash, and bytes after it
 

@@ -4,10 +4,10 @@ use Rattle.properties_format.specs.Lines.{InputEnd, line_endings, numbered_lines
 use Rattle.properties_format.specs.Computed.Lines.{lines_of, groups_of}
 use Rattle.properties_format.specs.Computed.Items.{entries_of, items_of_lines}
 use Rattle.properties_format.specs.Converting.{AreSameEntries, AreSameGroups}
-use Rattle.properties_format.proofs.Alike.Parts.{Part, text, AreParts}
-use Rattle.properties_format.proofs.Alike.Joined.{PartLine, line_on}
-use Rattle.properties_format.proofs.Alike.Entries.{groups_parts, groups, AreGroupsOfParts, groups-parts, groups-alike, entries-alike}
-use Rattle.properties_format.proofs.Alike.Lined.{lines_parts, lines-alike, line-parts, numbered_parts, numbers, numbered-parts, same-count}
+use Rattle.properties_format.proofs.RespeltTexts.Parts.{Part, text, AreParts}
+use Rattle.properties_format.proofs.RespeltTexts.Joined.{PartLine, line_on}
+use Rattle.properties_format.proofs.RespeltTexts.Entries.{groups_parts, groups, AreGroupsOfParts, groups-parts, groups-alike, entries-alike}
+use Rattle.properties_format.proofs.RespeltTexts.Lined.{lines_parts, lines-alike, line-parts, numbered_parts, numbers, numbered-parts, same-count}
 
 -- the groups of the lines of parts
 abbrev all_groups : List Part → InputEnd → List (List PartLine)
