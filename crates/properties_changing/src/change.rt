@@ -28,7 +28,8 @@ use std::alloc::{AllocError, Global};
 /// edits of other keys are made. A conversion keeps what is malformed.
 ///
 /// Of steps, each is made to what the one before it left, and the first that is refused refuses the change. A step reads
-/// the source once, or twice if it removes a key with its comments, sets its comment, or renames keys.
+/// the source once, or twice if it removes a key with its comments, sets its comment, or renames keys:
+/// `rename_keys` says when it reads it more often.
 ///
 /// ```text
 /// let edits = Change::Edits(Edits {

@@ -33,7 +33,7 @@ pub struct Rename {
 pub enum RenamesError {
     /// The source can't be edited, or memory ran out.
     Source(PropertiesError),
-    /// No pair has the old key of the rename with this index.
+    /// No pair has the old key of the rename with this index, in what the renames before it left.
     NoKey(usize),
     /// A pair has the new key of the rename with this index already. The second number is the line of the first such pair,
     /// in what the renames before it left.
@@ -71,7 +71,8 @@ impl Error for RenamesError {}
 /// what those before it left.
 ///
 /// The source is read once to check it, and once for all renames, even if some rename the same pairs again (`a` to `b`,
-/// then `b` to `c`). A rename to the empty name takes a pass of its own. A refused rename costs up to five more passes.
+/// then `b` to `c`). A rename to the empty name takes a pass of its own, and the renames before it and after it take one
+/// each. A refused rename costs up to five more passes.
 ///
 /// Fails as [`rename_key`] does, and then nothing is renamed. The error tells which rename was refused.
 ///
@@ -271,7 +272,7 @@ fn none_found(alloc: Global, count: usize) -> Result<Vec<bool>, AllocError>
     vec![in alloc; false; count]
 }
 
-// Returns the index of the first rename whose old key a pair has to have, and none was found.
+// Returns the index of the first rename whose old key has to be there and wasn't found.
 fn first_missing(
     roles: &BTreeMap<String, Role>,
     renames: &[Rename],
@@ -311,7 +312,7 @@ enum Role {
     Old(usize, usize),
     // There has to be such a pair, and it keeps its key.
     Kept(usize),
-    // There may be no such pair.
+    // There must be no such pair.
     New(usize),
 }
 
@@ -403,7 +404,7 @@ fn add_names(
     Ok(true)
 }
 
-// The same of a rename of a key to itself.
+// The same for a rename of a key to itself.
 fn keep_name(
     alloc: Global,
     roles: &mut BTreeMap<String, Role>,

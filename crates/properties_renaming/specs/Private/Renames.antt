@@ -87,7 +87,7 @@ last_name (n ∷ ns) key =
     if bytes_eq n.old n.new then last_name ns key
     else (if bytes_eq key n.old then Some (unwrap_or (last_name ns n.new) n.new) else last_name ns key)
 
--- The first of these renames leaves the keys that the others want, and no key gets the empty name.
+-- Each of these renames leaves the keys that those after it need, and none gives the empty name.
 abbrev pub AreMakeable : List NewName → Type 0
 AreMakeable [] = Unit {0}
 AreMakeable (n ∷ ns) =
@@ -150,7 +150,7 @@ IsOldAt names key i = (i < length names) × ((d : NewName) → key ≡ (get_or n
 abbrev pub IsNewAt : List NewName → Option (List ℕ) → ℕ → Type 0
 IsNewAt names new i = (i < length names) × ((d : NewName) → new ≡ Some (get_or names i d).new)
 
--- What a role tells of a key, of some renames of a list: none, that it is none of their names.
+-- What the role of a key means, for some renames of a list. A key without a role is none of their names.
 abbrev pub IsRoleIn : (all : List NewName) (names : List NewName) (key : List ℕ) → Option Role → Type 0
 IsRoleIn all names key None = needed names key ≡ None
 IsRoleIn all names key (Some (Old first last)) = (needed names key ≡ Some true) × IsOldAt all key first × IsNewAt all (last_name names key) last
