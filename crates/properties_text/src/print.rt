@@ -53,14 +53,14 @@ pub enum Place {
 pub enum Repertoire {
     /// The characters of windows-1252, one byte each.
     Windows1252,
-    /// The characters that windows-1252 and ISO 8859-1 have at the same byte, up to U+007F and from U+00A0 to U+00FF, one
-    /// byte each. So `Properties.load(InputStream)` of Java, which takes every byte as the character of its number, reads
-    /// them as they are meant.
-    Latin1,
     /// All characters, in UTF-8.
     Utf8,
     /// The characters of ASCII. The bytes are the same in windows-1252, ISO 8859-1 and UTF-8.
     Ascii,
+    /// The characters that windows-1252 and ISO 8859-1 have at the same byte, up to U+007F and from U+00A0 to U+00FF, one
+    /// byte each. So `Properties.load(InputStream)` of Java, which takes every byte as the character of its number, reads
+    /// them as they are meant.
+    Latin1,
 }
 
 impl From<LineEncoding> for Repertoire {
