@@ -3,8 +3,8 @@
 //! [`PropertiesIter`] reads the comments and pairs of a file, each with its line number. [`PropertiesWriter`] writes
 //! comments and pairs. [`set_key`], [`set_value`], [`remove_key`], [`edit_all`] and [`Document`] edit the pairs of a
 //! file, and so does [`edit_with`], with [`SourceOptions`]. [`rename_key`] renames a key where it stands,
-//! [`rename_keys`] renames many, and [`set_comment`] sets the comment of one. [`View`] shows where each part of a file
-//! is. [`convert`] changes its encoding.
+//! [`rename_keys`] renames many, [`set_comments`] sets the comments of keys, and [`remove_with_comments`] removes keys
+//! with their comments. [`View`] shows where each part of a file is. [`convert`] changes its encoding.
 //!
 //! ```text
 //! for item in PropertiesIter::new(alloc, &mut input)? {
@@ -44,7 +44,8 @@ pub use properties_items::findings::{KeyLine, MalformedEscape};
 pub use properties_items::found::Found;
 pub use properties_items::line::{Line, LineContent, LineEnding};
 pub use properties_renaming::{
-    Rename, RenameError, RenamesError, remove_with_comment, rename_key, rename_keys, set_comment,
+    NewComment, Rename, RenameError, RenamesError, remove_with_comment, remove_with_comments,
+    rename_key, rename_keys, set_comment, set_comments,
 };
 pub use properties_text::convert::Spelling;
 pub use properties_text::encoding::Encoding;

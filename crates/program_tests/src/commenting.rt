@@ -104,6 +104,19 @@ const LISTS: &[Row] = &[
         b"b=1\n",
     ),
     ("-x set b 2 set-comment b x", b"b=1", 0, b"# x\nb=2"),
+    // Of several texts for one key, the last one counts.
+    (
+        "set-comment a x set-comment b y set-comment a ''",
+        b"!1\na=1\n#2\nb=1\n",
+        0,
+        b"a=1\n#y\nb=1\n",
+    ),
+    (
+        "set-comment a '' set-comment a x",
+        b"!1\na=1\n",
+        0,
+        b"!x\na=1\n",
+    ),
 ];
 
 #[test]
@@ -126,7 +139,7 @@ const REFUSED: &[(&str, &[u8], u8, &str)] = &[
         " no pair has the key 'a'",
     ),
     (
-        "set-comment a x set-comment b x",
+        "set-comment a x set-comment b x set-comment c x",
         b"a=1",
         1,
         " no pair has the key 'b'",

@@ -88,6 +88,7 @@ const LISTS: &[Row] = &[
     ),
     // With `-x`, what counts of each removal are the pairs that the edits before it left.
     ("-x --with-comment remove a remove b", b"#\na\n#\nb", 0, b""),
+    ("-x --with-comment remove a remove a", b"#\na\nb", 0, b"b"),
     ("-x --with-comment set a 2 remove a", b"#\na", 0, b""),
     ("-x --with-comment rename a b remove b", b"#\na\nc", 0, b"c"),
 ];
@@ -106,10 +107,10 @@ const REFUSED: &[(&str, &[u8], u8, &str)] = &[
         " no pair has the key 'a'",
     ),
     (
-        "-x --with-comment remove a remove a",
+        "-x --with-comment remove a remove c remove b",
         b"a=1",
         1,
-        " no pair has the key 'a'",
+        " no pair has the key 'c'",
     ),
     (
         "-x --with-comment remove b set a 1",

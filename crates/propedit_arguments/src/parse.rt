@@ -12,11 +12,11 @@ use crate::kinds::ignored_in;
 use crate::mistake::{Hint, Mistake, NoRequest};
 use crate::options::{Options, STANDARD_INPUT, options_in, source_named};
 use counted_io::CountedWrite;
-use java_properties::{Edit, Rename};
+use java_properties::{Edit, NewComment, Rename};
 use properties_tools::propedit::kinds::Ignored;
 use properties_tools::propedit::request::{
     Allowed, Change, Check, CheckedFiles, Command, Comparison, Conversion, Destination, Edits,
-    FileChange, Job, Merge, NewComment, Removal, Renaming, Request, Source, Step, Steps,
+    FileChange, Job, Merge, NewComments, Removal, Renaming, Request, Source, Step, Steps,
 };
 use properties_tools::propedit::{print_out_of_memory, print_text, print_usage_error};
 use std::alloc::{AllocError, Global};
@@ -411,8 +411,7 @@ fn edit<'a>(
     change(alloc, row, options, change_by(alloc, options, list)?)
 }
 
-// Returns the change that edits are. Edits that set or remove a key are one step as long as no other comes between them,
-// and so are those that rename one.
+// Returns the change that edits are. Edits of a kind are one step as long as no other comes between them.
 fn change_by(
     alloc: Global,
     options: &Options<'_>,
@@ -443,9 +442,12 @@ fn add_edit(
     asked: AskedEdit,
 ) -> Result<(), AllocError> {
     match (asked, steps.last_mut()) {
+        (AskedEdit::Edit(Edit::Remove(key)), Some(Step::Removal(removal))) => {
+            removal.keys.push(key)?;
+        }
         (AskedEdit::Edit(Edit::Remove(key)), _) if options.has(OptionName::WithComment) => {
             steps.push(Step::Removal(Removal {
-                key,
+                keys: vec![in alloc; key]?,
                 absent: options.absent(),
             }))?;
         }
@@ -461,8 +463,12 @@ fn add_edit(
             let list = vec![in alloc; Rename { old, new }]?;
             steps.push(Step::Renaming(renaming_with(options, list)))?;
         }
+        (AskedEdit::SetComment(key, text), Some(Step::NewComments(comments))) => {
+            comments.list.push(NewComment { key, text })?;
+        }
         (AskedEdit::SetComment(key, text), _) => {
-            steps.push(Step::NewComment(comment_with(options, key, text)))?;
+            let list = vec![in alloc; NewComment { key, text }]?;
+            steps.push(Step::NewComments(comments_with(options, list)))?;
         }
     }
     Ok(())
@@ -487,11 +493,10 @@ fn renaming_with(options: &Options<'_>, list: Vec<Rename>) -> Renaming {
     }
 }
 
-// Returns a comment of a key that is set as the options say.
-fn comment_with(options: &Options<'_>, key: String, text: String) -> NewComment {
-    NewComment {
-        key,
-        text,
+// Returns comments that are set as the options say.
+fn comments_with(options: &Options<'_>, list: Vec<NewComment>) -> NewComments {
+    NewComments {
+        list,
         ascii_only: options.has(OptionName::Ascii),
         latin_1: options.is_latin_1(),
     }

@@ -56,7 +56,7 @@ SetsAcross source encoding flags key text x =
 
 abbrev pub GivesRemoved : Encoding → Flags → List ℕ → List ℕ → Crossing → Type 0
 GivesRemoved e f source key x =
-    (outcome : Result (Vec ℕ) PropertiesError) × IsGivenBy (λ o. RemovesWithComments o source key) e f outcome × Crosses outcome x
+    (outcome : Result (Vec ℕ) PropertiesError) × IsGivenBy (λ o. RemovesWithComments o source (key ∷ [])) e f outcome × Crosses outcome x
 
 abbrev pub RemovesAcross : List ℕ → ℕ → ℕ → List ℕ → Crossing → Type 0
 RemovesAcross source encoding flags key x =

@@ -11,7 +11,7 @@ use Rattle.properties_text.specs.Printing.{in_format}
 use Rattle.java_properties.specs.Editing.{ArePairsMade, IsRefusal, edits_in}
 use Rattle.java_properties.specs.Maps.{characters}
 use Rattle.properties_items.specs.declared.error.PropertiesError.{PropertiesError}
-use Rattle.properties_changing.specs.Commenting.{SetsComment}
+use Rattle.properties_changing.specs.Commenting.{SetsComments}
 use Rattle.properties_tables.specs.Failures.{IsMemoryFailure}
 use Rattle.properties_changing.specs.Keys.{HoldsKey, HoldsKeys, HoldsNoKey, IsFirstAbsent}
 use Rattle.properties_changing.specs.Removing.{Removes}
@@ -102,7 +102,7 @@ abbrev pub ChangesByStep : Encoding → List ℕ → Step → Result (Vec ℕ) F
 ChangesByStep e source (step.Edits edits) result = ChangesByEdits e source edits result
 ChangesByStep e source (step.Removal removal) result = Removes e source removal result
 ChangesByStep e source (step.Renaming renaming) result = Renames e source renaming result
-ChangesByStep e source (step.NewComment comment) result = SetsComment e source comment result
+ChangesByStep e source (step.NewComments comments) result = SetsComments e source comments result
 
 abbrev pub in_order : Steps → List Step
 in_order steps = steps.first ∷ steps.others.items

@@ -13,7 +13,7 @@ ghost use Rattle.properties_tables.specs.Sources.{HasSoundBytes};
 use crate::remove::remove;
 use crate::rename::rename;
 use crate::request::{AbsentKeys, Change, Conversion, Edits, Step, Steps};
-use crate::set_comment::set_comment;
+use crate::set_comments::set_comments;
 use java_properties::{Comments, Edit, Encoding, SourceOptions, convert, edit_with};
 use properties_tables::error::Failure;
 use properties_tables::sound::{refuse_bytes, refuse_unsound};
@@ -28,8 +28,8 @@ use std::alloc::{AllocError, Global};
 /// edits of other keys are made. A conversion keeps what is malformed.
 ///
 /// Of steps, each is made to what the one before it left, and the first that is refused refuses the change. A step reads
-/// the source once, or twice if it removes a key with its comments, sets its comment, or renames keys:
-/// `rename_keys` says when it reads it more often.
+/// the source once if it makes edits, twice if it removes keys with their comments, three times if it sets comments, and
+/// twice if it renames keys: `rename_keys` says when it reads it more often.
 ///
 /// ```text
 /// let edits = Change::Edits(Edits {
@@ -120,7 +120,7 @@ fn changed_by(
         Step::Edits(edits) => edited(alloc, source, encoding, edits),
         Step::Removal(removal) => remove(alloc, source, encoding, removal),
         Step::Renaming(renaming) => rename(alloc, source, encoding, renaming),
-        Step::NewComment(comment) => set_comment(alloc, source, encoding, comment),
+        Step::NewComments(comments) => set_comments(alloc, source, encoding, comments),
     }
 }
 

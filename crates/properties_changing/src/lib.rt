@@ -1,4 +1,4 @@
-//! Changes of a `.properties` source, and of a file in place: edits, steps that rename keys, and conversions.
+//! Changes of a `.properties` source, and of a file in place: edits, steps that rename keys or set comments, and conversions.
 //!
 //! [`change::change`] gives the bytes of a source after a change, and [`in_place::edit_file`] replaces a file by them,
 //! whole or not at all.
@@ -21,4 +21,4 @@ mod remove;
 mod rename;
 pub mod request;
 pub mod same_file;
-mod set_comment;
+mod set_comments;

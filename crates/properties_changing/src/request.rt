@@ -1,6 +1,6 @@
 // What a change is asked for.
 
-use java_properties::{Edit, Encoding, Rename, Repertoire, Spelling};
+use java_properties::{Edit, Encoding, NewComment, Rename, Repertoire, Spelling};
 
 /// A file that is changed in place.
 #[derive(Drop)]
@@ -38,12 +38,12 @@ pub struct Steps {
 pub enum Step {
     /// Make these edits.
     Edits(Edits),
-    /// Remove a key with its comments.
+    /// Remove keys with their comments.
     Removal(Removal),
     /// Rename keys.
     Renaming(Renaming),
-    /// Set the comment of a key.
-    NewComment(NewComment),
+    /// Set comments of keys.
+    NewComments(NewComments),
 }
 
 /// Keys that are renamed where they stand, and how the new ones are written.
@@ -99,20 +99,19 @@ pub enum Missing {
     Create,
 }
 
-/// A key that is removed, with the comment lines directly above each of its pairs.
+/// Keys that are removed, with the comment lines directly above each of their pairs.
 #[derive(Drop)]
 pub struct Removal {
-    pub key: String,
-    /// What is done if no pair of the source has it. Unless that is refused, nothing is removed.
+    pub keys: Vec<String>,
+    /// What is done if no pair of the source has one of them. Unless that is refused, such a key changes nothing.
     pub absent: AbsentKeys,
 }
 
-/// A key whose comment is set, and how the comment is written.
+/// Keys whose comments are set, and how the comments are written.
 #[derive(Drop)]
-pub struct NewComment {
-    pub key: String,
-    /// Each of its lines becomes a comment line. The empty text has none.
-    pub text: String,
+pub struct NewComments {
+    /// Of several for one key, the last one counts.
+    pub list: Vec<NewComment>,
     /// Whether what is put in is ASCII-only.
     pub ascii_only: bool,
     /// Whether it has only characters whose bytes ISO 8859-1 reads alike.

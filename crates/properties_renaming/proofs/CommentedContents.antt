@@ -1,12 +1,10 @@
--- What a source with a comment set says: its groups are those of the source, with new comment lines in place of the
--- comment. So its pairs are those of the source, and so are its comments but for these.
+-- What a source with comments set says: its groups are those of the source, with new comment lines in place of the old
+-- ones. So its pairs are those of the source, and so are its comments but for these.
 use Rattle.std.proofs.Common.{inl, inr, ◌≡◌, ◌≢◌, ◌⊎◌, ℕ, Bool, true, false, List, [], ◌∷◌, ◌++◌, All, map, refl, sym, ap, ap₂, ◌∙◌, subst, arith, Option, Some, None, append_assoc, append-nil}
-use Rattle.std.specs.Prelude.{bytes_eq, flat_map, if◌then◌else◌, not, ◌&&◌, ◌==◌}
+use Rattle.std.specs.Prelude.{bytes_eq, flat_map, if◌then◌else◌, not, ◌&&◌, ◌||◌, ◌==◌}
 use Rattle.std.specs.List.{AllByRecursion}
 use Rattle.std.specs.Option.{option_map, unwrap_or}
 use Rattle.std.proofs.lemmas.Bool.{cases_Bool, cond_both}
-use Rattle.std.proofs.lemmas.List.{append_cancel_left}
-use Rattle.std.proofs.lemmas.Slice.Eq.{bytes_eq-Decides}
 use Rattle.std.proofs.lemmas.List.Elements.{recursion_from_All}
 use Rattle.properties_format.specs.Text.{LineEnding, backslash, begins, is_blank, is_comment_sign, is_empty, is_line_ending, lf, line_ending_text, line_feed, scalar, space}
 use Rattle.properties_format.specs.Encoding.{Encoding, InForce, Repertoire, begins_like_bom, byte_order_mark, repertoire_in_force}
@@ -15,7 +13,7 @@ use Rattle.properties_format.specs.Split.{AreBlanks, IsSplit, Logical}
 use Rattle.properties_format.specs.Escapes.{Meaning, breaks, means}
 use Rattle.properties_format.specs.Printing.{encoded_text, in_prefix, literal, may_be_unescaped, printed_characters, unicode_escape}
 use Rattle.properties_format.specs.Items.{AreItems, Content, IsOutcome, Outcome, broken, comment, given, ignored, pair}
-use Rattle.properties_format.specs.Changed.{contents, line_before}
+use Rattle.properties_format.specs.Changed.{HoldNoPair, contents, line_before}
 use Rattle.properties_format.specs.Body.{HasKey, HeldLine, NoneHasKey, as_lines, group_bytes, groups_bytes, held_in, last_ending}
 use Rattle.properties_format.specs.Edited.{guarding_lf, is_editable}
 use Rattle.properties_format.specs.Valued.{ending_among, ending_in}
@@ -28,7 +26,7 @@ use Rattle.properties_format.specs.Computed.Escapes.{meaning_of}
 use Rattle.properties_format.specs.Computed.Items.{comment_outcome, outcome_of, split_outcome}
 use Rattle.properties_format.specs.Computed.Split.{split_of}
 use Rattle.properties_format.proofs.Body.Decoded.{decoded-nil, plain-bytes}
-use Rattle.properties_format.proofs.Body.Groups.{groups_bytes-append, held-body, held_groups_of-meets, held_groups_of-only}
+use Rattle.properties_format.proofs.Body.Groups.{groups_bytes-append, held_groups_of-only}
 use Rattle.properties_format.proofs.Changed.Contents.{content_before, contents_among}
 use Rattle.properties_format.proofs.Changed.Items.{IsSoundLine, sound-source, source-sound}
 use Rattle.properties_format.proofs.Edited.ByteOrderMarks.{in_force as stays_in_force}
@@ -49,7 +47,7 @@ use Rattle.properties_format.proofs.ReadBack.Pairs.{blanks-plain, blanks-slashes
 use Rattle.properties_format.proofs.ReadBack.Spellings.{unicode-printed}
 use Rattle.properties_format.proofs.ReadBack.Texts.{rest-scalars, safe-plain}
 use Rattle.properties_format.proofs.Groups.Joined.{joined-comment_line}
-use Rattle.properties_format.proofs.Changed.Maps.{other-test, same-test}
+use Rattle.properties_format.proofs.Changed.Maps.{other-test}
 use Rattle.properties_format.proofs.Maps.{first-none, map-only, value_in, value_in-meets}
 use Rattle.properties_format.specs.Computed.Maps.{first_value}
 use Rattle.properties_editing.specs.Views.{with_bytes}
@@ -58,13 +56,14 @@ use Rattle.properties_format.proofs.Split.Unique.{sign-full, split_of-meets}
 use Rattle.properties_format.proofs.Valued.Heads.{ascii-among}
 use Rattle.properties_format.proofs.Valued.Revalued.{text-own}
 use Rattle.properties_renaming.specs.CommentLines.{AreCommentGroups, IsCommentGroup}
-use Rattle.properties_renaming.specs.Commenting.{HasNewLines, IsCommentSet, IsStyleFor, LineStyle, comment_line, ending_or, gap_before, texts_of}
-use Rattle.properties_renaming.specs.Commented.{AreOthers, LeadTo}
-use Rattle.properties_renaming.specs.Laws.{AreOthersIn, IsCommentChanged, RemovingWithTheCommentKeepsTheRest, RemovingWithTheCommentTakesTheValue, SettingAPlainCommentBreaksNothing, SettingTheCommentKeepsTheMap, SettingTheCommentKeepsTheRest}
-use Rattle.properties_renaming.proofs.CommentGroups.{lead-next, line-blank, line-pair}
+use Rattle.properties_renaming.specs.Sections.{AreMadeOf, AreSections, Section, groups_of, is_among}
+use Rattle.properties_renaming.specs.Commenting.{AreCommentsSet, HasLines, IsCommented, IsStyleFor, LineStyle, NewText, comment_line, ending_or, gap_before, text_for, texts_of}
+use Rattle.properties_renaming.specs.Commented.{HasOneOf, IsLeftOf}
+use Rattle.properties_renaming.specs.Laws.{AreCommentsChanged, AreLastPairs, AreOthersIn, ChangedComment, OfTexts, RemovingWithCommentsKeepsTheRest, RemovingWithCommentsTakesTheValues, SettingCommentsKeepsTheMap, SettingCommentsKeepsTheRest, SettingPlainCommentsBreaksNothing, keys_of, with_new_comments, with_old_comments}
+use Rattle.properties_renaming.proofs.CommentGroups.{comment-no_key, line-blank, line-pair}
 use Rattle.properties_renaming.proofs.KeyPlaces.{decoded-past}
-use Rattle.properties_renaming.proofs.RenamedKeys.{bytes-front}
-use Rattle.properties_renaming.proofs.RenamedContents.{hold-none, is-nil, no-bytes, none-all, value-contents, value_among, value_of}
+use Rattle.properties_renaming.proofs.SectionedGroups.{groups-append, none-both}
+use Rattle.properties_renaming.proofs.RenamedContents.{hold-none, is-nil, no-bytes, value-contents, value_among, value_of}
 
 -- ---- what is printed for a line
 
@@ -330,36 +329,45 @@ module _ (r : Repertoire) (style : LineStyle) (by : LineEnding) (ok : is_editabl
 
 -- ---- the groups of a source
 
-abbrev all_but_first : List (List HeldLine) → List (List HeldLine)
-all_but_first [] = []
-all_but_first (g ∷ gs) = gs
+-- All groups are those that have bytes, and a last one that may have none.
+record HasRest (e : Encoding) (all : List (List HeldLine)) : Type 0 where
+  rest : List (List HeldLine)
+  whole : all ≡ with_bytes all ++ rest
+  no_bytes : groups_bytes rest ≡ []
+  no_keys : (key : List ℕ) → NoneHasKey key rest
 
--- No group behind has the key; the last of them may have no bytes.
-none-behind : (e : Encoding) (key : List ℕ) (before : List (List HeldLine)) (g : List HeldLine) (more after : List (List HeldLine))
-    → AreInTurn e (before ++ g ∷ more) → with_bytes (before ++ g ∷ more) ≡ before ++ g ∷ after → NoneHasKey key after → NoneHasKey key more
-none-behind e key [] g [] after a q n = tt
-none-behind e key [] g (k ∷ more) after a q n = none-all e key (k ∷ more) a.1 (subst (NoneHasKey key) (sym (ap all_but_first q)) n)
-none-behind e key (f ∷ []) g more after a q n = none-behind e key [] g more after a.1 (ap all_but_first q) n
-none-behind e key (f ∷ k ∷ before) g more after a q n = none-behind e key (k ∷ before) g more after a.1 (ap all_but_first q) n
+has-rest : (e : Encoding) (all : List (List HeldLine)) → AreInTurn e all → HasRest e all
+has-rest e [] a = absurd a
+has-rest e (g ∷ []) a = elim (cases_Bool (is_empty (group_bytes g))) [
+  | inl k ↦ record {
+    rest = g ∷ [];
+    whole = rw k refl;
+    no_bytes = append-nil (group_bytes g) ∙ is-nil (group_bytes g) k;
+    no_keys = λ key. (no-bytes e None key g a.0 k, tt);
+  }
+  | inr k ↦ record { rest = []; whole = rw k refl; no_bytes = refl; no_keys = λ key. tt }
+]
+has-rest e (g ∷ h ∷ gs) a =
+    let m = has-rest e (h ∷ gs) a.1 in record { rest = m.rest; whole = ap (λ w. g ∷ w) m.whole; no_bytes = m.no_bytes; no_keys = m.no_keys }
 
-ending-by : (groups : List (List HeldLine)) (g : List HeldLine) → (by : LineEnding) × (ending_or (ending_in groups) g ≡ line_ending_text by)
-ending-by groups g = of (last_ending g)
+ending-by : (other : List ℕ) (g : List HeldLine) → (by : LineEnding) × (other ≡ line_ending_text by) → (by : LineEnding) × (ending_or other g ≡ line_ending_text by)
+ending-by other g o = of (last_ending g)
   where
-    of : (o : Option LineEnding) → (by : LineEnding) × (unwrap_or (option_map line_ending_text o) (ending_in groups) ≡ line_ending_text by)
-    of None = (ending_among lf (held_in groups), refl)
+    of : (e : Option LineEnding) → (by : LineEnding) × (unwrap_or (option_map line_ending_text e) other ≡ line_ending_text by)
+    of None = o
     of (Some by) = (by, refl)
 
-style-is : (groups run : List (List HeldLine)) (group : List HeldLine) (style : LineStyle) → IsStyleFor (ending_in groups) run group style
-    → (by : LineEnding) × IsStyle style by
-style-is groups run group style (inl (line, first, s)) =
-    let m = ending-by groups line in
+style-is : (other : List ℕ) (run : List (List HeldLine)) (group : List HeldLine) (style : LineStyle) → (by : LineEnding) × (other ≡ line_ending_text by)
+    → IsStyleFor other run group style → (by : LineEnding) × IsStyle style by
+style-is other run group style o (inl (line, first, s)) =
+    let m = ending-by other line o in
     (m.0, record { indent = s.indent_blank; is_sign = s.is_sign; blank = of s.one_blank; ending = s.ending ∙ m.1 })
   where
     of : (style.blank ≡ []) × (begins is_blank s.rest ≡ false) ⊎ (b : ℕ) × (is_blank b ≡ true) × (style.blank ≡ b ∷ []) → AreBlanks style.blank
     of (inl k) = subst AreBlanks (sym k.0) tt
     of (inr (b, i, k)) = subst AreBlanks (sym k) (i, tt)
-style-is groups run group style (inr (none, s)) =
-    let m = ending-by groups group in
+style-is other run group style o (inr (none, s)) =
+    let m = ending-by other group o in
     (m.0, record { indent = s.indent_blank; is_sign = ap is_comment_sign s.sign; blank = subst AreBlanks (sym s.blank) (refl, tt); ending = s.ending ∙ m.1 })
 
 first-scalars : (x y : List ℕ) → AllByRecursion scalar (x ++ y) → AllByRecursion scalar x
@@ -388,154 +396,256 @@ guard-slots e false rest gs s = s
 unmarked : (source rest : List ℕ) → begins_like_bom source ≡ false → begins_like_bom (guarding_lf source rest ++ rest) ≡ false
 unmarked source rest k = grind (arith)
 
--- The groups of a source and of the result, in which other comment lines are above a pair.
-record AreCommented (e : Encoding) (source key text result : List ℕ) : Type 0 where
-  before : List (List HeldLine)
-  run : List (List HeldLine)
-  new : List (List HeldLine)
-  group : List HeldLine
-  more : List (List HeldLine)
-  own : before ++ (run ++ group ∷ more) ≡ held_groups_of (byte_order_mark e source).encoding (byte_order_mark e source).body
-  run_comments : AreCommentGroups run
-  new_comments : AreCommentGroups new
-  has_key : HasKey key group
-  no_later : NoneHasKey key more
-  clean : HoldsNoBackslash text → are_sound (run ++ group ∷ more) → are_sound (new ++ group ∷ more)
-  in_force : (byte_order_mark e result).encoding ≡ (byte_order_mark e source).encoding
-  lines : logical_lines_of e result ≡ lines_of (before ++ (new ++ group ∷ more))
+-- ---- the groups of a source, and those with other comment lines
 
-commented : (r : Repertoire) (source key text result : List ℕ) → is_editable (byte_order_mark r.encoding source).encoding ≡ true → All scalar text
-    → IsCommentSet r source key text result → AreCommented r.encoding source key text result
-commented r source key text result ok scalars h =
-    let f = byte_order_mark r.encoding source in
-    let c = h.comment in
-    let front = c.before ++ c.run in
-    let division : h.groups ≡ front ++ c.group ∷ c.after = c.division ∙ sym (append_assoc c.before c.run (c.group ∷ c.after)) in
-    let m = bytes-front h.held.all front c.group c.after (sym h.held.are ∙ division) in
-    let turn : AreInTurn f.encoding (front ++ c.group ∷ m.0) = subst (AreInTurn f.encoding) m.1 (in-turn f.encoding f.body h.held.all ok h.held.division) in
-    let own : c.before ++ (c.run ++ c.group ∷ m.0) ≡ held_groups_of f.encoding f.body =
-    sym (append_assoc c.before c.run (c.group ∷ m.0)) ∙ sym m.1 ∙ held_groups_of-only f.encoding f.body h.held.all h.held.division in
-    by m.0 turn (none-behind f.encoding key front c.group m.0 c.after turn (ap with_bytes (sym m.1) ∙ sym h.held.are ∙ division) c.no_later) own h.set
+-- What is true of each text is true of that for a key, and the key is one of these.
+text-of : (Holds : List ℕ → Type 0) (ts : List NewText) (key text : List ℕ) → OfTexts Holds ts → text_for ts key ≡ Some text
+    → Holds text × (is_among (keys_of ts) key ≡ true)
+text-of Holds [] key text h q = absurd (cc)
+text-of Holds (t ∷ ts) key text h q = by (text_for ts key) (bytes_eq t.key key) (λ r. text-of Holds ts key text h.1 r) q
   where
-    by : (more : List (List HeldLine)) → AreInTurn (byte_order_mark r.encoding source).encoding ((h.comment.before ++ h.comment.run) ++ h.comment.group ∷ more)
-        → NoneHasKey key more
-        → h.comment.before ++ (h.comment.run ++ h.comment.group ∷ more)
-        ≡ held_groups_of (byte_order_mark r.encoding source).encoding (byte_order_mark r.encoding source).body
-        → (h.texts ≡ h.lines) × (result ≡ source) ⊎ (h.texts ≢ h.lines) × HasNewLines (repertoire_in_force r source) source h.comment h.lines result
-        → AreCommented r.encoding source key text result
-    by more turn later own (inl (same, is)) =
-        let c = h.comment in record {
-          before = c.before;
-          run = c.run;
-          new = c.run;
-          group = c.group;
-          more = more;
-          own = own;
-          run_comments = c.are_comments;
-          new_comments = c.are_comments;
-          has_key = c.has_key;
-          no_later = later;
-          clean = λ n sound. sound;
-          in_force = ap (λ w. let f : InForce = byte_order_mark r.encoding w in f.encoding) is;
-          lines = ap (logical_lines_of r.encoding) is ∙ ap lines_of (sym own);
-        }
-    by more turn later own (inr (other, n)) =
-        let f = byte_order_mark r.encoding source in
-        let c = h.comment in
-        let s = style-is h.groups c.run c.group n.style n.is_style in
-        let lines = subst AreScalarLines (sym h.are_lines.texts_are)
-        (scalar-lines h.are_lines.lines.ended h.are_lines.lines.last h.are_lines.are_lines.are_lines
-        (subst (AllByRecursion scalar) h.are_lines.are_lines.text (recursion_from_All scalar text scalars))) in
-        let new = map (new_group (repertoire_in_force r source) n.style s.0) h.lines in
-        let parts = turn-parts f.encoding (c.before ++ c.run) c.group more turn in
-        let groups = c.before ++ (new ++ c.group ∷ more) in
-        let body_turn : AreInTurn f.encoding groups =
-        turn-join f.encoding c.before (new ++ c.group ∷ more) (ended-first f.encoding c.before c.run parts.0)
-        (turn-join f.encoding new (c.group ∷ more) (lines-ended (repertoire_in_force r source) n.style s.0 ok s.1 h.lines lines) parts.1) in
-        let whole : groups_bytes (c.before ++ (c.run ++ c.group ∷ more)) ≡ groups_bytes (c.before ++ (c.run ++ c.group ∷ c.after)) =
-        ap groups_bytes own ∙ held-body f.encoding f.body (held_groups_of f.encoding f.body) ok (held_groups_of-meets f.encoding f.body)
-        ∙ sym h.held.together ∙ ap groups_bytes c.division in
-        let behind : group_bytes c.group ++ groups_bytes more ≡ group_bytes c.group ++ groups_bytes c.after =
-        append_cancel_left (groups_bytes c.run) (groups_bytes (c.group ∷ more)) (groups_bytes (c.group ∷ c.after))
-        (append_cancel_left (groups_bytes c.before) _ _
-        (ap (λ w. groups_bytes c.before ++ w) (sym (groups_bytes-append c.run (c.group ∷ more)))
-        ∙ sym (groups_bytes-append c.before (c.run ++ c.group ∷ more))
-        ∙ whole
-        ∙ groups_bytes-append c.before (c.run ++ c.group ∷ c.after)
-        ∙ ap (λ w. groups_bytes c.before ++ w) (groups_bytes-append c.run (c.group ∷ c.after)))) in
-        let bytes : groups_bytes groups ≡ n.body =
-        groups_bytes-append c.before (new ++ c.group ∷ more)
-        ∙ ap (λ w. groups_bytes c.before ++ w)
-        (groups_bytes-append new (c.group ∷ more) ∙ ap₂ (λ v w. v ++ w) (lines-whole (repertoire_in_force r source) n.style s.0 ok s.1 h.lines) behind)
-        ∙ sym n.body_is in
-        let guard = not (begins_like_bom source) && begins_like_bom n.body in
-        let slots = guard-slots f.encoding guard n.body groups (record { turn = body_turn; bytes = bytes }) in
-        let force = ap (byte_order_mark r.encoding) n.whole
-        ∙ stays_in_force r.encoding source (guarding_lf source n.body ++ n.body) ok (λ k. unmarked source n.body k) in
-        record {
-          before = c.before;
-          run = c.run;
-          new = new;
-          group = c.group;
-          more = more;
-          own = own;
-          run_comments = c.are_comments;
-          new_comments = lines-comments (repertoire_in_force r source) n.style s.0 ok s.1 h.lines lines;
-          has_key = c.has_key;
-          no_later = later;
-          clean = λ none sound.
-              lines-sound (repertoire_in_force r source) n.style s.0 ok s.1 h.lines (c.group ∷ more) lines
-              (subst AreCleanLines (sym h.are_lines.texts_are)
-              (clean-lines h.are_lines.lines.ended h.are_lines.lines.last (subst HoldsNoBackslash h.are_lines.are_lines.text none)))
-              (sound-rest c.run (c.group ∷ more) sound);
-          in_force = ap (λ w. let f : InForce = w in f.encoding) force;
-          lines = ap (λ w. let f : InForce = w in lines_of (held_groups_of f.encoding f.body)) force
-              ∙ slots-lines f.encoding (guarding_lf source n.body ++ n.body) (guarded f.encoding guard groups) ok slots
-              ∙ guarded-lines f.encoding guard groups;
-        }
+    either : (b : Bool) → is_among (keys_of ts) key ≡ true → (b || is_among (keys_of ts) key) ≡ true
+    either true m = refl
+    either false m = m
+
+    by : (o : Option (List ℕ)) (b : Bool) → (o ≡ Some text → Holds text × (is_among (keys_of ts) key ≡ true))
+        → unwrap_or (option_map Some o) (if b then Some t.text else None) ≡ Some text → Holds text × ((b || is_among (keys_of ts) key) ≡ true)
+    by (Some x) b k r = let m = k r in (m.0, either b m.1)
+    by None true k r = let same : t.text ≡ text = cc in (subst Holds same h.0, refl)
+    by None false k r = absurd (cc)
+
+-- Comment lines that are above a group, in place of others.
+record IsNewRun (e : Encoding) (run : List (List HeldLine)) (text head : List ℕ) : Type 0 where
+  new : List (List HeldLine)
+  comments : AreCommentGroups new
+  ended : AreEnded e run → AreEnded e new
+  bytes : groups_bytes new ≡ head
+  clean : HoldsNoBackslash text → (old more : List (List HeldLine)) → are_sound (run ++ old) → are_sound more → are_sound (new ++ more)
+
+sound-run : (run old more : List (List HeldLine)) → are_sound (run ++ old) → are_sound more → are_sound (run ++ more)
+sound-run run old more sound k = sound-behind run old more (λ s. k) sound
+
+module _ (r : Repertoire) (ok : is_editable r.encoding ≡ true) (other : List ℕ) (o : (by : LineEnding) × (other ≡ line_ending_text by)) where
+  new-run : (s : Section) (text head : List ℕ) → All scalar text → AreCommentGroups s.run → HasLines r other s text head → IsNewRun r.encoding s.run text head
+  new-run s text head scalars c h = by h.set
+    where
+      by : (h.texts ≡ h.lines) × (head ≡ groups_bytes s.run)
+          ⊎ (h.texts ≢ h.lines) × ((style : LineStyle) × IsStyleFor other s.run s.group style × (head ≡ flat_map (comment_line r style) h.lines))
+          → IsNewRun r.encoding s.run text head
+      by (inl (same, is)) = record {
+        new = s.run;
+        comments = c;
+        ended = λ k. k;
+        bytes = sym is;
+        clean = λ n old more sound k. sound-run s.run old more sound k;
+      }
+      by (inr (apart, (style, is_style, is))) =
+          let look = style-is other s.run s.group style o is_style in
+          let lines = subst AreScalarLines (sym h.are_lines.texts_are)
+          (scalar-lines h.are_lines.lines.ended h.are_lines.lines.last h.are_lines.are_lines.are_lines
+          (subst (AllByRecursion scalar) h.are_lines.are_lines.text (recursion_from_All scalar text scalars))) in
+          record {
+            new = map (new_group r style look.0) h.lines;
+            comments = lines-comments r style look.0 ok look.1 h.lines lines;
+            ended = λ k. lines-ended r style look.0 ok look.1 h.lines lines;
+            bytes = lines-whole r style look.0 ok look.1 h.lines ∙ sym is;
+            clean = λ n old more sound k.
+                lines-sound r style look.0 ok look.1 h.lines more lines
+                (subst AreCleanLines (sym h.are_lines.texts_are)
+                (clean-lines h.are_lines.lines.ended h.are_lines.lines.last (subst HoldsNoBackslash h.are_lines.are_lines.text n))) k;
+          }
+
+-- More contents in front.
+changed-behind : (keys : List (List ℕ)) (front old new : List Content) → AreCommentsChanged keys old new → AreCommentsChanged keys (front ++ old) (front ++ new)
+changed-behind keys front old new h = by h.changes h.was h.now h.are_last
+  where
+    by : (cs : List ChangedComment) → old ≡ with_old_comments cs h.last → new ≡ with_new_comments cs h.last → AreLastPairs keys cs h.last
+        → AreCommentsChanged keys (front ++ old) (front ++ new)
+    by [] was now last =
+        record { changes = []; last = front ++ h.last; was = ap (λ w. front ++ w) was; now = ap (λ w. front ++ w) now; are_last = tt }
+    by (c ∷ cs) was now last = record {
+      changes = record c { kept = front ++ c.kept } ∷ cs;
+      last = h.last;
+      was = ap (λ w. front ++ w) was ∙ sym (append_assoc front c.kept _);
+      now = ap (λ w. front ++ w) now ∙ sym (append_assoc front c.kept _);
+      are_last = last;
+    }
+
+-- The groups of a source, and those with other comment lines.
+record AreNewGroups (e : Encoding) (texts : List NewText) (old : List (List HeldLine)) (body : List ℕ) : Type 0 where
+  groups : List (List HeldLine)
+  turn : (front : List (List HeldLine)) → AreInTurn e (front ++ old) → AreInTurn e (front ++ groups)
+  bytes : groups_bytes groups ≡ body
+  sound : OfTexts HoldsNoBackslash texts → are_sound old → are_sound groups
+  changed : are_sound old → are_sound groups → AreCommentsChanged (keys_of texts) (contents_in old) (contents_in groups)
+
+none-rest : (key : List ℕ) (ss : List Section) (last tail : List (List HeldLine)) → (NoneHasKey key last → NoneHasKey key tail) → NoneHasKey key (groups_of ss last)
+    → NoneHasKey key (groups_of ss tail)
+none-rest key [] last tail k h = k h
+none-rest key (s ∷ ss) last tail k h = behind s.run (none-rest key ss last tail k) h
+  where
+    behind : (run : List (List HeldLine)) → (NoneHasKey key (groups_of ss last) → NoneHasKey key (groups_of ss tail))
+        → NoneHasKey key (run ++ s.group ∷ groups_of ss last) → NoneHasKey key (run ++ s.group ∷ groups_of ss tail)
+    behind [] rest h = (h.0, rest h.1)
+    behind (g ∷ run) rest h = (h.0, behind run rest h.1)
+
+ended-last : (e : Encoding) (fs gs : List (List HeldLine)) → AreEnded e (fs ++ gs) → AreEnded e gs
+ended-last e [] gs k = k
+ended-last e (f ∷ fs) gs k = ended-last e fs gs k.1
+
+contents-split : (run : List (List HeldLine)) (g : List HeldLine) (gs : List (List HeldLine))
+    → contents_in (run ++ g ∷ gs) ≡ contents_in (run ++ g ∷ []) ++ contents_in gs
+contents-split run g gs = ap contents_in (sym (append_assoc run (g ∷ []) gs)) ∙ contents-join (run ++ g ∷ []) gs
+
+sound-behind_group : (run : List (List HeldLine)) (g : List HeldLine) (gs : List (List HeldLine)) → are_sound (run ++ g ∷ gs)
+    → IsSoundLine (joined (as_lines g)) × are_sound gs
+sound-behind_group run g gs k = sound-step (joined (as_lines g)) (lines_of gs) (sound-rest run (g ∷ gs) k)
+
+-- One section more.
+with-run : {e : Encoding} {texts : List NewText} {old : List (List HeldLine)} {text head more body : List ℕ} (s : Section) (m : AreNewGroups e texts old more)
+    (n : IsNewRun e s.run text head) → (OfTexts HoldsNoBackslash texts → HoldsNoBackslash text) → body ≡ (head ++ group_bytes s.group) ++ more
+    → (are_sound (s.run ++ s.group ∷ old) → are_sound (n.new ++ s.group ∷ m.groups)
+    → AreCommentsChanged (keys_of texts) (contents_in (s.run ++ s.group ∷ old)) (contents_in (n.new ++ s.group ∷ m.groups)))
+    → AreNewGroups e texts (s.run ++ s.group ∷ old) body
+with-run {e} {old = old} {head = head} {more} s m n clean whole changed = record {
+  groups = n.new ++ s.group ∷ m.groups;
+  turn = λ front k.
+      let parts = turn-parts e (front ++ s.run) s.group old (subst (AreInTurn e) (sym (append_assoc front s.run (s.group ∷ old))) k) in
+      turn-join e front (n.new ++ s.group ∷ m.groups) (ended-first e front s.run parts.0)
+      (turn-join e n.new (s.group ∷ m.groups) (n.ended (ended-last e front s.run parts.0)) (m.turn (s.group ∷ []) parts.1));
+  bytes = groups_bytes-append n.new (s.group ∷ m.groups)
+      ∙ ap₂ (λ v w. v ++ w) n.bytes (ap (λ w. group_bytes s.group ++ w) m.bytes)
+      ∙ sym (append_assoc head (group_bytes s.group) more)
+      ∙ sym whole;
+  sound = λ c k.
+      let q = sound-behind_group s.run s.group old k in
+      n.clean (clean c) (s.group ∷ old) (s.group ∷ m.groups) k (sound-kept (joined (as_lines s.group)) (lines_of m.groups) q.0 (m.sound c q.1));
+  changed = changed;
+}
+
+-- It stays,
+run-kept : {e : Encoding} {texts : List NewText} {old : List (List HeldLine)} {more body : List ℕ} (s : Section) → AreCommentGroups s.run
+    → AreNewGroups e texts old more → body ≡ (groups_bytes s.run ++ group_bytes s.group) ++ more → AreNewGroups e texts (s.run ++ s.group ∷ old) body
+run-kept {e} {texts} {old} s c m whole =
+    let n : IsNewRun e s.run [] (groups_bytes s.run) = record {
+      new = s.run;
+      comments = c;
+      ended = λ k. k;
+      bytes = refl;
+      clean = λ n old more sound k. sound-run s.run old more sound k;
+    } in
+    with-run s m n (λ k. tt) whole (λ k q.
+    let rest = m.changed (sound-behind_group s.run s.group old k).1 (sound-behind_group s.run s.group m.groups q).1 in
+    subst (λ w. AreCommentsChanged (keys_of texts) w (contents_in (s.run ++ s.group ∷ m.groups))) (sym (contents-split s.run s.group old))
+    (subst (AreCommentsChanged (keys_of texts) (contents_in (s.run ++ s.group ∷ []) ++ contents_in old)) (sym (contents-split s.run s.group m.groups))
+    (changed-behind (keys_of texts) (contents_in (s.run ++ s.group ∷ [])) (contents_in old) (contents_in m.groups) rest)))
+
+-- or its pair is the last with a key.
+run-changed : {e : Encoding} {texts : List NewText} {old : List (List HeldLine)} {text head more body : List ℕ} (s : Section) (key : List ℕ) → AreCommentGroups s.run
+    → HasKey key s.group → NoneHasKey key old → is_among (keys_of texts) key ≡ true → (OfTexts HoldsNoBackslash texts → HoldsNoBackslash text)
+    → AreNewGroups e texts old more → IsNewRun e s.run text head → body ≡ (head ++ group_bytes s.group) ++ more → AreNewGroups e texts (s.run ++ s.group ∷ old) body
+run-changed {texts = texts} {old} s key c (value, has) none among clean m n whole =
+    with-run s m n clean whole (λ k q.
+    let rest = m.changed (sound-behind_group s.run s.group old k).1 (sound-behind_group n.new s.group m.groups q).1 in
+    let was = comments-said s.run (s.group ∷ old) c k in
+    let now = comments-said n.new (s.group ∷ m.groups) n.comments q in
+    record {
+      changes = record { kept = []; old_texts = was.0; new_texts = now.0; key = key; value = value } ∷ rest.changes;
+      last = rest.last;
+      was = contents-join s.run (s.group ∷ old) ∙ ap₂ (λ v w. v ++ w) was.1 (pair-said key value s.group old has ∙ ap (λ w. pair key value ∷ w) rest.was);
+      now = contents-join n.new (s.group ∷ m.groups)
+          ∙ ap₂ (λ v w. v ++ w) now.1 (pair-said key value s.group m.groups has ∙ ap (λ w. pair key value ∷ w) rest.now);
+      are_last = (among, subst (HoldNoPair key) rest.was (hold-none key (lines_of old) (none-lines key old none)), rest.are_last);
+    })
+
+module _ (r : Repertoire) (ok : is_editable r.encoding ≡ true) (other : List ℕ) (o : (by : LineEnding) × (other ≡ line_ending_text by)) (texts : List NewText)
+    (scalars : OfTexts (All scalar) texts) where
+  new-groups : (ss : List Section) (last tail : List (List HeldLine)) (body : List ℕ) → AreSections ss → groups_bytes tail ≡ groups_bytes last
+      → ((key : List ℕ) → NoneHasKey key last → NoneHasKey key tail) → AreMadeOf (IsCommented r other texts) ss last body
+      → AreNewGroups r.encoding texts (groups_of ss tail) body
+  new-groups [] last tail body a same none h = record {
+    groups = tail;
+    turn = λ front k. k;
+    bytes = same ∙ sym h;
+    sound = λ n k. k;
+    changed = λ k m. record { changes = []; last = contents_in tail; was = refl; now = refl; are_last = tt };
+  }
+  new-groups (s ∷ ss) last tail body a same none (made, more, (head, inl (text, l, lines), is), whole, h) =
+      let m = new-groups ss last tail more a.2 same none h in
+      let holds = text-of (All scalar) texts l.key text scalars l.is_text in
+      run-changed s l.key a.0 l.has_key (none-rest l.key ss last tail (none l.key) l.no_later) holds.1
+      (λ c. (text-of HoldsNoBackslash texts l.key text c l.is_text).0) m (new-run r ok other o s text head holds.0 a.0 lines)
+      (whole ∙ ap (λ w. w ++ more) is)
+  new-groups (s ∷ ss) last tail body a same none (made, more, (head, inr (other, kept), is), whole, h) =
+      let m = new-groups ss last tail more a.2 same none h in
+      run-kept s a.0 m (whole ∙ ap (λ w. w ++ more) (is ∙ ap (λ w. w ++ group_bytes s.group) kept))
+
+-- The groups of a source and of the result.
+record AreCommented (e : Encoding) (source : List ℕ) (texts : List NewText) (result : List ℕ) : Type 0 where
+  old : List (List HeldLine)
+  new : List (List HeldLine)
+  own : old ≡ held_groups_of (byte_order_mark e source).encoding (byte_order_mark e source).body
+  sound : OfTexts HoldsNoBackslash texts → are_sound old → are_sound new
+  changed : are_sound old → are_sound new → AreCommentsChanged (keys_of texts) (contents_in old) (contents_in new)
+  in_force : (byte_order_mark e result).encoding ≡ (byte_order_mark e source).encoding
+  lines : logical_lines_of e result ≡ lines_of new
+
+commented : (r : Repertoire) (source : List ℕ) (texts : List NewText) (result : List ℕ) → is_editable (byte_order_mark r.encoding source).encoding ≡ true
+    → OfTexts (All scalar) texts → AreCommentsSet r source texts result → AreCommented r.encoding source texts result
+commented r source texts result ok scalars h =
+    let f = byte_order_mark r.encoding source in
+    let all = h.held.all in
+    let turn = in-turn f.encoding f.body all ok h.held.division in
+    let rest = has-rest f.encoding all turn in
+    let tail = h.last ++ rest.rest in
+    let same : all ≡ groups_of h.sections tail =
+    rest.whole ∙ ap (λ w. w ++ rest.rest) (sym h.held.are ∙ h.divided.division) ∙ sym (groups-append h.sections h.last rest.rest) in
+    let m = new-groups (repertoire_in_force r source) ok (ending_in h.groups) (ending_among lf (held_in h.groups), refl) texts scalars h.sections h.last tail h.body
+    h.divided.are_sections
+    (groups_bytes-append h.last rest.rest ∙ ap (λ w. groups_bytes h.last ++ w) rest.no_bytes ∙ append-nil (groups_bytes h.last))
+    (λ key none. none-both key h.last rest.rest none (rest.no_keys key)) h.set in
+    let guard = not (begins_like_bom source) && begins_like_bom h.body in
+    let slots = guard-slots f.encoding guard h.body m.groups (record { turn = m.turn [] (subst (AreInTurn f.encoding) same turn); bytes = m.bytes }) in
+    let force = ap (byte_order_mark r.encoding) h.whole
+    ∙ stays_in_force r.encoding source (guarding_lf source h.body ++ h.body) ok (λ k. unmarked source h.body k) in
+    record {
+      old = groups_of h.sections tail;
+      new = m.groups;
+      own = sym same ∙ held_groups_of-only f.encoding f.body all h.held.division;
+      sound = m.sound;
+      changed = m.changed;
+      in_force = ap (λ w. let f : InForce = w in f.encoding) force;
+      lines = ap (λ w. let f : InForce = w in lines_of (held_groups_of f.encoding f.body)) force
+          ∙ slots-lines f.encoding (guarding_lf source h.body ++ h.body) (guarded f.encoding guard m.groups) ok slots
+          ∙ guarded-lines f.encoding guard m.groups;
+    }
 
 -- ---- contents
 
--- The comments above the pair are others, if no entry is malformed.
-pub comment-contents : (r : Repertoire) (source key text : List ℕ) → SettingTheCommentKeepsTheRest r source key text
-comment-contents r source key text scalars result h before sound =
-    let k = commented r source key text result sound.editable scalars h in
+-- The comments above the pairs are others, if no entry is malformed.
+pub comment-contents : (r : Repertoire) (source : List ℕ) (texts : List NewText) → SettingCommentsKeepsTheRest r source texts
+comment-contents r source texts scalars result h before sound =
+    let k = commented r source texts result sound.editable scalars h in
     let was = items_of-only r.encoding source end before sound.items in
     let old = source-sound r.encoding source (rw was at sound.sound) in
-    let old_lines : logical_lines_of r.encoding source ≡ lines_of (k.before ++ (k.run ++ k.group ∷ k.more)) = ap lines_of (sym k.own) in (
+    let old_lines : logical_lines_of r.encoding source ≡ lines_of k.old = ap lines_of (sym k.own) in (
       k.in_force,
       λ after items good.
           let now = items_of-only r.encoding result end after items in
           let new = source-sound r.encoding result (rw now at good) in
-          let run = comments-said k.run (k.group ∷ k.more) k.run_comments
-          (sound-rest k.before (k.run ++ k.group ∷ k.more) (subst (OfEach IsSoundLine) old_lines old.0)) in
-          let others = comments-said k.new (k.group ∷ k.more) k.new_comments
-          (sound-rest k.before (k.new ++ k.group ∷ k.more) (subst (OfEach IsSoundLine) k.lines new.0)) in
-          let tail = pair-said key k.has_key.0 k.group k.more k.has_key.1 in
-          record {
-            before = contents_in k.before;
-            old_texts = run.0;
-            new_texts = others.0;
-            value = k.has_key.0;
-            after = contents_in k.more;
-            was = ap contents was ∙ old.1 ∙ ap (contents_among true) old_lines
-                ∙ contents-join k.before (k.run ++ k.group ∷ k.more)
-                ∙ ap (λ w. contents_in k.before ++ w) (contents-join k.run (k.group ∷ k.more) ∙ ap₂ (λ v w. v ++ w) run.1 tail);
-            no_later = hold-none key (lines_of k.more) (none-lines key k.more k.no_later);
-            now = ap contents now ∙ new.1 ∙ ap (contents_among true) k.lines
-                ∙ contents-join k.before (k.new ++ k.group ∷ k.more)
-                ∙ ap (λ w. contents_in k.before ++ w) (contents-join k.new (k.group ∷ k.more) ∙ ap₂ (λ v w. v ++ w) others.1 tail);
-          },
+          subst (λ w. AreCommentsChanged (keys_of texts) w (contents after)) (sym (ap contents was ∙ old.1 ∙ ap (contents_among true) old_lines))
+          (subst (AreCommentsChanged (keys_of texts) (contents_in k.old)) (sym (ap contents now ∙ new.1 ∙ ap (contents_among true) k.lines))
+          (k.changed (subst (OfEach IsSoundLine) old_lines old.0) (subst (OfEach IsSoundLine) k.lines new.0))),
     )
 
--- If the text holds no backslash, none is.
-pub comment-sound : (r : Repertoire) (source key text : List ℕ) → SettingAPlainCommentBreaksNothing r source key text
-comment-sound r source key text scalars none result h before after sound items =
-    let k = commented r source key text result sound.editable scalars h in
+-- If no text holds a backslash, none is.
+pub comment-sound : (r : Repertoire) (source : List ℕ) (texts : List NewText) → SettingPlainCommentsBreaksNothing r source texts
+comment-sound r source texts scalars none result h before after sound items =
+    let k = commented r source texts result sound.editable scalars h in
     let was = items_of-only r.encoding source end before sound.items in
     let old = subst (OfEach IsSoundLine) (ap lines_of (sym k.own)) (source-sound r.encoding source (rw was at sound.sound)).0 in
-    let new = sound-behind k.before (k.run ++ k.group ∷ k.more) (k.new ++ k.group ∷ k.more) (k.clean none) old in
-    subst AreItems (sym (items_of-only r.encoding result end after items)) (sound-source r.encoding result (subst (OfEach IsSoundLine) (sym k.lines) new))
+    subst AreItems (sym (items_of-only r.encoding result end after items))
+    (sound-source r.encoding result (subst (OfEach IsSoundLine) (sym k.lines) (k.sound none old)))
 
 -- ---- the map
 
@@ -544,100 +654,135 @@ value-comments : (key : List ℕ) (texts : List (List ℕ)) (cs : List Content) 
 value-comments key [] cs = refl
 value-comments key (text ∷ texts) cs = first-none (value_among (map comment texts ++ cs) key) ∙ value-comments key texts cs
 
-value-changed : (key : List ℕ) (old new : List Content) (k : List ℕ) → IsCommentChanged key old new → value_among new k ≡ value_among old k
-value-changed key old new k h =
-    ap (λ c. value_among c k) h.now ∙ same h.before ∙ sym (ap (λ c. value_among c k) h.was)
-  where
-    same : (cs : List Content)
-        → value_among (cs ++ (map comment h.new_texts ++ pair key h.value ∷ h.after)) k
-        ≡ value_among (cs ++ (map comment h.old_texts ++ pair key h.value ∷ h.after)) k
-    same [] = value-comments k h.new_texts (pair key h.value ∷ h.after) ∙ sym (value-comments k h.old_texts (pair key h.value ∷ h.after))
-    same (c ∷ cs) = ap (λ v. first_value v (value_of c k)) (same cs)
+value-behind : (k : List ℕ) (front old new : List Content) → value_among new k ≡ value_among old k → value_among (front ++ new) k ≡ value_among (front ++ old) k
+value-behind k [] old new h = h
+value-behind k (c ∷ front) old new h = ap (λ v. first_value v (value_of c k)) (value-behind k front old new h)
+
+value-changed : (k : List ℕ) (cs : List ChangedComment) (last : List Content)
+    → value_among (with_new_comments cs last) k ≡ value_among (with_old_comments cs last) k
+value-changed k [] last = refl
+value-changed k (c ∷ cs) last =
+    let old = pair c.key c.value ∷ with_old_comments cs last in
+    let new = pair c.key c.value ∷ with_new_comments cs last in
+    value-behind k c.kept (map comment c.old_texts ++ old) (map comment c.new_texts ++ new)
+    (value-comments k c.new_texts new
+    ∙ ap (λ v. first_value v (value_of (pair c.key c.value) k)) (value-changed k cs last)
+    ∙ sym (value-comments k c.old_texts old))
 
 -- Every key keeps its value.
-pub comment-map : (r : Repertoire) (source key text : List ℕ) → SettingTheCommentKeepsTheMap r source key text
-comment-map r source key text scalars result h before after sound items good value_at m k =
-    let changed = (comment-contents r source key text scalars result h before sound).1 after items good in
+pub comment-map : (r : Repertoire) (source : List ℕ) (texts : List NewText) → SettingCommentsKeepsTheMap r source texts
+comment-map r source texts scalars result h before after sound items good value_at m k =
+    let changed = (comment-contents r source texts scalars result h before sound).1 after items good in
     let now : value_in after k ≡ value_at k =
     value-contents after k
-    ∙ value-changed key (contents before) (contents after) k changed
+    ∙ ap (λ c. value_among c k) changed.now
+    ∙ value-changed k changed.changes changed.last
+    ∙ sym (ap (λ c. value_among c k) changed.was)
     ∙ sym (value-contents before k)
     ∙ sym (map-only before value_at m k) in
     rw now at (value_in-meets after k)
 
--- ---- a key removed with its comments
+-- ---- keys removed with their comments
+
+-- The bytes are those of some groups: pairs with the keys, and perhaps comment lines, are left out.
+abbrev AreSome : List (List ℕ) → List (List HeldLine) → List ℕ → Type 0
+AreSome keys [] rest = rest ≡ []
+AreSome keys (g ∷ gs) rest =
+    (HasOneOf keys g ⊎ IsCommentGroup g) × AreSome keys gs rest
+    ⊎ ¬ (HasOneOf keys g) × (more : List ℕ) × (rest ≡ group_bytes g ++ more) × AreSome keys gs more
+
+comment-other : (keys : List (List ℕ)) (g : List HeldLine) → IsCommentGroup g → ¬ (HasOneOf keys g)
+comment-other keys g c (key, among, has) = comment-no_key key g c has
+
+some-run : (keys : List (List ℕ)) (run gs : List (List HeldLine)) (rest : List ℕ) → AreCommentGroups run → AreSome keys gs rest → AreSome keys (run ++ gs) rest
+some-run keys [] gs rest c h = h
+some-run keys (g ∷ run) gs rest c h = inl (inr c.0, some-run keys run gs rest c.1 h)
+
+kept-run : (keys : List (List ℕ)) (run gs : List (List HeldLine)) (rest : List ℕ) → AreCommentGroups run → AreSome keys gs rest
+    → AreSome keys (run ++ gs) (groups_bytes run ++ rest)
+kept-run keys [] gs rest c h = h
+kept-run keys (g ∷ run) gs rest c h =
+    inr (comment-other keys g c.0, groups_bytes run ++ rest, append_assoc (group_bytes g) (groups_bytes run) rest, kept-run keys run gs rest c.1 h)
+
+are-some : (keys : List (List ℕ)) (ss : List Section) (last : List (List HeldLine)) (rest : List ℕ) → AreSections ss → AreCommentGroups last
+    → AreMadeOf (IsLeftOf keys) ss last rest → AreSome keys (groups_of ss last) rest
+are-some keys [] last rest a c h =
+    subst (λ gs. AreSome keys gs rest) (append-nil last) (subst (AreSome keys (last ++ [])) (append-nil (groups_bytes last) ∙ sym h) (kept-run keys last [] [] c refl))
+are-some keys (s ∷ ss) last rest a c (made, more, inl (has, none), whole, h) =
+    some-run keys s.run (s.group ∷ groups_of ss last) rest a.0
+    (inl (inl has, subst (AreSome keys (groups_of ss last)) (sym (whole ∙ ap (λ w. w ++ more) none)) (are-some keys ss last more a.2 c h)))
+are-some keys (s ∷ ss) last rest a c (made, more, inr (other, is), whole, h) =
+    subst (AreSome keys (s.run ++ s.group ∷ groups_of ss last))
+    (sym (whole ∙ ap (λ w. w ++ more) is ∙ append_assoc (groups_bytes s.run) (group_bytes s.group) more))
+    (kept-run keys s.run (s.group ∷ groups_of ss last) (group_bytes s.group ++ more) a.0 (inr (other, more, refl, are-some keys ss last more a.2 c h)))
 
 -- The groups that are left, and what they say.
-record AreLeft (e : Encoding) (key : List ℕ) (gs : List (List HeldLine)) (rest : List ℕ) : Type 0 where
+record AreLeft (e : Encoding) (keys : List (List ℕ)) (gs : List (List HeldLine)) (rest : List ℕ) : Type 0 where
   groups : List (List HeldLine)
   turn : AreInTurn e groups
   bytes : groups_bytes groups ≡ rest
-  left : are_sound gs → are_sound groups × AreOthersIn key (contents_in gs) (contents_in groups)
+  left : are_sound gs → are_sound groups × AreOthersIn keys (contents_in gs) (contents_in groups)
 
-left-kept : (key : List ℕ) (o : Outcome) (cs ds : List Content) → ((value : List ℕ) → o ≡ given (pair key value) → ⊥) → AreOthersIn key cs ds
-    → AreOthersIn key (content_before o true cs) (content_before o true ds)
-left-kept key ignored cs ds n k = k
-left-kept key (given (comment text)) cs ds n k = inr (ds, refl, k)
-left-kept key (given (pair other value)) cs ds n k = inr ((λ s. n value (ap (λ w. given (pair w value)) s)), ds, refl, k)
-left-kept key (broken kind) cs ds n k = k
+left-kept : (keys : List (List ℕ)) (o : Outcome) (cs ds : List Content) → ((name value : List ℕ) → o ≡ given (pair name value) → is_among keys name ≡ false) → AreOthersIn keys cs ds
+    → AreOthersIn keys (content_before o true cs) (content_before o true ds)
+left-kept keys ignored cs ds n k = k
+left-kept keys (given (comment text)) cs ds n k = inr (ds, refl, k)
+left-kept keys (given (pair other value)) cs ds n k = inr (n other value refl, ds, refl, k)
+left-kept keys (broken kind) cs ds n k = k
 
--- A group that leads to no pair with the key stays,
-group-kept : (e : Encoding) (key : List ℕ) (g : List HeldLine) (gs hs : List (List HeldLine)) → ¬ (HasKey key g)
-    → (are_sound gs → are_sound hs × AreOthersIn key (contents_in gs) (contents_in hs))
-    → are_sound (g ∷ gs) → are_sound (g ∷ hs) × AreOthersIn key (contents_in (g ∷ gs)) (contents_in (g ∷ hs))
-group-kept e key g gs hs n k sound =
+-- A group that is no pair with a key stays,
+group-kept : (e : Encoding) (keys : List (List ℕ)) (g : List HeldLine) (gs hs : List (List HeldLine)) → ¬ (HasOneOf keys g)
+    → (are_sound gs → are_sound hs × AreOthersIn keys (contents_in gs) (contents_in hs))
+    → are_sound (g ∷ gs) → are_sound (g ∷ hs) × AreOthersIn keys (contents_in (g ∷ gs)) (contents_in (g ∷ hs))
+group-kept e keys g gs hs n k sound =
     let x = joined (as_lines g) in
+    let free : (name value : List ℕ) → outcome_of x ≡ given (pair name value) → is_among keys name ≡ false =
+    λ name value q. elim (cases_Bool (is_among keys name)) [
+      | inl among ↦ absurd (n (name, among, (value, rw q at (outcome_of-meets x))))
+      | inr other ↦ other
+    ] in
     let s = sound-step x (lines_of gs) sound in
     let m = k s.1 in (
       sound-kept x (lines_of hs) s.0 m.0,
-      subst (λ w. AreOthersIn key w (contents_in (g ∷ hs))) (sym (with-content x (lines_of gs)))
-          (subst (AreOthersIn key (content_before (outcome_of x) true (contents_in gs))) (sym (with-content x (lines_of hs)))
-          (left-kept key (outcome_of x) (contents_in gs) (contents_in hs) (λ value q. n (value, rw q at (outcome_of-meets x))) m.1)),
+      subst (λ w. AreOthersIn keys w (contents_in (g ∷ hs))) (sym (with-content x (lines_of gs)))
+          (subst (AreOthersIn keys (content_before (outcome_of x) true (contents_in gs))) (sym (with-content x (lines_of hs)))
+          (left-kept keys (outcome_of x) (contents_in gs) (contents_in hs) free m.1)),
     )
 
 -- and another is left out.
-group-left : (key : List ℕ) (g : List HeldLine) (gs hs : List (List HeldLine)) → HasKey key g ⊎ IsCommentGroup g
-    → (are_sound gs → are_sound hs × AreOthersIn key (contents_in gs) (contents_in hs))
-    → are_sound (g ∷ gs) → are_sound hs × AreOthersIn key (contents_in (g ∷ gs)) (contents_in hs)
-group-left key g gs hs (inl (value, has)) k sound =
+group-left : (keys : List (List ℕ)) (g : List HeldLine) (gs hs : List (List HeldLine)) → HasOneOf keys g ⊎ IsCommentGroup g
+    → (are_sound gs → are_sound hs × AreOthersIn keys (contents_in gs) (contents_in hs))
+    → are_sound (g ∷ gs) → are_sound hs × AreOthersIn keys (contents_in (g ∷ gs)) (contents_in hs)
+group-left keys g gs hs (inl (key, among, (value, has))) k sound =
     let m = k (sound-step (joined (as_lines g)) (lines_of gs) sound).1 in
-    (m.0, subst (λ w. AreOthersIn key w (contents_in hs)) (sym (pair-said key value g gs has)) (inl (refl, m.1)))
-group-left key g gs hs (inr c) k sound =
+    (m.0, subst (λ w. AreOthersIn keys w (contents_in hs)) (sym (pair-said key value g gs has)) (inl (among, m.1)))
+group-left keys g gs hs (inr c) k sound =
     let m = k (sound-step (joined (as_lines g)) (lines_of gs) sound).1 in
     let t = comments-said (g ∷ []) gs (c, tt) sound in
-    (m.0, subst (λ w. AreOthersIn key w (contents_in hs)) (sym (contents-join (g ∷ []) gs ∙ ap (λ w. w ++ contents_in gs) t.1)) (all-left t.0 m.1))
+    (m.0, subst (λ w. AreOthersIn keys w (contents_in hs)) (sym (contents-join (g ∷ []) gs ∙ ap (λ w. w ++ contents_in gs) t.1)) (all-left t.0 m.1))
   where
-    all-left : (texts : List (List ℕ)) → AreOthersIn key (contents_in gs) (contents_in hs)
-        → AreOthersIn key (map comment texts ++ contents_in gs) (contents_in hs)
+    all-left : (texts : List (List ℕ)) → AreOthersIn keys (contents_in gs) (contents_in hs)
+        → AreOthersIn keys (map comment texts ++ contents_in gs) (contents_in hs)
     all-left [] k = k
     all-left (text ∷ texts) k = inl (all-left texts k)
-
-leads-first : (key : List ℕ) (g : List HeldLine) (gs : List (List HeldLine)) → HasKey key g → LeadTo key (g ∷ gs)
-leads-first key g gs h = record { run = []; group = g; after = gs; division = refl; are_comments = tt; has_key = h }
-
-led : (key : List ℕ) (g : List HeldLine) (gs : List (List HeldLine)) → LeadTo key (g ∷ gs) → HasKey key g ⊎ IsCommentGroup g
-led key g gs h = elim (lead-next key g gs h) [
-  | inl k ↦ inl k
-  | inr k ↦ inr k.0
-]
 
 empty-lines : (e : Encoding) → lines_of ((no_line e ∷ []) ∷ []) ≡ []
 empty-lines e = rw (decoded-nil e, outcome-empty) refl
 
 -- Nothing is left of a last group.
-nothing-left : (e : Encoding) (key : List ℕ) (g : List HeldLine) (rest : List ℕ) → rest ≡ [] → HasKey key g ⊎ IsCommentGroup g → AreLeft e key (g ∷ []) rest
-nothing-left e key g rest none h = record {
+nothing-left : (e : Encoding) (keys : List (List ℕ)) (g : List HeldLine) (rest : List ℕ) → rest ≡ [] → HasOneOf keys g ⊎ IsCommentGroup g → AreLeft e keys (g ∷ []) rest
+nothing-left e keys g rest none h = record {
   groups = (no_line e ∷ []) ∷ [];
   turn = last-empty e;
   bytes = sym none;
-  left = group-left key g [] ((no_line e ∷ []) ∷ []) h
+  left = group-left keys g [] ((no_line e ∷ []) ∷ []) h
       (λ sound. (subst (OfEach IsSoundLine) (sym (empty-lines e)) tt, ap (contents_among true) (empty-lines e)));
 }
 
-left-groups : (e : Encoding) (key : List ℕ) (gs : List (List HeldLine)) (rest : List ℕ) → AreInTurn e gs → AreOthers key (with_bytes gs) rest
-    → AreLeft e key gs rest
-left-groups e key [] rest a h = absurd a
-left-groups e key (g ∷ []) rest a h = elim (cases_Bool (is_empty (group_bytes g))) [
+left-groups : (e : Encoding) (keys : List (List ℕ)) (gs : List (List HeldLine)) (rest : List ℕ) → AreInTurn e gs → AreSome keys (with_bytes gs) rest
+    → AreLeft e keys gs rest
+left-groups e keys [] rest a h = absurd a
+left-groups e keys (g ∷ []) rest a h = elim (cases_Bool (is_empty (group_bytes g))) [
   | inl k ↦
       let none : rest ≡ [] = rw k at h in
       let no_bytes : group_bytes g ≡ [] = is-nil (group_bytes g) k in
@@ -645,39 +790,40 @@ left-groups e key (g ∷ []) rest a h = elim (cases_Bool (is_empty (group_bytes 
         groups = g ∷ [];
         turn = a;
         bytes = append-nil (group_bytes g) ∙ no_bytes ∙ sym none;
-        left = group-kept e key g [] [] (no-bytes e None key g a.0 k) (λ sound. (tt, refl));
+        left = group-kept e keys g [] [] (λ n. no-bytes e None n.0 g a.0 k n.2) (λ sound. (tt, refl));
       }
   | inr k ↦ one (rw k at h)
 ]
   where
-    one : AreOthers key (g ∷ []) rest → AreLeft e key (g ∷ []) rest
-    one (inl (lead, none)) = nothing-left e key g rest none (led key g [] lead)
+    one : AreSome keys (g ∷ []) rest → AreLeft e keys (g ∷ []) rest
+    one (inl (some, none)) = nothing-left e keys g rest none some
     one (inr (other, more, is, none)) = record {
       groups = g ∷ [];
       turn = a;
       bytes = ap (λ w. group_bytes g ++ w) (sym none) ∙ sym is;
-      left = group-kept e key g [] [] (λ h. other (leads-first key g [] h)) (λ sound. (tt, refl));
+      left = group-kept e keys g [] [] other (λ sound. (tt, refl));
     }
-left-groups e key (g ∷ k ∷ gs) rest a (inl (lead, others)) =
-    let m = left-groups e key (k ∷ gs) rest a.1 others in
-    record { groups = m.groups; turn = m.turn; bytes = m.bytes; left = group-left key g (k ∷ gs) m.groups (led key g (with_bytes (k ∷ gs)) lead) m.left }
-left-groups e key (g ∷ k ∷ gs) rest a (inr (other, more, is, others)) =
-    let m = left-groups e key (k ∷ gs) more a.1 others in
+left-groups e keys (g ∷ k ∷ gs) rest a (inl (some, others)) =
+    let m = left-groups e keys (k ∷ gs) rest a.1 others in
+    record { groups = m.groups; turn = m.turn; bytes = m.bytes; left = group-left keys g (k ∷ gs) m.groups some m.left }
+left-groups e keys (g ∷ k ∷ gs) rest a (inr (other, more, is, others)) =
+    let m = left-groups e keys (k ∷ gs) more a.1 others in
     record {
       groups = g ∷ m.groups;
       turn = turn-cons e g m.groups a.0 m.turn;
       bytes = ap (λ w. group_bytes g ++ w) m.bytes ∙ sym is;
-      left = group-kept e key g (k ∷ gs) m.groups (λ h. other (leads-first key g (with_bytes (k ∷ gs)) h)) m.left;
+      left = group-kept e keys g (k ∷ gs) m.groups other m.left;
     }
 
 -- No entry of the result is malformed, and its contents are the others.
-pub removed-contents : (r : Repertoire) (source key : List ℕ) → RemovingWithTheCommentKeepsTheRest r source key
-removed-contents r source key result h before sound =
+pub removed-contents : (r : Repertoire) (source : List ℕ) (keys : List (List ℕ)) → RemovingWithCommentsKeepsTheRest r source keys
+removed-contents r source keys result h before sound =
     let e = r.encoding in
     let f = byte_order_mark e source in
     let all = h.held.all in
     let turn = in-turn f.encoding f.body all sound.editable h.held.division in
-    let m = left-groups f.encoding key all h.rest turn (subst (λ gs. AreOthers key gs h.rest) h.held.are h.others) in
+    let some = are-some keys h.sections h.last h.rest h.divided.are_sections h.divided.last_comments h.others in
+    let m = left-groups f.encoding keys all h.rest turn (subst (λ gs. AreSome keys gs h.rest) (sym h.divided.division ∙ h.held.are) some) in
     let guard = not (begins_like_bom source) && begins_like_bom h.rest in
     let slots = guard-slots f.encoding guard h.rest m.groups (record { turn = m.turn; bytes = m.bytes }) in
     let force = ap (byte_order_mark e) h.whole
@@ -696,44 +842,44 @@ removed-contents r source key result h before sound =
       λ after items.
           let now = items_of-only e result end after items in (
             subst AreItems (sym now) good,
-            subst (λ w. AreOthersIn key w (contents after)) (sym (ap contents was ∙ old.1 ∙ ap (contents_among true) own))
-                (subst (AreOthersIn key (contents_in all)) (sym (ap contents now ∙ new.1 ∙ ap (contents_among true) lines)) left.1),
+            subst (λ w. AreOthersIn keys w (contents after)) (sym (ap contents was ∙ old.1 ∙ ap (contents_among true) own))
+                (subst (AreOthersIn keys (contents_in all)) (sym (ap contents now ∙ new.1 ∙ ap (contents_among true) lines)) left.1),
           ),
     )
 
--- The map is that of the source without the key.
-value-others : (key : List ℕ) (old new : List Content) (k : List ℕ) → AreOthersIn key old new
-    → value_among new k ≡ (if bytes_eq k key then None else value_among old k)
-value-others key [] new k h = rw h (sym (either (bytes_eq k key) None))
+-- The map is that of the source without the keys.
+value-others : (keys : List (List ℕ)) (old new : List Content) (k : List ℕ) → AreOthersIn keys old new
+    → value_among new k ≡ (if is_among keys k then None else value_among old k)
+value-others keys [] new k h = rw h (sym (either (is_among keys k) None))
   where
     either : (b : Bool) (o : Option (List ℕ)) → (if b then o else o) ≡ o
     either true o = refl
     either false o = refl
-value-others key (comment text ∷ cs) new k (inl h) =
-    value-others key cs new k h ∙ ap (λ v. if bytes_eq k key then None else v) (sym (first-none (value_among cs k)))
-value-others key (comment text ∷ cs) new k (inr (more, is, h)) =
+value-others keys (comment text ∷ cs) new k (inl h) =
+    value-others keys cs new k h ∙ ap (λ v. if is_among keys k then None else v) (sym (first-none (value_among cs k)))
+value-others keys (comment text ∷ cs) new k (inr (more, is, h)) =
     ap (λ w. value_among w k) is
     ∙ first-none (value_among more k)
-    ∙ value-others key cs more k h
-    ∙ ap (λ v. if bytes_eq k key then None else v) (sym (first-none (value_among cs k)))
-value-others key (pair name value ∷ cs) new k (inl (same, h)) = let m = value-others key cs new k h in elim (cases_Bool (bytes_eq k key)) [
+    ∙ value-others keys cs more k h
+    ∙ ap (λ v. if is_among keys k then None else v) (sym (first-none (value_among cs k)))
+value-others keys (pair name value ∷ cs) new k (inl (among, h)) = let m = value-others keys cs new k h in elim (cases_Bool (is_among keys k)) [
   | inl t ↦ rw t (rw t at m)
   | inr t ↦
-      let apart : bytes_eq name k ≡ false = other-test name k (λ q. let s = same-test k key (sym q ∙ same) in cc) in
+      let apart : bytes_eq name k ≡ false = other-test name k (λ q. let s = ap (is_among keys) q in cc) in
       rw (t, apart) ((rw t at m) ∙ sym (first-none (value_among cs k)))
 ]
-value-others key (pair name value ∷ cs) new k (inr (other, more, is, h)) = let m = value-others key cs more k h in elim (cases_Bool (bytes_eq k key)) [
+value-others keys (pair name value ∷ cs) new k (inr (other, more, is, h)) = let m = value-others keys cs more k h in elim (cases_Bool (is_among keys k)) [
   | inl t ↦
-      let apart : bytes_eq name k ≡ false = other-test name k (λ q. other (q ∙ (bytes_eq-Decides k key).0 t)) in
+      let apart : bytes_eq name k ≡ false = other-test name k (λ q. let s = ap (is_among keys) q in cc) in
       rw (t, is, apart) (first-none (value_among more k) ∙ (rw t at m))
   | inr t ↦ rw (t, is) (ap (λ v. first_value v (value_of (pair name value) k)) (rw t at m))
 ]
 
-pub removed-map : (r : Repertoire) (source key : List ℕ) → RemovingWithTheCommentTakesTheValue r source key
-removed-map r source key result h before after sound items value_at m k =
-    let others = ((removed-contents r source key result h before sound).1 after items).1 in
-    let now : value_in after k ≡ (if bytes_eq k key then None else value_at k) =
+pub removed-map : (r : Repertoire) (source : List ℕ) (keys : List (List ℕ)) → RemovingWithCommentsTakesTheValues r source keys
+removed-map r source keys result h before after sound items value_at m k =
+    let others = ((removed-contents r source keys result h before sound).1 after items).1 in
+    let now : value_in after k ≡ (if is_among keys k then None else value_at k) =
     value-contents after k
-    ∙ value-others key (contents before) (contents after) k others
-    ∙ ap (λ v. if bytes_eq k key then None else v) (sym (value-contents before k) ∙ sym (map-only before value_at m k)) in
+    ∙ value-others keys (contents before) (contents after) k others
+    ∙ ap (λ v. if is_among keys k then None else v) (sym (value-contents before k) ∙ sym (map-only before value_at m k)) in
     rw now at (value_in-meets after k)

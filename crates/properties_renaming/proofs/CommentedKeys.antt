@@ -1,28 +1,38 @@
--- How the pairs with a key are left out with their comment lines, group after group of a view.
+-- The sections of a view, one after another: what was copied of them, and which are left out with keys.
 use Rattle.std.proofs.Common.{inl, inr, ◌≡◌, ◌≤◌, ◌<◌, ℕ, ◌+◌, ◌-◌, Bool, true, false, List, [], ◌∷◌, ◌++◌, length, take, drop, refl, sym, ap, ap₂, ◌∙◌, subst, arith, append_assoc, append-nil, length-append}
-use Rattle.std.specs.Prelude.{◌&&◌, ◌==◌, not, if◌then◌else◌, Option, Some, None}
+use Rattle.std.specs.Prelude.{bytes_eq, is_some, ◌&&◌, ◌||◌, ◌==◌, not, if◌then◌else◌, Option, Some, None}
+use Rattle.std.specs.Map.{update}
 use Rattle.std.specs.Option.{unwrap_or}
+use Rattle.std.specs.declared.string.String.{String}
 use Rattle.std.proofs.Math.Seq.{drop-append_seam, take-append_seam}
 use Rattle.std.proofs.lemmas.Bool.{cases_Bool}
 use Rattle.std.proofs.lemmas.List.{drop-drop, length-drop}
 use Rattle.properties_format.specs.Text.{line_feed}
 use Rattle.properties_format.specs.Encoding.{Encoding, InForce, begins_like_bom, byte_order_mark}
+use Rattle.properties_format.specs.Items.{IsOutcome, Outcome, broken, given, ignored}
+use Rattle.properties_format.specs.Items as items
 use Rattle.properties_format.specs.Lines.{is_comment_line, joined}
 use Rattle.properties_format.specs.Split.{Logical, blank, comment, pair, IsSplit}
-use Rattle.properties_format.specs.Body.{HeldLine, HasKey, as_lines, group_bytes, groups_bytes}
+use Rattle.properties_format.specs.Body.{HeldLine, as_lines, group_bytes, groups_bytes, held_in}
 use Rattle.properties_format.specs.Edited.{bom_of, guarding_lf}
 use Rattle.properties_format.specs.Computed.Body.{held_groups_of}
+use Rattle.properties_format.specs.Computed.Items.{outcome_of}
 use Rattle.properties_format.proofs.Body.Groups.{groups_bytes-append, held_groups_of-only}
+use Rattle.properties_format.proofs.Items.Unique.{outcome_of-meets, outcome_of-only}
 use Rattle.properties_editing.specs.Views.{AreGiven, IsGroup, IsViewOf, OpenView, TakesNext, group_kind, viewed_line, past_group, with_bytes}
 use Rattle.properties_editing.specs.declared.group.ViewedGroup.{ViewedGroup}
 use Rattle.properties_renaming.specs.CommentLines.{AreCommentGroups, IsCommentGroup, is_comment, is_line_of_comment}
-use Rattle.properties_renaming.specs.Commented.{AreOthers, IsRemovedWithComments}
-use Rattle.properties_renaming.specs.Private.Commented.{AreOthersLeft, GivesHeaded, TakesHeaded}
-use Rattle.properties_renaming.specs.declared.comments.Headed.{Headed}
+use Rattle.properties_renaming.specs.Commented.{HasOneOf, IsLeftOf, IsRemovedWithComments}
+use Rattle.properties_renaming.specs.Renaming.{AreIn}
+use Rattle.properties_renaming.specs.Sections.{AreDivided, AreMadeOf, AreSections, Section, groups_of, is_among}
+use Rattle.properties_renaming.specs.Private.Commented.{AreListed, GivesHeaded, TakesHeaded}
 use Rattle.properties_renaming.specs.Private.Copied.{IsNew, IsReplacedIn, copied_to}
+use Rattle.properties_renaming.specs.Private.Keyed.{GivesValue, value_at, value_of}
+use Rattle.properties_renaming.specs.declared.comments.Headed.{Headed}
 use Rattle.properties_renaming.specs.declared.copied.Copied.{Copied}
-use Rattle.properties_renaming.proofs.CommentGroups.{comments-more, others-only, group-comment, group-other, line-blank, line-comment, line-pair, run-kept, run-last, run-left_out}
-use Rattle.properties_renaming.proofs.RenamedKeys.{copied-more, mark-front}
+use Rattle.properties_renaming.proofs.CommentGroups.{comments-more, group-comment, group-other, line-blank, line-comment, line-pair}
+use Rattle.properties_renaming.proofs.RenamedKeys.{copied-more, held-push, mark-front}
+use Rattle.properties_renaming.proofs.SectionedGroups.{groups-append, groups-push, one-division, one-made, sections-push}
 
 -- ---- what is told of a group
 
@@ -55,11 +65,12 @@ pub record ArePassed (v now : OpenView) (above : Option ℕ) : Type 0 where
   pub are_comments : AreCommentGroups run
   pub division : v.to_come ≡ run ++ now.to_come
   pub place : (past_group now).start ≡ (past_group v).start + length (groups_bytes run)
+  pub passed : (past_group now).passed ≡ (past_group v).passed + length (held_in run)
   pub start : (past_group v).start ≡ unwrap_or above (past_group now).start
   pub nearer : length now.to_come ≤ length v.to_come
 
 pub none-passed : (v : OpenView) → ArePassed v v None
-none-passed v = record { run = []; are_comments = tt; division = refl; place = omega arith; start = refl; nearer = omega arith }
+none-passed v = record { run = []; are_comments = tt; division = refl; place = omega arith; passed = omega arith; start = refl; nearer = omega arith }
 
 pub none-passed-run : (v : OpenView) → (none-passed v).run ≡ []
 unfolding none-passed
@@ -67,6 +78,9 @@ none-passed-run v = refl
 
 pub moved : {now next : OpenView} {group : ViewedGroup} → TakesNext now group next → next.start ≡ (past_group now).start
 moved t = ap (λ w. let o : OpenView = w in o.start) t.moves
+
+pub numbered : {now next : OpenView} {group : ViewedGroup} → TakesNext now group next → next.passed ≡ (past_group now).passed
+numbered t = ap (λ w. let o : OpenView = w in o.passed) t.moves
 
 module _ {v now next : OpenView} {above : Option ℕ} (group : ViewedGroup) (start : ℕ) where
   same-start : ArePassed v now above → TakesNext now group next → start ≡ unwrap_or above group.start → start ≡ (past_group v).start
@@ -83,6 +97,9 @@ module _ {v now next : OpenView} {above : Option ℕ} (group : ViewedGroup) (sta
       ap length bytes ∙ length-append (groups_bytes h.run) (group_bytes g) in
       let place = h.place in
       let at = moved t in
+      let numbers = h.passed in
+      let number = numbered t in
+      let lines = held-push h.run g in
       let counted : length now.to_come ≡ length (g ∷ next.to_come) = ap length t.takes in
       let nearer = h.nearer in
       record {
@@ -90,6 +107,7 @@ module _ {v now next : OpenView} {above : Option ℕ} (group : ViewedGroup) (sta
         are_comments = comments-more h.run g h.are_comments (told-comment next group t.is_group line);
         division = h.division ∙ ap (λ w. h.run ++ w) t.takes ∙ sym (append_assoc h.run (g ∷ []) next.to_come);
         place = omega arith;
+        passed = omega arith;
         start = sym (same-start h t is);
         nearer = omega arith;
       }
@@ -109,6 +127,7 @@ module _ {v now next : OpenView} {above : Option ℕ} (group : ViewedGroup) (sta
     takes = h.division ∙ ap (λ w. h.run ++ w) t.takes;
     start = same-start h t is;
     group_start = moved t ∙ h.place;
+    passed = numbered t ∙ h.passed;
     is_group = t.is_group;
   }
 
@@ -135,27 +154,38 @@ headed-none old new (Some headed) h none = absurd (none headed refl)
 
 -- ---- group after group
 
--- What was copied of the groups that a view gave so far: all but what is left out.
-pub record IsLeftTo (source key : List ℕ) (v now : OpenView) (c : Copied) : Type 0 where
+-- What was copied of the sections that a view gave so far, given what is made of a section.
+pub record IsMadeUpTo (Makes : Section → List (List HeldLine) → List ℕ → Type 0) (source : List ℕ) (v now : OpenView) (c : Copied) : Type 0 where
+  pub passed : List Section
+  pub are_sections : AreSections passed
+  pub division : v.to_come ≡ groups_of passed now.to_come
   pub rest : groups_bytes now.to_come ≡ drop (past_group now).start source
   pub within : (past_group now).start ≤ length source
+  pub number : (past_group now).passed ≡ length (held_in (groups_of passed []))
   pub source_is : c.source.now ≡ source
   pub done : c.done ≤ (past_group now).start
   pub made : List ℕ
   pub copied : copied_to c (past_group now).start ≡ take v.start source ++ made
-  pub others : (more : List ℕ) → AreOthers key now.to_come more → AreOthers key v.to_come (made ++ more)
+  pub goes_on : (ss : List Section) (last : List (List HeldLine)) (more : List ℕ) → now.to_come ≡ groups_of ss last → AreMadeOf Makes ss last more
+      → AreMadeOf Makes (passed ++ ss) last (made ++ more)
 
 -- Nothing was copied yet.
-pub none-left_out : {requested : Encoding} {source key : List ℕ} {v : OpenView} {c : Copied} → IsViewOf requested source v → IsNew source c
-    → IsLeftTo source key v v c
-none-left_out {source = source} {v = v} {c = c} h k =
+pub none-made : {Makes : Section → List (List HeldLine) → List ℕ → Type 0} {requested : Encoding} {source : List ℕ} {v : OpenView} {c : Copied}
+    → IsViewOf requested source v → IsNew source c → IsMadeUpTo Makes source v v c
+none-made {source = source} {v = v} {c = c} h k =
     let none : length (group_bytes v.group) ≡ 0 = ap (λ g. length (group_bytes g)) h.none_given in
     let place : (past_group v).start ≡ v.start = omega arith in
+    let none_given : length v.group ≡ 0 = ap length h.none_given in
+    let none_passed = h.none_passed in
     let within = h.within in
     let zero_off : v.start - 0 ≡ v.start = omega arith in
     record {
+      passed = [];
+      are_sections = tt;
+      division = refl;
       rest = h.given.together ∙ ap (λ n. drop n source) (sym place);
       within = omega arith;
+      number = omega arith;
       source_is = k.source_is;
       done = let d = k.done in omega arith;
       made = [];
@@ -163,7 +193,7 @@ none-left_out {source = source} {v = v} {c = c} h k =
           ∙ ap₂ (λ n d. take (n - d) (drop d source)) place k.done
           ∙ ap (λ n. take n source) zero_off
           ∙ sym (append-nil (take v.start source));
-      others = λ more k. k;
+      goes_on = λ ss last more is k. k;
     }
 
 -- The comment lines above a group, and the group, are a part of the source.
@@ -185,8 +215,20 @@ run-in source start all rest end within size parts =
       within = omega arith;
     }
 
-module _ {source key : List ℕ} {v now next : OpenView} {c : Copied} (headed : Headed) where
-  pub next-run : (h : IsLeftTo source key v now c) → (t : TakesHeaded now headed next)
+-- the section that was given
+abbrev pub given_section : {now next : OpenView} {headed : Headed} → TakesHeaded now headed next → Section
+given_section {next = next} t = record { run = t.run; group = next.group }
+
+held-append : (gs hs : List (List HeldLine)) → length (held_in (gs ++ hs)) ≡ length (held_in gs) + length (held_in hs)
+held-append [] hs = omega arith
+held-append (f ∷ gs) hs =
+    let more = held-append gs hs in
+    let a = length-append f (held_in (gs ++ hs)) in
+    let b = length-append f (held_in gs) in
+    omega arith
+
+module _ {Makes : Section → List (List HeldLine) → List ℕ → Type 0} {source : List ℕ} {v now next : OpenView} {c : Copied} (headed : Headed) where
+  pub next-run : (h : IsMadeUpTo Makes source v now c) → (t : TakesHeaded now headed next)
       → IsRun source (past_group now).start (groups_bytes t.run ++ group_bytes next.group) (groups_bytes next.to_come) (past_group next).start
   next-run h t =
       let sizes = length-append (groups_bytes t.run) (group_bytes next.group) in
@@ -197,60 +239,123 @@ module _ {source key : List ℕ} {v now next : OpenView} {c : Copied} (headed : 
       ∙ groups_bytes-append t.run (next.group ∷ next.to_come)
       ∙ sym (append_assoc (groups_bytes t.run) (group_bytes next.group) (groups_bytes next.to_come)))
 
-  -- The next group is a pair with the key, which is left out with the comment lines above it,
-  pub left-out : {c' : Copied} → IsLeftTo source key v now c → TakesHeaded now headed next → HasKey key next.group
-      → IsReplacedIn c headed.start headed.group.next [] c' → IsLeftTo source key v next c'
-  left-out {c'} h t has r =
+  -- the groups before it, and its line
+  pub section-line : (h : IsMadeUpTo Makes source v now c) → (t : TakesHeaded now headed next)
+      → (v.to_come ≡ (groups_of h.passed [] ++ t.run) ++ next.group ∷ next.to_come)
+      × (headed.group.line_number ≡ length (held_in (groups_of h.passed [] ++ t.run)) + 1)
+  section-line h t =
+      let numbers = h.number in
+      let counted = t.passed in
+      let number = t.is_group.line_number in
+      let sizes = held-append (groups_of h.passed []) t.run in (
+        h.division
+            ∙ ap (groups_of h.passed) t.takes
+            ∙ groups-append h.passed [] (t.run ++ next.group ∷ next.to_come)
+            ∙ sym (append_assoc (groups_of h.passed []) t.run (next.group ∷ next.to_come)),
+        omega arith,
+      )
+
+  -- This was made of the next section.
+  pub next-made : {c' : Copied} (made : List ℕ) → (h : IsMadeUpTo Makes source v now c) → (t : TakesHeaded now headed next) → c'.source.now ≡ c.source.now
+      → c'.done ≤ (past_group next).start → copied_to c' (past_group next).start ≡ copied_to c (past_group now).start ++ made
+      → Makes (given_section t) next.to_come made → IsMadeUpTo Makes source v next c'
+  next-made {c'} made h t same done copied makes =
       let span = next-run h t in
+      let s = given_section t in
+      let numbers = h.number in
+      let counted = t.passed in
+      let flat : groups_of (h.passed ++ s ∷ []) [] ≡ groups_of h.passed [] ++ (t.run ++ next.group ∷ []) =
+      groups-push h.passed s [] ∙ groups-append h.passed [] (t.run ++ next.group ∷ []) in
+      let lines : length (held_in (groups_of (h.passed ++ s ∷ []) [])) ≡ length (held_in (groups_of h.passed [])) + (length (held_in t.run) + length next.group) =
+      ap (λ gs. length (held_in gs)) flat
+      ∙ held-append (groups_of h.passed []) (t.run ++ next.group ∷ [])
+      ∙ ap (λ n. length (held_in (groups_of h.passed [])) + n) (held-push t.run next.group) in
+      record {
+        passed = h.passed ++ s ∷ [];
+        are_sections = sections-push h.passed s h.are_sections t.are_comments t.other;
+        division = h.division ∙ ap (groups_of h.passed) t.takes ∙ sym (groups-push h.passed s next.to_come);
+        rest = span.after;
+        within = span.within;
+        number = omega arith;
+        source_is = same ∙ h.source_is;
+        done = done;
+        made = h.made ++ made;
+        copied = copied ∙ ap (λ w. w ++ made) h.copied ∙ append_assoc (take v.start source) h.made made;
+        goes_on = λ ss last more is k.
+            subst (λ w. AreMadeOf Makes w last ((h.made ++ made) ++ more)) (sym (append_assoc h.passed (s ∷ []) ss))
+            (subst (AreMadeOf Makes (h.passed ++ s ∷ ss) last) (sym (append_assoc h.made made more))
+            (h.goes_on (s ∷ ss) last (made ++ more) (t.takes ∙ ap (λ w. t.run ++ next.group ∷ w) is)
+            (made, more, subst (λ w. Makes s w made) is makes, refl, k)));
+      }
+
+  -- It stays,
+  pub section-kept : (h : IsMadeUpTo Makes source v now c) → (t : TakesHeaded now headed next)
+      → Makes (given_section t) next.to_come (groups_bytes t.run ++ group_bytes next.group) → IsMadeUpTo Makes source v next c
+  section-kept h t makes =
+      let span = next-run h t in
+      let all = groups_bytes t.run ++ group_bytes next.group in
+      let done = h.done in
+      let size = span.size in
+      next-made all h t refl (omega arith)
+      (ap (copied_to c) (sym size)
+      ∙ copied-more c (past_group now).start (length all) h.done
+      ∙ ap (λ w. copied_to c (past_group now).start ++ w) (ap (λ s. take (length all) (drop (past_group now).start s)) h.source_is ∙ span.bytes))
+      makes
+
+  -- or it is left out,
+  pub section-left_out : {c' : Copied} → (h : IsMadeUpTo Makes source v now c) → (t : TakesHeaded now headed next)
+      → IsReplacedIn c headed.start headed.group.next [] c' → Makes (given_section t) next.to_come [] → IsMadeUpTo Makes source v next c'
+  section-left_out {c'} h t r makes =
       let end = (past_group next).start in
       let done : c'.done ≡ end = r.done ∙ t.is_group.next in
       let none_off : end - end ≡ 0 = omega arith in
-      record {
-        rest = span.after;
-        within = span.within;
-        source_is = r.source_is ∙ h.source_is;
-        done = omega arith;
-        made = h.made;
-        copied = ap (λ d. c'.bytes.items ++ take (end - d) (drop d c'.source.now)) done
-            ∙ ap (λ n. c'.bytes.items ++ take n (drop end c'.source.now)) none_off
-            ∙ append-nil c'.bytes.items
-            ∙ r.bytes_are
-            ∙ append-nil (copied_to c headed.start)
-            ∙ ap (copied_to c) t.start
-            ∙ h.copied;
-        others = λ more k. h.others more (subst (λ w. AreOthers key w more) (sym t.takes) (run-left_out key t.run next.group next.to_come more t.are_comments has k));
-      }
+      next-made [] h t r.source_is (omega arith)
+      (ap (λ d. c'.bytes.items ++ take (end - d) (drop d c'.source.now)) done
+      ∙ ap (λ n. c'.bytes.items ++ take n (drop end c'.source.now)) none_off
+      ∙ append-nil c'.bytes.items
+      ∙ r.bytes_are
+      ∙ ap (λ w. w ++ []) (ap (copied_to c) t.start))
+      makes
 
-  -- or another, which stays with them.
-  pub left-other : IsLeftTo source key v now c → TakesHeaded now headed next → ¬ (HasKey key next.group) → IsLeftTo source key v next c
-  left-other h t no_key =
+  -- or it has other comment lines.
+  pub section-headed : {c' : Copied} (head : List ℕ) → (h : IsMadeUpTo Makes source v now c) → (t : TakesHeaded now headed next) → c'.source.now ≡ c.source.now
+      → c'.done ≤ headed.group.start → copied_to c' headed.group.start ≡ copied_to c headed.start ++ head
+      → Makes (given_section t) next.to_come (head ++ group_bytes next.group) → IsMadeUpTo Makes source v next c'
+  section-headed {c'} head h t same done copied makes =
       let span = next-run h t in
       let run = groups_bytes t.run in
       let g = group_bytes next.group in
-      let done = h.done in
+      let place : headed.group.start ≡ (past_group now).start + length run = t.is_group.start ∙ t.group_start in
+      let start = t.is_group.start in
+      let sizes = length-append run g in
       let size = span.size in
-      record {
-        rest = span.after;
-        within = span.within;
-        source_is = h.source_is;
-        done = omega arith;
-        made = h.made ++ (run ++ g);
-        copied = ap (copied_to c) (sym size)
-            ∙ copied-more c (past_group now).start (length (run ++ g)) h.done
-            ∙ ap₂ (λ a b. a ++ b) h.copied (ap (λ s. take (length (run ++ g)) (drop (past_group now).start s)) h.source_is ∙ span.bytes)
-            ∙ append_assoc (take v.start source) h.made (run ++ g);
-        others = λ more k.
-            subst (AreOthers key v.to_come)
-            (ap (λ w. h.made ++ w) (sym (append_assoc run g more)) ∙ sym (append_assoc h.made (run ++ g) more))
-            (h.others (run ++ (g ++ more))
-            (subst (λ w. AreOthers key w (run ++ (g ++ more))) (sym t.takes)
-            (run-kept key t.run next.group next.to_come more t.are_comments t.other no_key k)));
-      }
+      let within : c'.done ≤ next.start = subst (λ n. c'.done ≤ n) start done in
+      let bytes : take (length g) (drop next.start source) ≡ g =
+      ap (λ n. take (length g) (drop n source)) t.group_start
+      ∙ ap (take (length g)) (sym (drop-drop (length run) (past_group now).start source) ∙ ap (drop (length run)) (sym h.rest
+      ∙ ap groups_bytes t.takes ∙ groups_bytes-append t.run (next.group ∷ next.to_come)) ∙ drop-append_seam run (g ++ groups_bytes next.to_come))
+      ∙ take-append_seam g (groups_bytes next.to_come) in
+      next-made (head ++ g) h t same (omega arith)
+      (copied-more c' next.start (length g) within
+      ∙ ap₂ (λ a b. a ++ b) (ap (copied_to c') (sym start) ∙ copied ∙ ap (λ n. copied_to c n ++ head) t.start)
+      (ap (λ s. take (length g) (drop next.start s)) (same ∙ h.source_is) ∙ bytes)
+      ∙ append_assoc (copied_to c (past_group now).start) head g)
+      makes
 
 -- Comment lines alone are to come.
-pub left-all : {requested : Encoding} {source key : List ℕ} {v now : OpenView} {c : Copied} (bytes : List ℕ) → IsViewOf requested source v
-    → IsLeftTo source key v now c → AreCommentGroups now.to_come → bytes ≡ copied_to c (length c.source.now) → AreOthersLeft requested source key bytes
-left-all {requested} {source} {key} {v} {now} {c} bytes o h comments is =
+pub record AreAllMadeOf (Makes : Section → List (List HeldLine) → List ℕ → Type 0) (e : Encoding) (source bytes : List ℕ) (groups : List (List HeldLine)) : Type 0 where
+  pub held : AreIn e source groups
+  pub sections : List Section
+  pub last : List (List HeldLine)
+  pub divided : AreDivided groups sections last
+  pub body : List ℕ
+  pub made : AreMadeOf Makes sections last body
+  pub whole : bytes ≡ bom_of source ++ body
+
+pub all-made : {Makes : Section → List (List HeldLine) → List ℕ → Type 0} {requested : Encoding} {source : List ℕ} {v now : OpenView} {c : Copied} (bytes : List ℕ)
+    → IsViewOf requested source v → IsMadeUpTo Makes source v now c → AreCommentGroups now.to_come → bytes ≡ copied_to c (length c.source.now)
+    → AreAllMadeOf Makes requested source bytes v.to_come
+all-made {Makes} {requested} {source} {v} {now} {c} bytes o h comments is =
     let last = groups_bytes now.to_come in
     let counted : length last ≡ length (drop (past_group now).start source) = ap length h.rest in
     let left = length-drop (past_group now).start source in
@@ -258,10 +363,12 @@ left-all {requested} {source} {key} {v} {now} {c} bytes o h comments is =
     let place : length c.source.now ≡ (past_group now).start + length last = ap length h.source_is ∙ omega arith in
     let all : take (length last) (drop (past_group now).start source) ≡ last = ap (take (length last)) (sym h.rest ∙ sym (append-nil last)) ∙ take-append_seam last [] in
     record {
-      groups = v.to_come;
       held = subst (λ w. let f : InForce = w in AreGiven f.encoding f.body v.to_come) (sym o.in_force) o.given;
-      rest = h.made ++ last;
-      others = h.others last (run-last key now.to_come comments);
+      sections = h.passed;
+      last = now.to_come;
+      divided = record { division = h.division; are_sections = h.are_sections; last_comments = comments };
+      body = h.made ++ last;
+      made = subst (λ ss. AreMadeOf Makes ss now.to_come (h.made ++ last)) (append-nil h.passed) (h.goes_on [] now.to_come last refl refl);
       whole = is
           ∙ ap (copied_to c) place
           ∙ copied-more c (past_group now).start (length last) h.done
@@ -269,6 +376,53 @@ left-all {requested} {source} {key} {v} {now} {c} bytes o h comments is =
           ∙ append_assoc (take v.start source) h.made last
           ∙ ap (λ w. w ++ (h.made ++ last)) (sym (mark-front o));
     }
+
+-- ---- keys that are left out
+
+pub none-listed : {V Y : Type 0} (listed : List (String Y × V)) → listed ≡ [] → AreListed [] listed
+none-listed listed none = λ key. ap (λ w. is_some (value_at w key)) none
+
+among-push : (keys : List (List ℕ)) (key k : List ℕ) → is_among (keys ++ key ∷ []) k ≡ (if bytes_eq key k then true else is_among keys k)
+among-push [] key k = either (bytes_eq key k)
+  where
+    either : (b : Bool) → (b || false) ≡ (if b then true else false)
+    either true = refl
+    either false = refl
+among-push (l ∷ keys) key k = ap (λ w. bytes_eq l k || w) (among-push keys key k) ∙ either (bytes_eq l k) (bytes_eq key k)
+  where
+    either : (a b : Bool) → (a || (if b then true else is_among keys k)) ≡ (if b then true else (a || is_among keys k))
+    either true true = refl
+    either true false = refl
+    either false b = refl
+
+pub one-listed : {V Y : Type 0} (keys : List (List ℕ)) (old new : List (String Y × V)) (key : List ℕ) (value : V) → AreListed keys old
+    → GivesValue old key value new → AreListed (keys ++ key ∷ []) new
+one-listed keys old new key value h gives = λ k.
+    ap is_some (gives k) ∙ of k ∙ sym (among-push keys key k)
+  where
+    of : (k : List ℕ) → is_some (update bytes_eq (value_at old) key (Some value) k) ≡ (if bytes_eq key k then true else is_among keys k)
+    of k = elim (cases_Bool (bytes_eq key k)) [
+      | inl t ↦ rw t refl
+      | inr t ↦ rw t (h k)
+    ]
+
+-- Whether the key of a group is one of a list.
+pub listed-one : {V Y : Type 0} (keys : List (List ℕ)) (listed : List (String Y × V)) (g : List HeldLine) → AreListed keys listed
+    → is_some (value_of listed (outcome_of (joined (as_lines g)))) ≡ true → HasOneOf keys g
+listed-one keys listed g h k = by (outcome_of (joined (as_lines g))) (outcome_of-meets (joined (as_lines g))) k
+  where
+    by : (o : Outcome) → IsOutcome (joined (as_lines g)) o → is_some (value_of listed o) ≡ true → HasOneOf keys g
+    by (given (items.pair key value)) m k = (key, sym (h key) ∙ k, (value, m))
+    by (given (items.comment text)) m k = absurd (cc)
+    by ignored m k = absurd (cc)
+    by (broken kind) m k = absurd (cc)
+
+pub listed-none : {V Y : Type 0} (keys : List (List ℕ)) (listed : List (String Y × V)) (g : List HeldLine) → AreListed keys listed
+    → is_some (value_of listed (outcome_of (joined (as_lines g)))) ≡ false → ¬ (HasOneOf keys g)
+listed-none keys listed g h k (key, among, (value, m)) =
+    let is = outcome_of-only (joined (as_lines g)) (given (items.pair key value)) m in
+    let some : is_some (value_at listed key) ≡ false = ap (λ o. is_some (value_of listed o)) is ∙ k in
+    absurd (let t = sym (h key) ∙ some in cc)
 
 -- ---- a line feed before what would begin like a byte order mark
 
@@ -289,19 +443,40 @@ guarded-whole source bytes body all whole is = elim (cases_Bool (begins_like_bom
       is ∙ ap (λ w. guarding_lf source w ++ w) (whole ∙ ap (λ w. w ++ body) none) ∙ sym (ap (λ w. w ++ (guarding_lf source body ++ body)) none)
 ]
 
-pub left-guarded : {e : Encoding} {source key : List ℕ} (others all : List ℕ) → AreOthersLeft e source key others → all ≡ guarding_lf source others ++ others
-    → IsRemovedWithComments e source key all
-left-guarded {e} {source} {key} others all h is =
-    record { groups = h.groups; held = h.held; rest = h.rest; others = h.others; whole = guarded-whole source others h.rest all h.whole is }
+pub removed-all : {e : Encoding} {source bytes all : List ℕ} {keys : List (List ℕ)} {groups : List (List HeldLine)}
+    → AreAllMadeOf (IsLeftOf keys) e source bytes groups → all ≡ guarding_lf source bytes ++ bytes → IsRemovedWithComments e source keys all
+removed-all {e} {source} {bytes} {all} {keys} {groups} h is = record {
+  groups = groups;
+  held = h.held;
+  sections = h.sections;
+  last = h.last;
+  divided = h.divided;
+  rest = h.body;
+  others = h.made;
+  whole = guarded-whole source bytes h.body all h.whole is;
+}
 
 -- ---- one result
 
 one-given : (e : Encoding) (body : List ℕ) (gs : List (List HeldLine)) → AreGiven e body gs → gs ≡ with_bytes (held_groups_of e body)
 one-given e body gs h = h.are ∙ ap with_bytes (held_groups_of-only e body h.all h.division)
 
-pub one-removed : (e : Encoding) (source key a b : List ℕ) → IsRemovedWithComments e source key a → IsRemovedWithComments e source key b → b ≡ a
-one-removed e source key a b h k =
-    let f = byte_order_mark e source in
-    let same : k.groups ≡ h.groups = one-given f.encoding f.body k.groups k.held ∙ sym (one-given f.encoding f.body h.groups h.held) in
-    let rest : k.rest ≡ h.rest = others-only key h.groups k.rest h.rest (subst (λ g. AreOthers key g k.rest) same k.others) h.others in
+one-left : (keys : List (List ℕ)) (s : Section) (after : List (List HeldLine)) (a b : List ℕ) → IsLeftOf keys s after a → IsLeftOf keys s after b → a ≡ b
+one-left keys s after a b (inl h) (inl k) = h.1 ∙ sym k.1
+one-left keys s after a b (inl h) (inr k) = absurd (k.0 h.0)
+one-left keys s after a b (inr h) (inl k) = absurd (h.0 k.0)
+one-left keys s after a b (inr h) (inr k) = h.1 ∙ sym k.1
+
+-- A source has the same groups always.
+pub one-groups : (e : Encoding) (source : List ℕ) (gs hs : List (List HeldLine)) → AreIn e source gs → AreIn e source hs → gs ≡ hs
+one-groups e source gs hs h k =
+    let f = byte_order_mark e source in one-given f.encoding f.body gs h ∙ sym (one-given f.encoding f.body hs k)
+
+pub one-removed : (e : Encoding) (source : List ℕ) (keys : List (List ℕ)) (a b : List ℕ) → IsRemovedWithComments e source keys a
+    → IsRemovedWithComments e source keys b → b ≡ a
+one-removed e source keys a b h k =
+    let same : k.groups ≡ h.groups = one-groups e source k.groups h.groups k.held h.held in
+    let d = one-division h.groups k.sections h.sections k.last h.last (subst (λ g. AreDivided g k.sections k.last) same k.divided) h.divided in
+    let others = subst (λ l. AreMadeOf (IsLeftOf keys) h.sections l k.rest) d.1 (subst (λ ss. AreMadeOf (IsLeftOf keys) ss k.last k.rest) d.0 k.others) in
+    let rest : k.rest ≡ h.rest = one-made (IsLeftOf keys) (one-left keys) h.sections h.last k.rest h.rest others h.others in
     k.whole ∙ ap (λ w. bom_of source ++ (guarding_lf source w ++ w)) rest ∙ sym h.whole

@@ -11,5 +11,8 @@ pub mod CommentedKeys
 pub mod CommentTexts
 pub mod TextLines
 pub mod FoundComments
+pub mod KeyedValues
+pub mod LastLines
+pub mod SectionedGroups
 pub mod NewComments
 pub mod CommentedContents

@@ -8,15 +8,15 @@ use Rattle.std.specs.Cmp.Lexicographic.{other_text, pointwise, same_text}
 use Rattle.std.specs.declared.string.String.{String}
 use Rattle.std.proofs.Math.Seq.{drop-append_seam, take-append_seam}
 use Rattle.std.proofs.lemmas.Bool.{cases_Bool}
-use Rattle.std.proofs.lemmas.List.{drop_more, length-drop, take-append-drop, take_all}
+use Rattle.std.proofs.lemmas.List.{drop_more, length-drop, length-take-le, take-append-drop, take_all}
 use Rattle.std.proofs.lemmas.Slice.Eq.{bytes_eq-Decides}
 use Rattle.std.proofs.lemmas.Str.{IsUtf8-string_bytes}
 use Rattle.properties_format.specs.Text.{LineEnding, begins, carriage_return, cr, crlf, is_blank, is_comment_sign, is_empty, lf, line_ending_text, line_feed, space, without_leading_blanks}
-use Rattle.properties_format.specs.Encoding.{Encoding, Repertoire, byte_order_mark, in_encoding, repertoire_in_force, output_encoding}
+use Rattle.properties_format.specs.Encoding.{Encoding, InForce, Repertoire, byte_order_mark, in_encoding, repertoire_in_force, output_encoding}
 use Rattle.properties_format.specs.Lines.{HoldsNoLineEnding, is_comment_line}
 use Rattle.properties_format.specs.Split.{AreBlanks}
 use Rattle.properties_format.specs.Body.{AreGroupsOf, HeldLine, ending_bytes, group_bytes, groups_bytes, held_in, last_ending}
-use Rattle.properties_format.specs.Edited.{bom_of, guarding_lf, is_editable}
+use Rattle.properties_format.specs.Edited.{is_editable}
 use Rattle.properties_format.specs.Valued.{ending_among, ending_in}
 use Rattle.properties_format.specs.Computed.Body.{unended_bytes}
 use Rattle.properties_format.specs.Computed.Cut.{decoded_line}
@@ -34,22 +34,24 @@ use Rattle.properties_items.specs.Texts.{characters}
 use Rattle.properties_items.specs.declared.line.LineEnding as item
 use Rattle.properties_items.specs.declared.line.LineEnding.TheVariants.{CR, CRLF, LF}
 use Rattle.properties_items.proofs.TextMaps.Values.{same-characters}
-use Rattle.properties_editing.specs.Views.{with_bytes}
+use Rattle.properties_editing.specs.Views.{IsViewOf, OpenView, past_group, with_bytes}
 use Rattle.properties_editing.specs.declared.group.ViewedGroup.{ViewedGroup}
 use Rattle.properties_editing.proofs.LastPairs.{at-byte, cr-last, last-by, last-none}
 use Rattle.properties_editing.proofs.PartsRead.{left-none}
 use Rattle.properties_renaming.specs.CommentLines.{AreCommentGroups, IsCommentGroup}
-use Rattle.properties_renaming.specs.Commenting.{HasNewLines, IsStyleAbove, IsStyleFor, IsStyleOfLine, LineStyle, comment_line, ending_or, gap_before}
+use Rattle.properties_renaming.specs.Commenting.{HasLines, IsStyleAbove, IsStyleFor, IsStyleOfLine, LineStyle, comment_line, ending_or, gap_before}
 use Rattle.properties_renaming.specs.Private.CommentTexts.{first_blank, without_first_blank}
-use Rattle.properties_renaming.specs.Private.Commenting.{HasFound, HoldsGroup, HoldsLine, IsGroupAt, IsLastEndingOf, IsModel, comment_in, comment_line_bytes, line_feed_after, style_in}
-use Rattle.properties_renaming.specs.Private.Copied.{IsNew, IsReplacedIn, copied_to}
+use Rattle.properties_renaming.specs.Sections.{Section, groups_of}
+use Rattle.properties_renaming.specs.Private.Commenting.{AreCommentBytes, HoldsGroup, HoldsLine, IsGroupAt, IsHeadSet, IsLastEndingOf, IsModel, IsSectionAt, TakesComment, TellsModel, comment_line_bytes, line_feed_after, style_in}
+use Rattle.properties_renaming.specs.Private.Copied.{IsReplacedIn, copied_to}
 use Rattle.properties_renaming.specs.Private.Renaming.{PrintsKeys}
 use Rattle.properties_renaming.specs.declared.commenting.Comment.{Comment}
 use Rattle.properties_renaming.specs.declared.commenting.Style.{Style}
 use Rattle.properties_renaming.specs.declared.copied.Copied.{Copied}
-use Rattle.properties_renaming.proofs.CommentedKeys.{guarded-whole}
+use Rattle.properties_renaming.proofs.CommentedKeys.{IsMadeUpTo, given_section}
 use Rattle.properties_renaming.proofs.KeyPlaces.{ascii-front}
-use Rattle.properties_renaming.proofs.RenamedKeys.{bytes-front, same-key}
+use Rattle.properties_renaming.proofs.RenamedKeys.{bytes-front, copied-more, same-key}
+use Rattle.properties_renaming.proofs.SectionedGroups.{groups-append}
 
 -- ---- the bytes of a group
 
@@ -286,12 +288,13 @@ among-given by (g ∷ h ∷ all) =
     ∙ among-given (ending_among by g) (h ∷ all)
     ∙ sym (among-append by g (held_in (h ∷ all)))
 
-pub ending-found : {e : Encoding} {source key : List ℕ} {comment : Comment} (h : HasFound e source key (Some comment)) (body ending : List ℕ)
-    → body ≡ (byte_order_mark e source).body → IsLastEndingOf body ending → ending ≡ ending_in h.groups
-ending-found {e} {source} h body ending same last =
-    let force = byte_order_mark e source in
-    last force.encoding h.held.all h.editable (subst (λ w. AreGroupsOf force.encoding w h.held.all) (sym same) h.held.division)
-    ∙ ap line_ending_text (sym (among-given lf h.held.all) ∙ ap (λ w. ending_among lf (held_in w)) (sym h.held.are))
+-- It is that of the groups of a view.
+pub ending-viewed : {e : Encoding} {source : List ℕ} {v : OpenView} → IsViewOf e source v → (body ending : List ℕ) → body ≡ (byte_order_mark e source).body
+    → IsLastEndingOf body ending → ending ≡ ending_in v.to_come
+ending-viewed {source = source} {v = v} o body ending same last =
+    let own : body ≡ drop v.start source = same ∙ ap (λ w. let f : InForce = w in f.body) o.in_force in
+    last v.encoding o.given.all o.editable (subst (λ w. AreGroupsOf v.encoding w o.given.all) (sym own) o.given.division)
+    ∙ ap line_ending_text (sym (among-given lf o.given.all) ∙ ap (λ w. ending_among lf (held_in w)) (sym o.given.are))
 
 -- ---- a comment line in bytes
 
@@ -319,86 +322,157 @@ comment-longer (c ∷ x) y h = elim (cases_Bool (is_blank c)) [
   | inr b ↦ let sign : is_comment_sign c ≡ true = rw b at h in rw b sign
 ]
 
-comment-among : (before : List (List HeldLine)) (g : List HeldLine) (after : List (List HeldLine)) → AreCommentGroups (before ++ g ∷ after) → IsCommentGroup g
-comment-among [] g after h = h.0
-comment-among (f ∷ before) g after h = comment-among before g after h.1
+line-bytes : (e : Encoding) (o : Option LineEnding) (g : List HeldLine) → is_editable e ≡ true → AreLinesBy e o g → IsCommentGroup g
+    → is_comment_line (group_bytes g) ≡ true
+line-bytes e o [] ok a c = absurd c
+line-bytes e o (l ∷ []) ok a c = comment-longer l.bytes (ending_bytes l.ending ++ []) (comment-bytes e l.text l.bytes ok (sym a.1) c)
+line-bytes e o (l ∷ k ∷ g) ok a c = absurd c
 
--- ---- what was found, in the source
+run-bytes : (e : Encoding) (body : List ℕ) (all before run : List (List HeldLine)) (g : List HeldLine) (after : List (List HeldLine)) → is_editable e ≡ true
+    → AreGroupsOf e body all → with_bytes all ≡ before ++ (run ++ g ∷ after) → AreCommentGroups run → AreCommentBytes run
+run-bytes e body all before [] g after ok division q c = tt
+run-bytes e body all before (r ∷ run) g after ok division q c =
+    let m = bytes-front all before r (run ++ g ∷ after) q in
+    let (ending, lines, fit) = turn-at e before r m.0 (rw m.1 at (in-turn e body all ok division)) in (
+      line-bytes e ending r ok lines c.0,
+      run-bytes e body all (before ++ r ∷ []) run g after ok division (q ∙ sym (append_assoc before (r ∷ []) (run ++ g ∷ after))) c.1,
+    )
 
-sum-of : (a b : List (List HeldLine)) → length (groups_bytes (a ++ b)) ≡ length (groups_bytes a) + length (groups_bytes b)
-sum-of a b = ap length (groups_bytes-append a b) ∙ length-append (groups_bytes a) (groups_bytes b)
+bytes-among : (before : List (List HeldLine)) (g : List HeldLine) (after : List (List HeldLine)) → AreCommentBytes (before ++ g ∷ after)
+    → is_comment_line (group_bytes g) ≡ true
+bytes-among [] g after h = h.0
+bytes-among (f ∷ before) g after h = bytes-among before g after h.1
 
-module _ {e : Encoding} {source key : List ℕ} {comment : Comment} where
-  at-place : (h : HasFound e source key (Some comment)) (before : List (List HeldLine)) (g : List HeldLine) (after : List (List HeldLine)) (group : ViewedGroup)
-      → h.groups ≡ before ++ g ∷ after → IsGroupAt (length (bom_of source) + length (groups_bytes before)) g group → HoldsGroup source g group
-  at-place h before g after group division at = record {
-    front = bom_of source ++ groups_bytes before;
-    rest = groups_bytes after;
-    whole = h.whole
-        ∙ ap (λ w. bom_of source ++ groups_bytes w) division
-        ∙ ap (λ w. bom_of source ++ w) (groups_bytes-append before (g ∷ after))
-        ∙ sym (append_assoc (bom_of source) (groups_bytes before) (groups_bytes (g ∷ after)));
-    at = subst (λ n. IsGroupAt n g group) (sym (length-append (bom_of source) (groups_bytes before))) at;
-  }
+-- ---- a section in the source
 
-  pub pair-held : (h : HasFound e source key (Some comment)) → HoldsGroup source h.found_is.group comment.headed.group
-  pair-held h =
-      let f = h.found_is in
-      let start = f.start_is in
-      let sum = sum-of f.before f.run in
-      let place : comment.headed.start + length (groups_bytes f.run) ≡ length (bom_of source) + length (groups_bytes (f.before ++ f.run)) = omega arith in
-      at-place h (f.before ++ f.run) f.group f.after comment.headed.group (f.division ∙ sym (append_assoc f.before f.run (f.group ∷ f.after)))
-      (subst (λ n. IsGroupAt n f.group comment.headed.group) place f.at)
+-- The next section of a view is at its place.
+pub section-at : {Makes : Section → List (List HeldLine) → List ℕ → Type 0} {e : Encoding} {source : List ℕ} {v now next : OpenView} {c : Copied} (comment : Comment)
+    → IsViewOf e source v → IsMadeUpTo Makes source v now c → (t : TakesComment now comment next) → IsSectionAt source comment (given_section t.0)
+section-at {source = source} {v = v} {now} {next} comment o h (t, texts, model) =
+    let n = (past_group now).start in
+    let run = groups_bytes t.run in
+    let g = group_bytes next.group in
+    let rest = groups_bytes next.to_come in
+    let began = t.start in
+    let place = t.group_start in
+    let group_start : next.start ≡ comment.headed.start + length run = omega arith in
+    let held = t.is_group in
+    let size : length (take n source) ≡ n = length-take-le n source h.within in
+    record {
+      front = take n source;
+      rest = rest;
+      whole = sym (take-append-drop n source)
+          ∙ ap (λ w. take n source ++ w) (sym h.rest ∙ ap groups_bytes t.takes ∙ groups_bytes-append t.run (next.group ∷ next.to_come));
+      start_is = began ∙ sym size;
+      at = record {
+        start_is = held.start ∙ group_start;
+        end_is = held.end ∙ ap (λ k. k + (length g - length (ending_bytes (last_ending next.group)))) group_start;
+        next_is = held.next ∙ ap (λ k. k + length g) group_start;
+      };
+      are_texts = texts;
+      model = subst (λ k. TellsModel k t.run comment.model) (sym began) model;
+      are_comments = run-bytes v.encoding (drop v.start source) o.given.all (groups_of h.passed []) t.run next.group next.to_come o.editable o.given.division
+          (sym o.given.are ∙ h.division ∙ ap (groups_of h.passed) t.takes ∙ groups-append h.passed [] (t.run ++ next.group ∷ next.to_come)) t.are_comments;
+    }
 
-  pub model-held : (h : HasFound e source key (Some comment)) (model : ViewedGroup) (m : IsModel comment.headed.start h.found_is.run model) → HoldsLine source m.line model
-  model-held h model m =
-      let f = h.found_is in
-      let start = f.start_is in
-      let sum = sum-of f.before m.before in
-      let place : comment.headed.start + length (groups_bytes m.before) ≡ length (bom_of source) + length (groups_bytes (f.before ++ m.before)) = omega arith in
-      let after = m.after ++ f.group ∷ f.after in
-      let division : h.groups ≡ (f.before ++ m.before) ++ m.line ∷ after =
-      f.division
-      ∙ ap (λ w. f.before ++ (w ++ f.group ∷ f.after)) m.division
-      ∙ ap (λ w. f.before ++ w) (append_assoc m.before (m.line ∷ m.after) (f.group ∷ f.after))
-      ∙ sym (append_assoc f.before m.before (m.line ∷ after)) in
-      let among = bytes-front h.held.all (f.before ++ m.before) m.line after (sym h.held.are ∙ division) in
-      let force = byte_order_mark e source in
-      let (ending, lines, fit) = turn-at force.encoding (f.before ++ m.before) m.line among.0
-      (rw among.1 at (in-turn force.encoding force.body h.held.all h.editable h.held.division)) in
-      let group : IsCommentGroup m.line = comment-among m.before m.line m.after (rw m.division at f.are_comments) in (
-        at-place h (f.before ++ m.before) m.line after model division (subst (λ n. IsGroupAt n m.line model) place m.at),
-        by force.encoding ending m.line h.editable lines group,
+module _ {source : List ℕ} {comment : Comment} {s : Section} (h : IsSectionAt source comment s) where
+  pub pair-held : HoldsGroup source s.group comment.headed.group
+  pair-held =
+      let run = groups_bytes s.run in
+      let start = h.start_is in
+      let size = length-append h.front run in
+      let place : comment.headed.start + length run ≡ length (h.front ++ run) = omega arith in
+      record {
+        front = h.front ++ run;
+        rest = h.rest;
+        whole = h.whole ∙ sym (append_assoc h.front run (group_bytes s.group ++ h.rest));
+        at = subst (λ n. IsGroupAt n s.group comment.headed.group) place h.at;
+      }
+
+  pub model-held : (model : ViewedGroup) (m : IsModel comment.headed.start s.run model) → HoldsLine source m.line model
+  model-held model m =
+      let before = groups_bytes m.before in
+      let start = h.start_is in
+      let size = length-append h.front before in
+      let place : comment.headed.start + length before ≡ length (h.front ++ before) = omega arith in
+      let rest = groups_bytes m.after ++ (group_bytes s.group ++ h.rest) in (
+        record {
+          front = h.front ++ before;
+          rest = rest;
+          whole = h.whole
+              ∙ ap (λ w. h.front ++ (w ++ (group_bytes s.group ++ h.rest))) (ap groups_bytes m.division ∙ groups_bytes-append m.before (m.line ∷ m.after))
+              ∙ simp (append_assoc);
+          at = subst (λ n. IsGroupAt n m.line model) place m.at;
+        },
+        bytes-among m.before m.line m.after (rw m.division at h.are_comments),
       )
-    where
-      by : (e : Encoding) (o : Option LineEnding) (g : List HeldLine) → is_editable e ≡ true → AreLinesBy e o g → IsCommentGroup g → is_comment_line (group_bytes g) ≡ true
-      by e o [] ok a c = absurd c
-      by e o (l ∷ []) ok a c = comment-longer l.bytes (ending_bytes l.ending ++ []) (comment-bytes e l.text l.bytes ok (sym a.1) c)
-      by e o (l ∷ k ∷ g) ok a c = absurd c
 
-  pub found-ordered : (h : HasFound e source key (Some comment))
-      → (comment.headed.start ≤ comment.headed.group.start) × (comment.headed.group.start ≤ length source)
-  found-ordered h =
-      let at = h.found_is.at.start_is in
-      let held = held-at (pair-held h) in
+  pub head-ordered : (comment.headed.start ≤ comment.headed.group.start) × (comment.headed.group.start ≤ length source)
+  head-ordered =
+      let at = h.at.start_is in
+      let held = held-at pair-held in
       let start = held.start in
       let within = held.within in (omega arith, omega arith)
 
   -- What new lines have: as the first line that has a text,
-  pub style-as_line : (h : HasFound e source key (Some comment)) (other : List ℕ) (model : ViewedGroup) (style : LineStyle) → comment.model ≡ Some model
-      → ((g : List HeldLine) → HoldsLine source g model → IsStyleOfLine other g style) → IsStyleFor other h.found_is.run h.found_is.group style
-  style-as_line h other model style is made =
-      let m : IsModel comment.headed.start h.found_is.run model = rw is at h.found_is.model in
+  pub style-as_line : (other : List ℕ) (model : ViewedGroup) (style : LineStyle) → comment.model ≡ Some model
+      → ((g : List HeldLine) → HoldsLine source g model → IsStyleOfLine other g style) → IsStyleFor other s.run s.group style
+  style-as_line other model style is made =
+      let m : IsModel comment.headed.start s.run model = rw is at h.model in
       inl (
         m.line,
         record { before = m.before; after = m.after; division = m.division; none_before = m.none_before; text = m.text; is_line = m.is_line; some = m.some },
-        made m.line (model-held h model m),
+        made m.line (model-held model m),
       )
 
   -- or as none.
-  pub style-as_pair : (h : HasFound e source key (Some comment)) (other : List ℕ) (style : LineStyle) → comment.model ≡ None
-      → ((g : List HeldLine) → HoldsGroup source g comment.headed.group → IsStyleAbove other g style) → IsStyleFor other h.found_is.run h.found_is.group style
-  style-as_pair h other style is made = inr (rw is at h.found_is.model, made h.found_is.group (pair-held h))
+  pub style-as_pair : (other : List ℕ) (style : LineStyle) → comment.model ≡ None
+      → ((g : List HeldLine) → HoldsGroup source g comment.headed.group → IsStyleAbove other g style) → IsStyleFor other s.run s.group style
+  style-as_pair other style is made = inr (rw is at h.model, made s.group pair-held)
+
+-- ---- the comment lines of a section
+
+section-bytes : {source : List ℕ} {comment : Comment} {s : Section} (h : IsSectionAt source comment s)
+    → (comment.headed.group.start ≡ comment.headed.start + length (groups_bytes s.run))
+    × (take (length (groups_bytes s.run)) (drop comment.headed.start source) ≡ groups_bytes s.run)
+section-bytes {s = s} h = (
+  h.at.start_is,
+  ap (take (length (groups_bytes s.run))) (ap₂ drop h.start_is h.whole ∙ drop-append_seam h.front (groups_bytes s.run ++ (group_bytes s.group ++ h.rest)))
+      ∙ take-append_seam (groups_bytes s.run) (group_bytes s.group ++ h.rest),
+)
+
+-- They are copied,
+pub head-kept : {t : Repertoire} {other : List ℕ} {s : Section} (c : Copied) (comment : Comment) (text : List ℕ) → IsSectionAt c.source.now comment s
+    → c.done ≤ comment.headed.start → HasLines t other s text (groups_bytes s.run) → IsHeadSet t other s c comment text c
+head-kept {s = s} c comment text h done lines =
+    let (place, bytes) = section-bytes h in
+    record {
+      head = groups_bytes s.run;
+      lines = lines;
+      copied = ap (copied_to c) place
+          ∙ copied-more c comment.headed.start (length (groups_bytes s.run)) done
+          ∙ ap (λ w. copied_to c comment.headed.start ++ w) bytes;
+      done = omega arith;
+      source_is = refl;
+    }
+
+-- or replaced.
+pub head-replaced : {t : Repertoire} {other : List ℕ} {s : Section} (c c' : Copied) (comment : Comment) (text head : List ℕ) → HasLines t other s text head
+    → IsReplacedIn c comment.headed.start comment.headed.group.start head c' → IsHeadSet t other s c comment text c'
+head-replaced c c' comment text head lines r =
+    let end = comment.headed.group.start in
+    let none_off : end - end ≡ 0 = omega arith in
+    let done = r.done in
+    record {
+      head = head;
+      lines = lines;
+      copied = ap (λ d. c'.bytes.items ++ take (end - d) (drop d c'.source.now)) r.done
+          ∙ ap (λ n. c'.bytes.items ++ take n (drop end c'.source.now)) none_off
+          ∙ append-nil c'.bytes.items
+          ∙ r.bytes_are;
+      done = omega arith;
+      source_is = r.source_is;
+    }
 
 -- ---- new lines
 
@@ -414,59 +488,6 @@ pub prints-in_force : (r : Repertoire) (rep : code.Repertoire) (source : List �
     → is_editable (byte_order_mark r.encoding source).encoding ≡ true → PrintsKeys (in_encoding r (output_encoding f)) rep → PrintsKeys (repertoire_in_force r source) rep
 prints-in_force r rep source f is ok h =
     subst (λ x. PrintsKeys (in_encoding r x) rep) (ap output_encoding is ∙ editable-own (byte_order_mark r.encoding source).encoding ok) h
-
--- They were put in place of the old ones.
-pub lines-put : {e : Encoding} {source key : List ℕ} {comment : Comment} (r : Repertoire) (style : LineStyle) (lines : List (List ℕ)) (new bytes all : List ℕ)
-    (c c' : Copied) (h : HasFound e source key (Some comment)) → IsStyleFor (ending_in h.groups) h.found_is.run h.found_is.group style → new ≡ flat_map (comment_line r style) lines
-    → IsNew source c → IsReplacedIn c comment.headed.start comment.headed.group.start new c' → bytes ≡ copied_to c' (length c'.source.now)
-    → all ≡ guarding_lf source bytes ++ bytes → HasNewLines r source (comment_in h.found_is) lines all
-lines-put {source = source} {comment = comment} r style lines new bytes all c c' h look printed began replaced copied whole =
-    let f = h.found_is in
-    let before = groups_bytes f.before in
-    let run = groups_bytes f.run in
-    let back = group_bytes f.group ++ groups_bytes f.after in
-    let start = comment.headed.start in
-    let end = comment.headed.group.start in
-    let begins = f.start_is in
-    let ends = f.at.start_is in
-    let parts : source ≡ (bom_of source ++ before) ++ (run ++ back) =
-    h.whole
-    ∙ ap (λ w. bom_of source ++ groups_bytes w) f.division
-    ∙ ap (λ w. bom_of source ++ w) (groups_bytes-append f.before (f.run ++ f.group ∷ f.after) ∙ ap (λ w. before ++ w) (groups_bytes-append f.run (f.group ∷ f.after)))
-    ∙ sym (append_assoc (bom_of source) before (run ++ back)) in
-    let front : length (bom_of source ++ before) ≡ length (bom_of source) + length before = length-append (bom_of source) before in
-    let at : start ≡ length (bom_of source ++ before) = omega arith in
-    let long : length ((bom_of source ++ before) ++ run) ≡ length (bom_of source ++ before) + length run = length-append (bom_of source ++ before) run in
-    let past : end ≡ length ((bom_of source ++ before) ++ run) = omega arith in
-    let sizes : length source ≡ length ((bom_of source ++ before) ++ run) + length back =
-    ap length (parts ∙ sym (append_assoc (bom_of source ++ before) run back)) ∙ length-append ((bom_of source ++ before) ++ run) back in
-    let same : c'.source.now ≡ source = replaced.source_is ∙ began.source_is in
-    let zero_off : start - 0 ≡ start = omega arith in
-    let first : copied_to c start ≡ bom_of source ++ before =
-    ap₂ (λ b s. b ++ take (start - c.done) (drop c.done s)) began.nothing began.source_is
-    ∙ ap (λ d. take (start - d) (drop d source)) began.done
-    ∙ ap (λ n. take n source) zero_off
-    ∙ ap₂ take at parts
-    ∙ take-append_seam (bom_of source ++ before) (run ++ back) in
-    let count : length source - end ≡ length back = omega arith in
-    let last : drop end source ≡ back =
-    ap₂ drop past (parts ∙ sym (append_assoc (bom_of source ++ before) run back)) ∙ drop-append_seam ((bom_of source ++ before) ++ run) back in
-    let rest : take (length source - end) (drop end source) ≡ back =
-    ap₂ take count (last ∙ sym (append-nil back)) ∙ take-append_seam back [] in
-    let body = before ++ (new ++ back) in
-    let made : bytes ≡ bom_of source ++ body =
-    copied
-    ∙ ap (λ s. c'.bytes.items ++ take (length s - c'.done) (drop c'.done s)) same
-    ∙ ap₂ (λ b d. b ++ take (length source - d) (drop d source)) replaced.bytes_are replaced.done
-    ∙ ap₂ (λ a b. (a ++ new) ++ b) first rest
-    ∙ simp (append_assoc) in
-    record {
-      style = style;
-      is_style = look;
-      body = body;
-      body_is = ap (λ w. before ++ (w ++ back)) printed;
-      whole = guarded-whole source bytes body all made whole;
-    }
 
 -- ---- the texts that are there already
 

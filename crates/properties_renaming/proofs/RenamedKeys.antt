@@ -192,7 +192,7 @@ pub none-last : (key : List ℕ) (gs : List (List HeldLine)) (g : List HeldLine)
 none-last key [] g h = h.0
 none-last key (f ∷ gs) g h = none-last key gs g h.1
 
-held-push : (gs : List (List HeldLine)) (g : List HeldLine) → length (held_in (gs ++ g ∷ [])) ≡ length (held_in gs) + length g
+pub held-push : (gs : List (List HeldLine)) (g : List HeldLine) → length (held_in (gs ++ g ∷ [])) ≡ length (held_in gs) + length g
 held-push [] g = let same : length g ≡ 0 + length g = omega arith in ap length (append-nil g) ∙ same
 held-push (f ∷ gs) g =
     let more = held-push gs g in

@@ -9,24 +9,25 @@ use Rattle.std.proofs.lemmas.List.{get_or-set_other}
 use Rattle.std.proofs.lemmas.Slice.Eq.{bytes_eq-Decides}
 use Rattle.properties_format.specs.Encoding.{Characters, Encoding, Repertoire}
 use Rattle.properties_format.specs.Lines.{joined}
-use Rattle.properties_format.specs.Items.{IsOutcome, Outcome, broken, comment, given, ignored, pair}
+use Rattle.properties_format.specs.Items.{IsOutcome, given, pair}
 use Rattle.properties_format.specs.Body.{HasKey, HeldLine, NoneHasKey, as_lines, group_bytes}
 use Rattle.properties_format.specs.Computed.Items.{outcome_of}
 use Rattle.properties_format.proofs.Items.Unique.{outcome_of-meets, outcome_of-only}
-use Rattle.properties_items.specs.BorrowedItems.{outcome_pair}
 use Rattle.properties_editing.specs.Views.{IsViewOf, OpenView, TakesNext}
 use Rattle.properties_editing.specs.declared.group.ViewedGroup.{ViewedGroup}
 use Rattle.properties_renaming.specs.Laws.{IsName}
 use Rattle.properties_renaming.specs.Renames.{NewName}
 use Rattle.properties_renaming.specs.Private.Copied.{IsNew, copied_to}
 use Rattle.properties_renaming.specs.Private.Renaming.{AreMade, IsAnyPair}
-use Rattle.properties_renaming.specs.Private.Renames.{AreFound, AreRenamedAtOnce, AreRolesOf, GivesRole, IsFound, IsFreeOf, IsMadeBy, IsNewAt, IsOldAt, IsRoleIn, IsRoleWithin, is_needed, kept_role, last_name, last_rename, needed, role_at, role_of}
+use Rattle.properties_renaming.specs.Private.Keyed.{GivesValue, value_at, value_of}
+use Rattle.properties_renaming.specs.Private.Renames.{AreFound, AreRenamedAtOnce, AreRolesOf, IsFound, IsFreeOf, IsMadeBy, IsNewAt, IsOldAt, IsRoleIn, IsRoleWithin, is_needed, kept_role, last_name, last_rename, needed}
 use Rattle.properties_renaming.specs.declared.copied.Copied.{Copied}
 use Rattle.properties_renaming.specs.declared.renames.Role.{Role}
 use Rattle.properties_renaming.specs.declared.renames.Role.TheVariants.{Old, Kept, New}
 use Rattle.properties_renaming.specs.Renaming.{IsRekeyed}
+use Rattle.properties_renaming.proofs.KeyedValues.{value-some}
 use Rattle.properties_renaming.proofs.ManyRenames.{key-only, last-kept, last-old, last-other, needed-new, needed-old, needed-other}
-use Rattle.properties_renaming.proofs.RenamedKeys.{IsUpTo, all-up, first-of, next-up, none-front, none-last, none-yet, viewed, viewed-force}
+use Rattle.properties_renaming.proofs.RenamedKeys.{IsUpTo, all-up, next-up, none-front, none-last, none-yet, viewed, viewed-force}
 
 -- ---- the roles of names
 
@@ -80,48 +81,48 @@ old-at all n index within is = (within, λ d. ap (λ w. let m : NewName = w in m
 
 -- The names of a rename before these are given their roles.
 pub names-added : {Y : Type 0} (old mid new : List (String Y × Role)) (index last : ℕ) (n : NewName) → n.old ≢ n.new → IsName n.new
-    → is_needed (role_at old n.old) ≡ false → last_rename index (role_at old n.new) ≡ Some last → GivesRole old n.old (Old index last) mid
-    → GivesRole mid n.new (New index) new → (all ns : List NewName) → index < length all → ((d : NewName) → get_or all index d ≡ n) → AreRolesOf all ns old
+    → is_needed (value_at old n.old) ≡ false → last_rename index (value_at old n.new) ≡ Some last → GivesValue old n.old (Old index last) mid
+    → GivesValue mid n.new (New index) new → (all ns : List NewName) → index < length all → ((d : NewName) → get_or all index d ≡ n) → AreRolesOf all ns old
     → AreRolesOf all (n ∷ ns) new
 names-added old mid new index last n apart name gone may to_mid to_new all ns within is (makeable, roles) =
-    let l = last-given all ns n index last (role_at old n.new) within is (roles n.new) may in (
-      (inr (apart, name, old-gone all ns n.old (role_at old n.old) (roles n.old) gone, l.0), makeable),
+    let l = last-given all ns n index last (value_at old n.new) within is (roles n.new) may in (
+      (inr (apart, name, old-gone all ns n.old (value_at old n.old) (roles n.old) gone, l.0), makeable),
       λ k. elim (cases_Bool (bytes_eq n.new k)) [
         | inl c ↦
-            subst (IsRoleIn all (n ∷ ns) k) (sym (to_new k ∙ cond-true (bytes_eq n.new k) (Some (New index)) (role_at mid k) c))
+            subst (IsRoleIn all (n ∷ ns) k) (sym (to_new k ∙ cond-true (bytes_eq n.new k) (Some (New index)) (value_at mid k) c))
             (subst (λ w. needed (n ∷ ns) w ≡ Some false) ((bytes_eq-Decides n.new k).0 c) (needed-new n ns apart))
         | inr c ↦
-            subst (IsRoleIn all (n ∷ ns) k) (sym (to_new k ∙ cond-false (bytes_eq n.new k) (Some (New index)) (role_at mid k) c))
+            subst (IsRoleIn all (n ∷ ns) k) (sym (to_new k ∙ cond-false (bytes_eq n.new k) (Some (New index)) (value_at mid k) c))
             (older l.1 k (λ q. same-no n.new k c (sym q)))
       ],
     )
   where
-    older : IsNewAt all (Some (unwrap_or (last_name ns n.new) n.new)) last → (k : List ℕ) → k ≢ n.new → IsRoleIn all (n ∷ ns) k (role_at mid k)
+    older : IsNewAt all (Some (unwrap_or (last_name ns n.new) n.new)) last → (k : List ℕ) → k ≢ n.new → IsRoleIn all (n ∷ ns) k (value_at mid k)
     older final k other = elim (cases_Bool (bytes_eq n.old k)) [
       | inl b ↦
-          subst (IsRoleIn all (n ∷ ns) k) (sym (to_mid k ∙ cond-true (bytes_eq n.old k) (Some (Old index last)) (role_at old k) b))
+          subst (IsRoleIn all (n ∷ ns) k) (sym (to_mid k ∙ cond-true (bytes_eq n.old k) (Some (Old index last)) (value_at old k) b))
           (subst (λ w. IsRoleIn all (n ∷ ns) w (Some (Old index last))) ((bytes_eq-Decides n.old k).0 b)
           (needed-old n ns, old-at all n index within is, (final.0, λ d. last-old n ns apart ∙ final.1 d)))
       | inr b ↦
-          subst (IsRoleIn all (n ∷ ns) k) (sym (to_mid k ∙ cond-false (bytes_eq n.old k) (Some (Old index last)) (role_at old k) b))
-          (role-more all ns n k (role_at old k) (λ q. same-no n.old k b (sym q)) other (roles k))
+          subst (IsRoleIn all (n ∷ ns) k) (sym (to_mid k ∙ cond-false (bytes_eq n.old k) (Some (Old index last)) (value_at old k) b))
+          (role-more all ns n k (value_at old k) (λ q. same-no n.old k b (sym q)) other (roles k))
     ]
 
 -- The name of a rename of a key to itself.
 pub name-kept : {Y : Type 0} (old new : List (String Y × Role)) (index : ℕ) (n : NewName) (role : Role) → n.old ≡ n.new
-    → kept_role index (role_at old n.old) ≡ Some role → GivesRole old n.old role new → (all ns : List NewName) → index < length all
+    → kept_role index (value_at old n.old) ≡ Some role → GivesValue old n.old role new → (all ns : List NewName) → index < length all
     → ((d : NewName) → get_or all index d ≡ n) → AreRolesOf all ns old → AreRolesOf all (n ∷ ns) new
 name-kept old new index n role same may to_new all ns within is (makeable, roles) =
-    let h = kept (role_at old n.old) (roles n.old) may in (
+    let h = kept (value_at old n.old) (roles n.old) may in (
       (inl (same, h.0), makeable),
       λ k. elim (cases_Bool (bytes_eq n.old k)) [
         | inl c ↦
-            subst (IsRoleIn all (n ∷ ns) k) (sym (to_new k ∙ cond-true (bytes_eq n.old k) (Some role) (role_at old k) c))
+            subst (IsRoleIn all (n ∷ ns) k) (sym (to_new k ∙ cond-true (bytes_eq n.old k) (Some role) (value_at old k) c))
             (subst (λ w. IsRoleIn all (n ∷ ns) w (Some role)) ((bytes_eq-Decides n.old k).0 c) h.1)
         | inr c ↦
             let other : k ≢ n.old = λ q. same-no n.old k c (sym q) in
-            subst (IsRoleIn all (n ∷ ns) k) (sym (to_new k ∙ cond-false (bytes_eq n.old k) (Some role) (role_at old k) c))
-            (role-more all ns n k (role_at old k) other (λ q. other (q ∙ sym same)) (roles k))
+            subst (IsRoleIn all (n ∷ ns) k) (sym (to_new k ∙ cond-false (bytes_eq n.old k) (Some role) (value_at old k) c))
+            (role-more all ns n k (value_at old k) other (λ q. other (q ∙ sym same)) (roles k))
       ],
     )
   where
@@ -145,30 +146,9 @@ role-within all names key (Some (Kept first)) h = h.1.0
 role-within all names key (Some (Old first last)) h = h.1.0
 
 pub roles-none : {Y : Type 0} (all : List NewName) (roles : List (String Y × Role)) → roles ≡ [] → AreRolesOf all [] roles
-roles-none all roles h = (tt, λ key. subst (λ e. IsRoleIn all [] key (role_at e key)) (sym h) refl)
+roles-none all roles h = (tt, λ key. subst (λ e. IsRoleIn all [] key (value_at e key)) (sym h) refl)
 
 -- ---- the role of a group
-
-pub role-pair : {Y : Type 0} (roles : List (String Y × Role)) (o : Outcome) (key value : List ℕ) → outcome_pair o ≡ Some (key, value)
-    → role_of roles o ≡ role_at roles key
-role-pair roles (given (pair k v)) key value h = ap (λ w. role_at roles (first-of (key, value) w)) h
-role-pair roles (given (comment text)) key value h = absurd (cc)
-role-pair roles ignored key value h = absurd (cc)
-role-pair roles (broken kind) key value h = absurd (cc)
-
-pub role-none : {Y : Type 0} (roles : List (String Y × Role)) (o : Outcome) → outcome_pair o ≡ None → None ≡ role_of roles o
-role-none roles (given (pair k v)) h = absurd (cc)
-role-none roles (given (comment text)) h = refl
-role-none roles ignored h = refl
-role-none roles (broken kind) h = refl
-
--- A pair whose key has a role.
-role-some : {Y : Type 0} (roles : List (String Y × Role)) (o : Outcome) (role : Role) → role_of roles o ≡ Some role
-    → (key : List ℕ) × (value : List ℕ) × (o ≡ given (pair key value)) × (role_at roles key ≡ Some role)
-role-some roles (given (pair key value)) role h = (key, value, refl, h)
-role-some roles (given (comment text)) role h = absurd (cc)
-role-some roles ignored role h = absurd (cc)
-role-some roles (broken kind) role h = absurd (cc)
 
 -- any name
 pub any-name : NewName
@@ -185,10 +165,10 @@ pub record HasRole (names : List NewName) (g : List HeldLine) (role : Role) : Ty
   pub tells : IsRoleIn names names key (Some role)
 
 pub group-role : {Y : Type 0} {role : Role} (names : List NewName) (roles : List (String Y × Role)) (g : List HeldLine) → AreRolesOf names names roles
-    → role_of roles (outcome_of (joined (as_lines g))) ≡ Some role → HasRole names g role
+    → value_of roles (outcome_of (joined (as_lines g))) ≡ Some role → HasRole names g role
 group-role {role = role} names roles g (makeable, all) h =
     let x = joined (as_lines g) in
-    let k = role-some roles (outcome_of x) role h in
+    let k = value-some roles (outcome_of x) role h in
     record { key = k.0; has = (k.1, subst (IsOutcome x) k.2 (outcome_of-meets x)); tells = subst (IsRoleIn names names k.0) k.3 (all k.0) }
 
 pub no-some : (o : Option ℕ) → is_some o ≡ false → o ≡ None
@@ -215,7 +195,7 @@ made-kept {names = names} {g = g} h = (
 
 -- and of a group without a role.
 pub made-none : {Y : Type 0} {r : Repertoire} {first : Bool} (names : List NewName) (roles : List (String Y × Role)) (g : List HeldLine)
-    → AreRolesOf names names roles → role_of roles (outcome_of (joined (as_lines g))) ≡ None → IsMadeBy r names first g (group_bytes g)
+    → AreRolesOf names names roles → value_of roles (outcome_of (joined (as_lines g))) ≡ None → IsMadeBy r names first g (group_bytes g)
 made-none names roles g (makeable, all) h = (
   λ key has q. let n = free key has in cc,
   inr (λ key has. no-last names key (free key has), refl),
@@ -223,7 +203,7 @@ made-none names roles g (makeable, all) h = (
   where
     free : (key : List ℕ) → HasKey key g → needed names key ≡ None
     free key (value, k) =
-        let none : role_at roles key ≡ None = ap (role_of roles) (outcome_of-only (joined (as_lines g)) (given (pair key value)) k) ∙ h in
+        let none : value_at roles key ≡ None = ap (value_of roles) (outcome_of-only (joined (as_lines g)) (given (pair key value)) k) ∙ h in
         subst (IsRoleIn names names key) none (all key)
 
 -- ---- group after group
@@ -278,13 +258,13 @@ none-found (suc n) (suc i) = none-found n i
 
 -- or none is missing.
 found-at : {Y : Type 0} (found : List Bool) (roles : List (String Y × Role)) (ns : List NewName) (i : ℕ) (d : NewName) → AreFound found roles ns → i < length ns
-    → IsFound found (role_at roles (get_or ns i d).old)
+    → IsFound found (value_at roles (get_or ns i d).old)
 found-at found roles [] i d h within = absurd (omega arith)
 found-at found roles (n ∷ ns) zero d h within = h.0
 found-at found roles (n ∷ ns) (suc i) d h within = found-at found roles ns i d h.1 (omega arith)
 
 pub found-push : {Y : Type 0} (found : List Bool) (roles : List (String Y × Role)) (ns : List NewName) (n : NewName) → AreFound found roles ns
-    → IsFound found (role_at roles n.old) → AreFound found roles (ns ++ n ∷ [])
+    → IsFound found (value_at roles n.old) → AreFound found roles (ns ++ n ∷ [])
 found-push found roles [] n h k = (k, tt)
 found-push found roles (m ∷ ns) n h k = (h.0, found-push found roles ns n h.1 k)
 
@@ -299,7 +279,7 @@ all-renamed {r = r} {source} {names} {v} {found = found} roles bytes (makeable, 
       makeable = makeable;
       groups = h.up.passed;
       held = k.held;
-      there = λ key q. there key q (role_at roles key) refl (all key);
+      there = λ key q. there key q (value_at roles key) refl (all key);
       body = k.body;
       made = subst (λ t. AreMade (IsMadeBy t names) true h.up.passed k.body) (viewed-force {r = r} o) k.made;
       whole = k.whole;
@@ -308,11 +288,11 @@ all-renamed {r = r} {source} {names} {v} {found = found} roles bytes (makeable, 
     there-at : (key : List ℕ) (i : ℕ) → IsOldAt names key i → get_or found i false ≡ true → ¬ (NoneHasKey key h.up.passed)
     there-at key i (within, is) t = subst (λ w. ¬ (NoneHasKey w h.up.passed)) (sym (is any-name)) (h.there i any-name within t)
 
-    found-here : (key : List ℕ) (i : ℕ) (role : Option Role) → role_at roles key ≡ role → IsOldAt names key i → IsFound found role
+    found-here : (key : List ℕ) (i : ℕ) (role : Option Role) → value_at roles key ≡ role → IsOldAt names key i → IsFound found role
     found-here key i role q (within, is) =
-        subst (IsFound found) (ap (role_at roles) (sym (is any-name)) ∙ q) (found-at found roles names i any-name every within)
+        subst (IsFound found) (ap (value_at roles) (sym (is any-name)) ∙ q) (found-at found roles names i any-name every within)
 
-    there : (key : List ℕ) → needed names key ≡ Some true → (role : Option Role) → role_at roles key ≡ role → IsRoleIn names names key role
+    there : (key : List ℕ) → needed names key ≡ Some true → (role : Option Role) → value_at roles key ≡ role → IsRoleIn names names key role
         → ¬ (NoneHasKey key h.up.passed)
     there key needs None q none = absurd (cc)
     there key needs (Some (New first)) q none = absurd (cc)

@@ -4,7 +4,7 @@ use Rattle.std.proofs.Common.{inl, inr, All, ◌≡◌, ◌≢◌, ◌<◌, ◌�
 use Rattle.std.specs.Prelude.{Result, Ok, Err}
 use Rattle.std.specs.Global.{Vec}
 use Rattle.std.proofs.Math.Seq.{take-add}
-use Rattle.std.proofs.lemmas.List.{length-drop, length-map, length-take-le, map-append, take-append-drop, take-take, take_more}
+use Rattle.std.proofs.lemmas.List.{length-drop, length-map, length-take-le, map-append, take-append-drop, take-take}
 use Rattle.properties_items.proofs.Scalars.{string-scalars}
 use Rattle.properties_items.specs.Errors.{IsBareError}
 use Rattle.properties_items.specs.declared.error.ErrorKind.TheVariants as kind
@@ -20,14 +20,13 @@ use Rattle.properties_renaming.specs.declared.renames.RenamesError.{RenamesError
 use Rattle.properties_renaming.specs.declared.renames.RenamesError.TheVariants.{Source, NoKey, KeyTaken}
 use Rattle.properties_renaming.specs.declared.renaming.RenameError.{RenameError}
 use Rattle.properties_renaming.specs.declared.renaming.RenameError.TheVariants as one
+use Rattle.properties_renaming.proofs.KeyedValues.{mapped-more}
 use Rattle.properties_renaming.proofs.RenamedKeys.{edited-editable}
 use Rattle.properties_renaming.proofs.RenamedMarks.{still-read}
 
 pub names-more : (renames : List Rename) (i : ℕ) (rename : Rename) → i < length renames → rename ≡ get_or renames i rename
     → names_in (take (i + 1) renames) ≡ names_in (take i renames) ++ name_in rename ∷ []
-names-more renames i rename h is =
-    ap names_in (take_more renames i rename h ∙ ap (λ r. take i renames ++ r ∷ []) (sym is))
-    ∙ map-append name_in (take i renames) (rename ∷ [])
+names-more renames i rename h is = mapped-more name_in renames i rename h is
 
 pub names-size : (renames : List Rename) (i : ℕ) → i ≤ length renames → length (names_in (take i renames)) ≡ i
 names-size renames i h = length-map (take i renames) name_in ∙ length-take-le i renames h

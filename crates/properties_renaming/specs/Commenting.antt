@@ -1,24 +1,29 @@
--- The comment of a key is set: new comment lines directly above the last pair with the key, in place of the old ones.
+-- Comments of keys are set: new comment lines directly above the last pair with a key, in place of the old ones.
 -- Source: java.util.Properties of Java SE 7, load (what a comment line is; a comment line is never continued).
-use Rattle.std.specs.Prelude.{◌≡◌, ◌≢◌, ◌⊎◌, ◌&&◌, ℕ, false, true, if◌then◌else◌, List, [], ◌∷◌, ◌++◌, flat_map, Result, Ok, Err}
+use Rattle.std.specs.Prelude.{◌≡◌, ◌≢◌, ◌⊎◌, ◌&&◌, ℕ, bytes_eq, false, true, if◌then◌else◌, List, [], ◌∷◌, ◌++◌, flat_map, length, map, string_bytes, Option, Some, None, Result, Ok, Err}
 use Rattle.std.specs.Global.{Vec}
 use Rattle.std.specs.Option.{option_map, unwrap_or}
+use Rattle.std.specs.Str.{chars}
 use Rattle.properties_format.specs.Text.{begins, is_blank, is_comment_sign, is_empty, line_ending_text, number_sign, space}
-use Rattle.properties_format.specs.Encoding.{Repertoire, repertoire_in_force}
+use Rattle.properties_format.specs.Encoding.{Encoding, Repertoire, repertoire_in_force}
 use Rattle.properties_format.specs.Lines.{Ended, IsLines, Lines, joined}
 use Rattle.properties_format.specs.Split.{AreBlanks}
 use Rattle.properties_format.specs.Printing.{in_prefix, encoded_text, printed_characters}
-use Rattle.properties_format.specs.Body.{HeldLine, as_lines, group_bytes, groups_bytes, last_ending}
+use Rattle.properties_format.specs.Body.{HeldLine, HasKey, NoneHasKey, as_lines, group_bytes, groups_bytes, last_ending}
 use Rattle.properties_format.specs.Edited.{bom_of, guarding_lf}
 use Rattle.properties_format.specs.Valued.{ending_in}
 use Rattle.properties_items.specs.Errors.{IsBareError}
 use Rattle.properties_items.specs.declared.error.ErrorKind.TheVariants as kind
 use Rattle.properties_editing.specs.Editing.{EditsWith, asked_for}
 use Rattle.properties_editing.specs.declared.source.SourceOptions.{SourceOptions}
-use Rattle.properties_renaming.specs.CommentLines.{AreCommentTexts, IsCommentLine, IsCommentOf}
+use Rattle.properties_renaming.specs.CommentLines.{AreCommentTexts, IsCommentLine}
 use Rattle.properties_renaming.specs.Renaming.{AreIn, IsEditable, LacksKey}
+use Rattle.properties_renaming.specs.Sections.{AreDivided, AreMadeOf, Section}
+use Rattle.properties_renaming.specs.declared.commenting.NewComment.{NewComment}
+use Rattle.properties_renaming.specs.declared.renames.RenamesError.{RenamesError}
+use Rattle.properties_renaming.specs.declared.renames.RenamesError.TheVariants.{Source, NoKey, KeyTaken}
 use Rattle.properties_renaming.specs.declared.renaming.RenameError.{RenameError}
-use Rattle.properties_renaming.specs.declared.renaming.RenameError.TheVariants.{Source, NoKey, KeyTaken}
+use Rattle.properties_renaming.specs.declared.renaming.RenameError.TheVariants as one
 
 -- ---- the lines of a text
 
@@ -98,36 +103,98 @@ abbrev pub comment_line : Repertoire → LineStyle → List ℕ → List ℕ
 comment_line r style text =
     style.indent ++ (style.sign ∷ (gap_before style.blank text ++ (encoded_text r.encoding (printed_characters r in_prefix text) ++ style.ending)))
 
--- ---- the comment is set
+-- ---- comments are set
 
--- The result is the source with these comment lines in place of the comment. If the pair has no line ending, since the
--- source ends there, the lines have the last one of the source, or an LF if it has none. If the source has no byte order
--- mark and its new groups would begin like one, an LF comes before them.
-pub record HasNewLines (r : Repertoire) (source : List ℕ) {groups : List (List HeldLine)} {key : List ℕ} (comment : IsCommentOf groups key)
-    (lines : List (List ℕ)) (result : List ℕ) : Type 0 where
-  pub style : LineStyle
-  pub is_style : IsStyleFor (ending_in groups) comment.run comment.group style
-  pub body : List ℕ
-  pub body_is : body ≡ groups_bytes comment.before ++ (flat_map (comment_line r style) lines ++ (group_bytes comment.group ++ groups_bytes comment.after))
-  pub whole : result ≡ bom_of source ++ (guarding_lf source body ++ body)
+-- A key, and the text that its comment gets.
+pub record NewText : Type 0 where
+  pub key : List ℕ
+  pub text : List ℕ
 
--- The comment of the key has the lines of the text as its texts, and the result is the source; or it has others, and
--- the result has the lines of the text in their place.
-pub record IsCommentSet (r : Repertoire) (source key text result : List ℕ) : Type 0 where
-  pub groups : List (List HeldLine)
-  pub held : AreIn r.encoding source groups
-  pub comment : IsCommentOf groups key
+abbrev pub new_text : List ℕ → List ℕ → NewText
+new_text key text = record { key = key; text = text }
+
+abbrev pub text_in : NewComment → NewText
+text_in comment = new_text (chars (string_bytes comment.key)) (chars (string_bytes comment.text))
+
+abbrev pub texts_in : List NewComment → List NewText
+texts_in comments = map text_in comments
+
+-- the text for a key: of several, the last one
+abbrev pub text_for : List NewText → List ℕ → Option (List ℕ)
+text_for [] key = None
+text_for (t ∷ ts) key = unwrap_or (option_map Some (text_for ts key)) (if bytes_eq t.key key then Some t.text else None)
+
+-- A section's pair is the last one with its key, and this is the text for the key.
+pub record IsLastFor (texts : List NewText) (s : Section) (after : List (List HeldLine)) (text : List ℕ) : Type 0 where
+  pub key : List ℕ
+  pub has_key : HasKey key s.group
+  pub no_later : NoneHasKey key after
+  pub is_text : text_for texts key ≡ Some text
+
+-- Comment lines with this text are above a section's group: its own, if they have these lines already, or new ones.
+pub record HasLines (r : Repertoire) (other : List ℕ) (s : Section) (text head : List ℕ) : Type 0 where
   pub texts : List (List ℕ)
-  pub are_texts : AreCommentTexts comment.run texts
+  pub are_texts : AreCommentTexts s.run texts
   pub lines : List (List ℕ)
   pub are_lines : AreCommentLines text lines
-  pub set : (texts ≡ lines) × (result ≡ source) ⊎ (texts ≢ lines) × HasNewLines (repertoire_in_force r source) source comment lines result
+  pub set :
+      (texts ≡ lines) × (head ≡ groups_bytes s.run)
+      ⊎ (texts ≢ lines)
+      × ((style : LineStyle) × IsStyleFor other s.run s.group style × (head ≡ flat_map (comment_line r style) lines))
 
--- The source with the comment of a key set; or no pair has the key; or an edit would be refused with this error, or
+-- The last pair with a key gets the text for the key, and any other section stays.
+abbrev pub IsCommented : Repertoire → List ℕ → List NewText → Section → List (List HeldLine) → List ℕ → Type 0
+IsCommented r other texts s after made =
+    (head : List ℕ)
+    × (((text : List ℕ) × IsLastFor texts s after text × HasLines r other s text head)
+    ⊎ ((text : List ℕ) → ¬ (IsLastFor texts s after text)) × (head ≡ groups_bytes s.run))
+    × (made ≡ head ++ group_bytes s.group)
+
+-- A pair has each of the keys.
+abbrev pub HaveKeys : List NewText → List (List HeldLine) → Type 0
+HaveKeys [] groups = Unit {0}
+HaveKeys (t ∷ ts) groups = ¬ (NoneHasKey t.key groups) × HaveKeys ts groups
+
+-- The result is the source with these comments. If the source has no byte order mark and its new groups would begin like
+-- one, an LF comes before them.
+pub record AreCommentsSet (r : Repertoire) (source : List ℕ) (texts : List NewText) (result : List ℕ) : Type 0 where
+  pub groups : List (List HeldLine)
+  pub held : AreIn r.encoding source groups
+  pub have_keys : HaveKeys texts groups
+  pub sections : List Section
+  pub last : List (List HeldLine)
+  pub divided : AreDivided groups sections last
+  pub body : List ℕ
+  pub set : AreMadeOf (IsCommented (repertoire_in_force r source) (ending_in groups) texts) sections last body
+  pub whole : result ≡ bom_of source ++ (guarding_lf source body ++ body)
+
+-- No pair has the key of the comment with this index, and a pair has that of each before it.
+pub record HasNoPairFor (e : Encoding) (source : List ℕ) (texts : List NewText) (index : ℕ) : Type 0 where
+  pub groups : List (List HeldLine)
+  pub held : AreIn e source groups
+  pub before : List NewText
+  pub text : NewText
+  pub after : List NewText
+  pub division : texts ≡ before ++ text ∷ after
+  pub index_is : index ≡ length before
+  pub have_keys : HaveKeys before groups
+  pub none_has : NoneHasKey text.key groups
+
+-- The source with these comments; or no pair has the key of one of them; or an edit would be refused with this error, or
 -- memory ran out.
+abbrev pub SetsComments : SourceOptions → List ℕ → List NewText → Result (Vec ℕ) RenamesError → Type 0
+SetsComments options source texts (Ok bytes) = IsEditable options source × AreCommentsSet (asked_for options) source texts bytes.items
+SetsComments options source texts (Err (NoKey index)) =
+    IsEditable options source × HasNoPairFor (asked_for options).encoding source texts index
+SetsComments options source texts (Err (KeyTaken index number)) = ⊥
+SetsComments options source texts (Err (Source error)) =
+    EditsWith options source [] (Err error) ⊎ IsEditable options source × IsBareError kind.Memory error
+
+-- The same of one comment.
 abbrev pub SetsComment : SourceOptions → List ℕ → List ℕ → List ℕ → Result (Vec ℕ) RenameError → Type 0
-SetsComment options source key text (Ok bytes) = IsEditable options source × IsCommentSet (asked_for options) source key text bytes.items
-SetsComment options source key text (Err NoKey) = IsEditable options source × LacksKey (asked_for options).encoding source key
-SetsComment options source key text (Err (KeyTaken number)) = ⊥
-SetsComment options source key text (Err (Source error)) =
+SetsComment options source key text (Ok bytes) =
+    IsEditable options source × AreCommentsSet (asked_for options) source (new_text key text ∷ []) bytes.items
+SetsComment options source key text (Err one.NoKey) = IsEditable options source × LacksKey (asked_for options).encoding source key
+SetsComment options source key text (Err (one.KeyTaken number)) = ⊥
+SetsComment options source key text (Err (one.Source error)) =
     EditsWith options source [] (Err error) ⊎ IsEditable options source × IsBareError kind.Memory error

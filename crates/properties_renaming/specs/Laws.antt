@@ -1,21 +1,21 @@
--- What a source says after a key was renamed to one that isn't empty, after the comment of a key was set, and
--- after a key was removed with its comments.
+-- What a source says after a key was renamed to one that isn't empty, after comments of keys were set, and after keys
+-- were removed with their comments.
 -- Source: java.util.Properties of Java SE 7, load (a later pair takes the place of an earlier one).
-use Rattle.std.specs.Prelude.{◌≡◌, ◌≢◌, ◌⊎◌, All, ℕ, bytes_eq, true, if◌then◌else◌, List, [], ◌∷◌, ◌++◌, map, Option, None, Result, Ok, Err}
+use Rattle.std.specs.Prelude.{◌≡◌, ◌≢◌, ◌⊎◌, All, ℕ, bytes_eq, false, true, if◌then◌else◌, List, [], ◌∷◌, ◌++◌, map, Option, None, Result, Ok, Err}
 use Rattle.std.specs.Global.{Vec}
 use Rattle.properties_format.specs.Text.{scalar}
 use Rattle.properties_format.specs.Encoding.{Repertoire, byte_order_mark}
 use Rattle.properties_format.specs.Lines.{end}
 use Rattle.properties_format.specs.Items.{AreItems, Content, Entry, IsItems, comment, pair}
 use Rattle.properties_format.specs.Maps.{IsMap}
-use Rattle.properties_format.specs.Changed.{HoldNoPair, contents, map_edited}
-use Rattle.properties_format.specs.Edits.{remove}
+use Rattle.properties_format.specs.Changed.{HoldNoPair, contents}
 use Rattle.properties_format.specs.Edited.{is_editable}
 use Rattle.properties_format.specs.Writing.{HoldsNoBackslash}
 use Rattle.properties_editing.specs.declared.source.SourceOptions.{SourceOptions}
 use Rattle.properties_renaming.specs.Commented.{IsRemovedWithComments}
-use Rattle.properties_renaming.specs.Commenting.{IsCommentSet}
+use Rattle.properties_renaming.specs.Commenting.{AreCommentsSet, NewText}
 use Rattle.properties_renaming.specs.Renaming.{IsRenamed, RenamesKey}
+use Rattle.properties_renaming.specs.Sections.{is_among}
 use Rattle.properties_renaming.specs.declared.renaming.RenameError.{RenameError}
 use Rattle.properties_renaming.specs.declared.renaming.RenameError.TheVariants.{Source, NoKey, KeyTaken}
 
@@ -72,60 +72,89 @@ RenamingAgainIsRefused options source old new =
     IsName new → old ≢ new → (bytes : Vec ℕ) → RenamesKey options source old new (Ok bytes)
     → (again : Result (Vec ℕ) RenameError) → RenamesKey options bytes.items old new again → IsRenameRefused again
 
--- ---- the comment of a key
+-- ---- the comments of keys
 
--- Comments right before the last pair with the key are replaced by others, and all other contents are unchanged. Contents
--- have no blank lines, so these may be comments beyond one.
-pub record IsCommentChanged (key : List ℕ) (old new : List Content) : Type 0 where
-  pub before : List Content
+-- Contents that stay, and a pair after them: comments right before it are replaced by others.
+pub record ChangedComment : Type 0 where
+  pub kept : List Content
   pub old_texts : List (List ℕ)
   pub new_texts : List (List ℕ)
+  pub key : List ℕ
   pub value : List ℕ
-  pub after : List Content
-  pub was : old ≡ before ++ (map comment old_texts ++ pair key value ∷ after)
-  pub no_later : HoldNoPair key after
-  pub now : new ≡ before ++ (map comment new_texts ++ pair key value ∷ after)
 
--- The encoding in force stays. If no entry of the result is malformed, as an escape in the text may be, all contents but
--- comments right before the pair are those of the source, in order.
-abbrev pub SettingTheCommentKeepsTheRest : Repertoire → List ℕ → List ℕ → List ℕ → Type 0
-SettingTheCommentKeepsTheRest r source key text =
-    All scalar text → (result : List ℕ) → IsCommentSet r source key text result → (before : List Entry) → HasSoundEntries r source before
+-- the contents before all of these were replaced, and those after that; the last of them stay
+abbrev pub with_old_comments : List ChangedComment → List Content → List Content
+with_old_comments [] last = last
+with_old_comments (c ∷ cs) last = c.kept ++ (map comment c.old_texts ++ pair c.key c.value ∷ with_old_comments cs last)
+
+abbrev pub with_new_comments : List ChangedComment → List Content → List Content
+with_new_comments [] last = last
+with_new_comments (c ∷ cs) last = c.kept ++ (map comment c.new_texts ++ pair c.key c.value ∷ with_new_comments cs last)
+
+-- Each of these pairs is the last one with its key, and a comment is set for that.
+abbrev pub AreLastPairs : List (List ℕ) → List ChangedComment → List Content → Type 0
+AreLastPairs keys [] last = Unit {0}
+AreLastPairs keys (c ∷ cs) last = (is_among keys c.key ≡ true) × HoldNoPair c.key (with_old_comments cs last) × AreLastPairs keys cs last
+
+-- Comments right before the last pairs with these keys are replaced by others, and all other contents are unchanged.
+-- Contents have no blank lines, so these may be comments beyond one.
+pub record AreCommentsChanged (keys : List (List ℕ)) (old new : List Content) : Type 0 where
+  pub changes : List ChangedComment
+  pub last : List Content
+  pub was : old ≡ with_old_comments changes last
+  pub now : new ≡ with_new_comments changes last
+  pub are_last : AreLastPairs keys changes last
+
+-- the keys whose comments are set
+abbrev pub keys_of : List NewText → List (List ℕ)
+keys_of texts = map (λ t. let u : NewText = t in u.key) texts
+
+-- This holds for each text.
+abbrev pub OfTexts : (List ℕ → Type 0) → List NewText → Type 0
+OfTexts Holds [] = Unit {0}
+OfTexts Holds (t ∷ ts) = Holds t.text × OfTexts Holds ts
+
+-- The encoding in force stays. If no entry of the result is malformed, as an escape in a text may be, all contents but
+-- comments right before the pairs are those of the source, in order.
+abbrev pub SettingCommentsKeepsTheRest : Repertoire → List ℕ → List NewText → Type 0
+SettingCommentsKeepsTheRest r source texts =
+    OfTexts (All scalar) texts → (result : List ℕ) → AreCommentsSet r source texts result → (before : List Entry) → HasSoundEntries r source before
     → ((byte_order_mark r.encoding result).encoding ≡ (byte_order_mark r.encoding source).encoding)
-    × ((after : List Entry) → IsItems r.encoding result end after → AreItems after → IsCommentChanged key (contents before) (contents after))
+    × ((after : List Entry) → IsItems r.encoding result end after → AreItems after → AreCommentsChanged (keys_of texts) (contents before) (contents after))
 
--- No entry is malformed if the text holds no backslash.
-abbrev pub SettingAPlainCommentBreaksNothing : Repertoire → List ℕ → List ℕ → List ℕ → Type 0
-SettingAPlainCommentBreaksNothing r source key text =
-    All scalar text → HoldsNoBackslash text → (result : List ℕ) → IsCommentSet r source key text result
+-- No entry is malformed if no text holds a backslash.
+abbrev pub SettingPlainCommentsBreaksNothing : Repertoire → List ℕ → List NewText → Type 0
+SettingPlainCommentsBreaksNothing r source texts =
+    OfTexts (All scalar) texts → OfTexts HoldsNoBackslash texts → (result : List ℕ) → AreCommentsSet r source texts result
     → (before after : List Entry) → HasSoundEntries r source before → IsItems r.encoding result end after → AreItems after
 
 -- Every key keeps its value.
-abbrev pub SettingTheCommentKeepsTheMap : Repertoire → List ℕ → List ℕ → List ℕ → Type 0
-SettingTheCommentKeepsTheMap r source key text =
-    All scalar text → (result : List ℕ) → IsCommentSet r source key text result
+abbrev pub SettingCommentsKeepsTheMap : Repertoire → List ℕ → List NewText → Type 0
+SettingCommentsKeepsTheMap r source texts =
+    OfTexts (All scalar) texts → (result : List ℕ) → AreCommentsSet r source texts result
     → (before after : List Entry) → HasSoundEntries r source before → IsItems r.encoding result end after → AreItems after
     → (value_at : List ℕ → Option (List ℕ)) → IsMap before value_at → IsMap after value_at
 
--- Each pair with the key is left out, and comments may be; all other contents are unchanged.
-abbrev pub AreOthersIn : List ℕ → List Content → List Content → Type 0
-AreOthersIn key [] others = others ≡ []
-AreOthersIn key (comment text ∷ cs) others =
-    AreOthersIn key cs others ⊎ (more : List Content) × (others ≡ comment text ∷ more) × AreOthersIn key cs more
-AreOthersIn key (pair name value ∷ cs) others =
-    (name ≡ key) × AreOthersIn key cs others ⊎ (name ≢ key) × (more : List Content) × (others ≡ pair name value ∷ more) × AreOthersIn key cs more
+-- Each pair with one of the keys is left out, and comments may be; all other contents are unchanged.
+abbrev pub AreOthersIn : List (List ℕ) → List Content → List Content → Type 0
+AreOthersIn keys [] others = others ≡ []
+AreOthersIn keys (comment text ∷ cs) others =
+    AreOthersIn keys cs others ⊎ (more : List Content) × (others ≡ comment text ∷ more) × AreOthersIn keys cs more
+AreOthersIn keys (pair name value ∷ cs) others =
+    (is_among keys name ≡ true) × AreOthersIn keys cs others
+    ⊎ (is_among keys name ≡ false) × (more : List Content) × (others ≡ pair name value ∷ more) × AreOthersIn keys cs more
 
--- A key is removed with its comments: the encoding in force stays, no entry is malformed, and pairs with other keys are
--- those of the source, in order.
-abbrev pub RemovingWithTheCommentKeepsTheRest : Repertoire → List ℕ → List ℕ → Type 0
-RemovingWithTheCommentKeepsTheRest r source key =
-    (result : List ℕ) → IsRemovedWithComments r.encoding source key result → (before : List Entry) → HasSoundEntries r source before
+-- Keys are removed with their comments: the encoding in force stays, no entry is malformed, and pairs with other keys
+-- are those of the source, in order.
+abbrev pub RemovingWithCommentsKeepsTheRest : Repertoire → List ℕ → List (List ℕ) → Type 0
+RemovingWithCommentsKeepsTheRest r source keys =
+    (result : List ℕ) → IsRemovedWithComments r.encoding source keys result → (before : List Entry) → HasSoundEntries r source before
     → ((byte_order_mark r.encoding result).encoding ≡ (byte_order_mark r.encoding source).encoding)
-    × ((after : List Entry) → IsItems r.encoding result end after → AreItems after × AreOthersIn key (contents before) (contents after))
+    × ((after : List Entry) → IsItems r.encoding result end after → AreItems after × AreOthersIn keys (contents before) (contents after))
 
--- So the key has no value, and every other key keeps its own.
-abbrev pub RemovingWithTheCommentTakesTheValue : Repertoire → List ℕ → List ℕ → Type 0
-RemovingWithTheCommentTakesTheValue r source key =
-    (result : List ℕ) → IsRemovedWithComments r.encoding source key result
+-- So these keys have no value, and every other key keeps its own.
+abbrev pub RemovingWithCommentsTakesTheValues : Repertoire → List ℕ → List (List ℕ) → Type 0
+RemovingWithCommentsTakesTheValues r source keys =
+    (result : List ℕ) → IsRemovedWithComments r.encoding source keys result
     → (before after : List Entry) → HasSoundEntries r source before → IsItems r.encoding result end after
-    → (value_at : List ℕ → Option (List ℕ)) → IsMap before value_at → IsMap after (map_edited (remove key) value_at)
+    → (value_at : List ℕ → Option (List ℕ)) → IsMap before value_at → IsMap after (λ key. if is_among keys key then None else value_at key)

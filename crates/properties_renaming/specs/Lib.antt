@@ -5,3 +5,4 @@ pub mod Laws
 pub mod Private
 pub mod Renames
 pub mod Renaming
+pub mod Sections

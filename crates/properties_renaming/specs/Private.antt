@@ -4,3 +4,4 @@ pub mod Renames
 pub mod Commented
 pub mod CommentTexts
 pub mod Commenting
+pub mod Keyed

@@ -1,21 +1,26 @@
-// The comment of a key is set: the comment lines directly above the last pair with it.
+// Comments of keys are set: the comment lines directly above the last pairs with them.
 
-ghost use Rattle.std.specs.Prelude.{◌≡◌, ◌<◌, List, flat_map, length, map, IfOk, OnOk, OnSome};
+ghost use Rattle.std.specs.Prelude.{◌≡◌, ◌<◌, ◌≤◌, List, flat_map, length, map, IfErr, IfOk, IfSome, OnOk, OnSome};
 ghost use Rattle.std.specs.Str.{chars};
 ghost use Rattle.properties_format.specs.Text.{is_line_ending};
 ghost use Rattle.properties_format.specs.Body.{HeldLine, group_bytes};
 ghost use Rattle.properties_format.specs.Computed.Lines.{ends_in_cr};
+ghost use Rattle.properties_items.specs.Errors.{IsBareError};
 ghost use Rattle.properties_items.specs.Texts.{characters};
+ghost use Rattle.properties_items.specs.declared.error.ErrorKind.TheVariants as kind;
 ghost use Rattle.properties_text.specs.Encoding.{encoding_of};
 ghost use Rattle.properties_text.specs.Printing.{AppendsOnOk};
 ghost use Rattle.properties_editing.specs.Editing.{asked_for};
-ghost use Rattle.properties_renaming.specs.Commenting.{AreCommentLines, IsStyleAbove, IsStyleOfLine, SetsComment, ending_or, gap_before};
+ghost use Rattle.properties_renaming.specs.Commenting.{AreCommentLines, IsStyleAbove, IsStyleOfLine, SetsComment, SetsComments, ending_or, gap_before, new_text, text_in, texts_in};
+ghost use Rattle.properties_renaming.specs.Sections.{Section};
 ghost use Rattle.properties_renaming.specs.Private.CommentTexts.{first_blank};
-ghost use Rattle.properties_renaming.specs.Private.Commenting.{FindsComment, GivesComment, HoldsGroup, HoldsLine, IsFoundComment, IsFoundSome, IsFoundStyle, IsLastEndingOf, MakesComment, PutsLines, ReadsCharacter, first_model, comment_line_bytes, line_feed_after, style_in};
+ghost use Rattle.properties_renaming.specs.Private.Commenting.{AreIndicesBelow, AreIndicesOf, FindsLines, GivesComment, HasLastLines, HoldsGroup, HoldsLine, IsFoundStyle, IsLastEndingOf, IsSectionAt, MakesComments, PutsComments, ReadsCharacter, SetsLines, TellsFirst, first_model, comment_line_bytes, index_at, line_feed_after, style_in};
 
 use crate::comment_lines::{comment_text, is_comment_line};
-use crate::comments::{Headed, guarded, has_key};
+use crate::comments::{Headed, guarded};
 use crate::copied::Copied;
+use crate::keyed::{give_value, value_at, value_of};
+use crate::renames::RenamesError;
 use crate::renaming::{RenameError, repertoire_for};
 use properties_editing::{SourceOptions, View, ViewedGroup, edit_with};
 use properties_items::error::PropertiesError;
@@ -24,7 +29,17 @@ use properties_text::encoding::byte_order_mark::encoding_in_force;
 use properties_text::parse::leading_blanks;
 use properties_text::print::{LineBuffer, Place, Repertoire, print_text};
 use std::alloc::{AllocError, Global};
-use std::mem;
+use std::collections::BTreeMap;
+use std::{mem, slice};
+
+/// A key, and the text that its comment gets.
+#[derive(Debug, Drop)]
+pub struct NewComment {
+    /// The key that a pair has.
+    pub key: String,
+    /// Each of its lines becomes a comment line. The empty text has none.
+    pub text: String,
+}
 
 /// Returns the source with the comment of a key set: the comment lines directly above the last pair with the key.
 ///
@@ -39,7 +54,7 @@ use std::mem;
 /// is read as it is. Characters that these options don't let stand are written as escapes, and no others: a backslash
 /// stays. If the source has no byte order mark and the result would begin like one, a line feed is inserted before it.
 ///
-/// The source is read twice.
+/// The source is read three times.
 ///
 /// Fails with [`NoKey`](RenameError::NoKey) if no pair has the key. Before that, a source is refused with the error of
 /// [`edit_with`].
@@ -60,32 +75,179 @@ pub fn set_comment(
 {
     // What an edit would refuse is refused.
     edit_with(alloc, source, options, &[])?;
-    match with_comment(alloc, source, options, key, text)? {
-        Some(bytes) => Ok(bytes),
-        None => Err(RenameError::NoKey),
+    let comment = new_comment(alloc, key, text)?;
+    match with_comments(alloc, source, options, slice::from_ref(&comment))? {
+        Commented::Bytes(bytes) => Ok(bytes),
+        Commented::NoKey(_) => Err(RenameError::NoKey),
     }
 }
 
-// Returns the source with the comment of a key set, or `None` if no pair has the key.
-fn with_comment(
+/// Returns the source with the comments of keys set, each as [`set_comment`] sets one. All are set in one pass.
+///
+/// Of several texts for one key, the last one counts.
+///
+/// Fails with [`NoKey`](RenamesError::NoKey) if no pair has the key of a comment, and tells the index of the first such
+/// comment. Before that, a source is refused with the error of [`edit_with`].
+///
+/// ```text
+/// let comments = [NewComment { key: host, text: its_name }, NewComment { key: port, text: the_front_door }];
+/// let commented = set_comments(alloc, b"host = a\nport = 80\n", options, &comments)?;
+/// // There is a comment line above each pair.
+/// ```
+pub fn set_comments(
     alloc: Global,
     source: &[u8],
     options: SourceOptions,
-    key: &str,
-    text: &str,
-) -> Result<Option<Vec<u8>>, PropertiesError>
-    ensures { MakesComment (asked_for options) source.now (chars key.now) (chars text.now) result }
+    comments: &[NewComment],
+) -> Result<Vec<u8>, RenamesError>
+    ensures { SetsComments options source.now (texts_in comments.now) result }
 {
-    let Some(comment) = find_comment(alloc, source, options.encoding, key)? else {
-        return Ok(None);
-    };
-    let lines = lines_of(alloc, text)?;
-    if comment.texts == lines {
-        let same = source.to_vec(alloc)?;
-        return Ok(Some(same));
+    // What an edit would refuse is refused.
+    edit_with(alloc, source, options, &[])?;
+    match with_comments(alloc, source, options, comments)? {
+        Commented::Bytes(bytes) => Ok(bytes),
+        Commented::NoKey(index) => Err(RenamesError::NoKey(index)),
     }
-    let bytes = with_lines(alloc, source, options, &comment, &lines)?;
-    Ok(Some(bytes))
+}
+
+fn new_comment(alloc: Global, key: &str, text: &str) -> Result<NewComment, PropertiesError>
+    ensures same { IfOk result (λ comment. text_in comment ≡ new_text (chars key.now) (chars text.now)) }
+    ensures memory { IfErr result (IsBareError kind.Memory) }
+{
+    Ok(NewComment {
+        key: String::from_str(alloc, key)?,
+        text: String::from_str(alloc, text)?,
+    })
+}
+
+// A source with comments set, or the index of the first one whose key no pair has.
+#[derive(Drop)]
+enum Commented {
+    Bytes(Vec<u8>),
+    NoKey(usize),
+}
+
+// Returns the source with the comments of keys set.
+fn with_comments(
+    alloc: Global,
+    source: &[u8],
+    options: SourceOptions,
+    comments: &[NewComment],
+) -> Result<Commented, PropertiesError>
+    ensures { MakesComments (asked_for options) source.now (texts_in comments.now) result }
+{
+    let indices = indices_of(alloc, comments)?;
+    let lines = last_lines(alloc, source, options.encoding, &indices, comments.len())?;
+    if let Some(index) = first_without(&indices, comments, &lines) {
+        return Ok(Commented::NoKey(index));
+    }
+    let others = with_new_lines(alloc, source, options, comments, &indices, &lines)?;
+    let bytes = guarded(source, others)?;
+    Ok(Commented::Bytes(bytes))
+}
+
+// Returns the index of the last comment for each key.
+fn indices_of(alloc: Global, comments: &[NewComment]) -> Result<BTreeMap<String, usize>, AllocError>
+    ensures { IfOk result (λ indices. AreIndicesOf (texts_in comments.now) indices.entries) }
+{
+    let mut indices = BTreeMap::new(alloc);
+    for (index, comment) in comments.iter().enumerate() {
+        give_value(alloc, &mut indices, &comment.key, index)?;
+    }
+    Ok(indices)
+}
+
+// Returns the line of the last pair with the key of each comment, or 0 if there is none. Of several comments for one key,
+// the last one has it.
+fn last_lines(
+    alloc: Global,
+    source: &[u8],
+    encoding: Encoding,
+    indices: &BTreeMap<String, usize>,
+    count: usize,
+) -> Result<Vec<usize>, PropertiesError>
+    requires { AreIndicesBelow count indices.now.entries }
+    ensures { FindsLines (encoding_of encoding) source.now indices.now.entries count result }
+{
+    let mut view = View::open(alloc, source, encoding)?;
+    let mut lines = vec![in alloc; 0; count]?;
+    while let Some(group) = view.next()? {
+        if let Some(index) = value_of(alloc, indices, view.line())? {
+            lines[index] = group.line_number;
+        }
+    }
+    Ok(lines)
+}
+
+// Returns the index of the first comment whose key no pair has.
+fn first_without(
+    indices: &BTreeMap<String, usize>,
+    comments: &[NewComment],
+    lines: &[usize],
+) -> Option<usize>
+    requires indices { AreIndicesBelow (length comments.now) indices.now.entries }
+    requires sizes { length lines.now ≡ length comments.now }
+    ensures { TellsFirst indices.now.entries lines.now (texts_in comments.now) result }
+{
+    for (index, comment) in comments.iter().enumerate() {
+        if index_at(lines, value_at(indices, &comment.key), 0).is_some() {
+            return Some(index);
+        }
+    }
+    None
+}
+
+// Returns the index of a comment if the last pair with its key begins in this line.
+fn index_at(lines: &[usize], index: Option<usize>, line: usize) -> Option<usize>
+    requires { IfSome index (λ i. i < length lines.now) }
+    ensures { result ≡ index_at lines.now index line }
+{
+    let index = index?;
+    if lines[index] == line {
+        Some(index)
+    } else {
+        None
+    }
+}
+
+// Returns the source with new comment lines above the last pairs with these keys, which begin in these lines.
+fn with_new_lines(
+    alloc: Global,
+    source: &[u8],
+    options: SourceOptions,
+    comments: &[NewComment],
+    indices: &BTreeMap<String, usize>,
+    lines: &[usize],
+) -> Result<Vec<u8>, PropertiesError>
+    requires sizes { length lines.now ≡ length comments.now }
+    requires indices { AreIndicesOf (texts_in comments.now) indices.now.entries }
+    requires found { HasLastLines (asked_for options).encoding source.now indices.now.entries lines.now }
+    ensures { PutsComments (asked_for options) source.now (texts_in comments.now) result }
+{
+    let mut view = View::open(alloc, source, options.encoding)?;
+    let (encoding, start) = encoding_in_force(source, options.encoding);
+    let look = Look {
+        repertoire: repertoire_for(options, encoding),
+        ending: last_ending(&source[start..]),
+    };
+    let mut copied = Copied::new(alloc, source)?;
+    while let Some(comment) = next_comment(alloc, &mut view)? {
+        let last = value_of(alloc, indices, view.line())?;
+        let line = comment.headed.group.line_number;
+        if let Some(index) = index_at(lines, last, line) {
+            let text = &comments[index].text;
+            set_lines(alloc, &mut copied, look, &comment, text)?;
+        }
+    }
+    let bytes = copied.finish()?;
+    Ok(bytes)
+}
+
+// How new comment lines are printed, and the line ending that they have if their pair has none.
+#[derive(Clone, Copy)]
+struct Look<'a> {
+    repertoire: Repertoire,
+    ending: &'a [u8],
 }
 
 // A group that isn't a comment line, with the comment lines directly above it.
@@ -96,25 +258,6 @@ struct Comment {
     texts: Vec<String>,
     // The first of these lines that has a text.
     model: Option<ViewedGroup>,
-}
-
-// Returns the last pair with a key, with its comment.
-fn find_comment(
-    alloc: Global,
-    source: &[u8],
-    encoding: Encoding,
-    key: &str,
-) -> Result<Option<Comment>, PropertiesError>
-    ensures { FindsComment (encoding_of encoding) source.now (chars key.now) result }
-{
-    let mut view = View::open(alloc, source, encoding)?;
-    let mut found: Option<Comment> = None;
-    while let Some(comment) = next_comment(alloc, &mut view)? {
-        if has_key(alloc, view.line(), key)? {
-            found = Some(comment);
-        }
-    }
-    Ok(found)
 }
 
 // Returns the next group that isn't a comment line, with the comment lines directly above it, or `None` if comment lines
@@ -153,31 +296,27 @@ fn first_model(model: Option<ViewedGroup>, line: ViewedGroup, text: &str) -> Opt
     Some(model.unwrap_or(line))
 }
 
-// Returns the source with these comment lines above a pair, in place of those that are there.
-fn with_lines(
+// Puts the lines of a text in place of the comment lines that the view gave last, unless these are the same.
+fn set_lines(
     alloc: Global,
-    source: &[u8],
-    options: SourceOptions,
+    copied: &mut Copied<'_>,
+    look: Look<'_>,
     comment: &Comment,
-    lines: &[String],
-) -> Result<Vec<u8>, AllocError>
-    requires { IsFoundComment (encoding_of options.encoding) source.now comment.now }
-    ensures { IfOk result (λ bytes. PutsLines (asked_for options) source.now comment.now (map characters lines.now) bytes.items) }
+    text: &str,
+) -> Result<(), AllocError>
+    requires at { (s : Section) × IsSectionAt copied.old.source.now comment.now s }
+    requires done { copied.old.done ≤ comment.now.headed.start }
+    ensures { OnOk result (SetsLines copied.old look.entry comment.now (chars text.now) copied.new) }
 {
-    let (encoding, start) = encoding_in_force(source, options.encoding);
-    let repertoire = repertoire_for(options, encoding);
+    let lines = lines_of(alloc, text)?;
+    if comment.texts == lines {
+        return Ok(());
+    }
+    let style = style_for(copied.source(), comment, look.ending);
     let mut new = LineBuffer::new(alloc);
-    let style = style_for(source, comment, last_ending(&source[start..]));
-    print_lines(&mut new, repertoire, style, lines)?;
-    let mut copied = Copied::new(alloc, source)?;
-    copied.replace(
-        comment.headed.start,
-        comment.headed.group.start,
-        new.as_slice(),
-    )?;
-    let others = copied.finish()?;
-    let bytes = guarded(source, others)?;
-    Ok(bytes)
+    print_lines(&mut new, look.repertoire, style, &lines)?;
+    let Headed { start, group } = comment.headed;
+    copied.replace(start, group.start, new.as_slice())
 }
 
 // What a comment line has around its text.
@@ -191,7 +330,7 @@ struct Style<'a> {
 
 // Returns what new comment lines have, given the line ending that they have if the pair has none.
 fn style_for<'a>(source: &'a [u8], comment: &Comment, other: &'a [u8]) -> Style<'a>
-    requires { IsFoundSome source.now comment.now }
+    requires { (s : Section) × IsSectionAt source.now comment.now s }
     ensures { IsFoundStyle source.now comment.now other.now (style_in result) }
 {
     match comment.model {

@@ -1,22 +1,23 @@
 // The comments of keys: the comment lines directly above a pair.
 
-ghost use Rattle.std.specs.Prelude.{◌≡◌, ◌<◌, ◌++◌, length, IfOk, OnSome};
+ghost use Rattle.std.specs.Prelude.{◌≡◌, ◌∷◌, [], ◌<◌, ◌++◌, length, map, IfOk, OnSome};
 ghost use Rattle.std.specs.Str.{chars};
-ghost use Rattle.properties_format.specs.Computed.Body.{is_pair_with};
-ghost use Rattle.properties_format.specs.Computed.Items.{outcome_of};
 ghost use Rattle.properties_format.specs.Edited.{guarding_lf};
+ghost use Rattle.properties_items.specs.Texts.{characters};
 ghost use Rattle.properties_text.specs.Encoding.{encoding_of};
 ghost use Rattle.properties_renaming.specs.Commented.{RemovesWithComments};
-ghost use Rattle.properties_renaming.specs.Private.Commented.{GivesHeaded, LeavesOthers};
+ghost use Rattle.properties_renaming.specs.Private.Commented.{GivesHeaded, LeavesOthers, AreListed};
 
 use crate::comment_lines::is_comment_line;
 use crate::copied::Copied;
-use crate::renaming::{Named, find_named};
+use crate::keyed::{give_value, value_of};
 use properties_editing::{SourceOptions, View, ViewedGroup, edit_with};
 use properties_items::error::PropertiesError;
 use properties_text::encoding::Encoding;
 use properties_text::encoding::byte_order_mark::begins_like_byte_order_mark;
 use std::alloc::{AllocError, Global};
+use std::collections::BTreeMap;
+use std::slice;
 
 /// Returns the source without the pairs that have a key, and without the comment lines directly above each of them.
 ///
@@ -38,33 +39,69 @@ pub fn remove_with_comment(
     options: SourceOptions,
     key: &str,
 ) -> Result<Vec<u8>, PropertiesError>
-    ensures { RemovesWithComments options source.now (chars key.now) result }
+    ensures { RemovesWithComments options source.now (chars key.now ∷ []) result }
 {
     // What an edit would refuse is refused.
     edit_with(alloc, source, options, &[])?;
-    let others = without_key(alloc, source, options.encoding, key)?;
+    let key = String::from_str(alloc, key)?;
+    let bytes = without_keys(alloc, source, options.encoding, slice::from_ref(&key))?;
+    Ok(bytes)
+}
+
+/// Returns the source without the pairs that have one of these keys, and without the comment lines directly above each
+/// of them, as [`remove_with_comment`] does for one key. All keys are removed in one pass.
+///
+/// ```text
+/// let source = b"# the front door\nport = 80\nhost = a\n";
+/// let keys = vec![in alloc; port, host]?;
+/// let edited = remove_with_comments(alloc, source, options, &keys)?;
+/// // It is empty.
+/// ```
+pub fn remove_with_comments(
+    alloc: Global,
+    source: &[u8],
+    options: SourceOptions,
+    keys: &[String],
+) -> Result<Vec<u8>, PropertiesError>
+    ensures { RemovesWithComments options source.now (map characters keys.now) result }
+{
+    // What an edit would refuse is refused.
+    edit_with(alloc, source, options, &[])?;
+    let bytes = without_keys(alloc, source, options.encoding, keys)?;
+    Ok(bytes)
+}
+
+// Returns the source without the pairs with these keys and the comment lines directly above them.
+fn without_keys(
+    alloc: Global,
+    source: &[u8],
+    encoding: Encoding,
+    keys: &[String],
+) -> Result<Vec<u8>, PropertiesError>
+    ensures { LeavesOthers (encoding_of encoding) source.now (map characters keys.now) result }
+{
+    let listed = listed_keys(alloc, keys)?;
+    let mut view = View::open(alloc, source, encoding)?;
+    let mut copied = Copied::new(alloc, source)?;
+    while let Some(headed) = next_headed(&mut view)? {
+        if value_of(alloc, &listed, view.line())?.is_some() {
+            copied.replace(headed.start, headed.group.next, b"")?;
+        }
+    }
+    let others = copied.finish()?;
     let bytes = guarded(source, others)?;
     Ok(bytes)
 }
 
-// Returns the source without the pairs with a key and the comment lines directly above them.
-fn without_key(
-    alloc: Global,
-    source: &[u8],
-    encoding: Encoding,
-    key: &str,
-) -> Result<Vec<u8>, PropertiesError>
-    ensures { LeavesOthers (encoding_of encoding) source.now (chars key.now) result }
+// Returns the keys of a list.
+fn listed_keys(alloc: Global, keys: &[String]) -> Result<BTreeMap<String, ()>, AllocError>
+    ensures { IfOk result (λ listed. AreListed (map characters keys.now) listed.entries) }
 {
-    let mut view = View::open(alloc, source, encoding)?;
-    let mut copied = Copied::new(alloc, source)?;
-    while let Some(headed) = next_headed(&mut view)? {
-        if has_key(alloc, view.line(), key)? {
-            copied.replace(headed.start, headed.group.next, b"")?;
-        }
+    let mut listed = BTreeMap::new(alloc);
+    for key in keys {
+        give_value(alloc, &mut listed, key, ())?;
     }
-    let bytes = copied.finish()?;
-    Ok(bytes)
+    Ok(listed)
 }
 
 // A group that isn't a comment line, with the comment lines directly above it.
@@ -89,14 +126,6 @@ fn next_headed(view: &mut View<'_>) -> Result<Option<Headed>, AllocError>
         above = Some(start);
     }
     Ok(None)
-}
-
-// Returns whether a logical line is a pair with the key.
-pub(crate) fn has_key(alloc: Global, line: &str, key: &str) -> Result<bool, AllocError>
-    ensures { IfOk result (λ has. has ≡ is_pair_with (chars key.now) (outcome_of (chars line.now))) }
-{
-    let named = find_named(alloc, line, key, key)?;
-    Ok(matches!(named, Named::Old))
 }
 
 // Returns these bytes, with a line feed before them if they begin like a byte order mark and the source doesn't.

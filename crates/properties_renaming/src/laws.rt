@@ -5,7 +5,8 @@
 ghost use Rattle.std.specs.Prelude.{ℕ, List};
 ghost use Rattle.properties_format.specs.Encoding.{Repertoire};
 ghost use Rattle.properties_editing.specs.declared.source.SourceOptions.{SourceOptions};
-ghost use Rattle.properties_renaming.specs.Laws.{RenamingAgainIsRefused, RenamingBackGivesTheContents, RenamingChangesTheKey, RenamingMovesTheValue, RemovingWithTheCommentKeepsTheRest, RemovingWithTheCommentTakesTheValue, SettingAPlainCommentBreaksNothing, SettingTheCommentKeepsTheMap, SettingTheCommentKeepsTheRest};
+ghost use Rattle.properties_renaming.specs.Commenting.{NewText};
+ghost use Rattle.properties_renaming.specs.Laws.{RenamingAgainIsRefused, RenamingBackGivesTheContents, RenamingChangesTheKey, RenamingMovesTheValue, RemovingWithCommentsKeepsTheRest, RemovingWithCommentsTakesTheValues, SettingCommentsKeepsTheMap, SettingCommentsKeepsTheRest, SettingPlainCommentsBreaksNothing};
 
 /// What a source says after a key was renamed to one that isn't empty, if none of its entries was malformed. The
 /// encoding in force stays, and no entry is malformed. The comments, and the pairs with their values, are those of the
@@ -26,24 +27,24 @@ pub fn renaming()
     ensures again { (options : SourceOptions) (source old new : List ℕ) → RenamingAgainIsRefused options source old new }
 {}
 
-/// What a source says after the comment of a key was set, and after a key was removed with its comments, if none of its
+/// What a source says after comments of keys were set, and after keys were removed with their comments, if none of its
 /// entries was malformed. The encoding in force stays.
 ///
-/// After [`set_comment`](crate::set_comment), comments right before the last pair with the key may be others. All other
-/// comments, and the pairs with their values, are those of the source, in order, so every key keeps its value. This
-/// holds if no entry of the result is malformed, and none is if the text holds no backslash.
+/// After [`set_comments`](crate::set_comments), comments right before the last pairs with these keys may be others. All
+/// other comments, and the pairs with their values, are those of the source, in order, so every key keeps its value.
+/// This holds if no entry of the result is malformed, and none is if no text holds a backslash.
 ///
-/// After [`remove_with_comment`](crate::remove_with_comment), no entry is malformed, and the pairs with other keys are
-/// those of the source, in order. So the key has no value, and every other key keeps its own.
+/// After [`remove_with_comments`](crate::remove_with_comments), no entry is malformed, and the pairs with other keys are
+/// those of the source, in order. So these keys have no value, and every other key keeps its own.
 ///
 /// ```text
 /// laws::commenting();
-/// // A proof that comes after may take the map of a source to be the one before its comment was set.
+/// // A proof that comes after may take the map of a source to be the one before its comments were set.
 /// ```
 pub fn commenting()
-    ensures set { (r : Repertoire) (source key text : List ℕ) → SettingTheCommentKeepsTheRest r source key text }
-    ensures sound { (r : Repertoire) (source key text : List ℕ) → SettingAPlainCommentBreaksNothing r source key text }
-    ensures map { (r : Repertoire) (source key text : List ℕ) → SettingTheCommentKeepsTheMap r source key text }
-    ensures removed { (r : Repertoire) (source key : List ℕ) → RemovingWithTheCommentKeepsTheRest r source key }
-    ensures removed_map { (r : Repertoire) (source key : List ℕ) → RemovingWithTheCommentTakesTheValue r source key }
+    ensures set { (r : Repertoire) (source : List ℕ) (texts : List NewText) → SettingCommentsKeepsTheRest r source texts }
+    ensures sound { (r : Repertoire) (source : List ℕ) (texts : List NewText) → SettingPlainCommentsBreaksNothing r source texts }
+    ensures map { (r : Repertoire) (source : List ℕ) (texts : List NewText) → SettingCommentsKeepsTheMap r source texts }
+    ensures removed { (r : Repertoire) (source : List ℕ) (keys : List (List ℕ)) → RemovingWithCommentsKeepsTheRest r source keys }
+    ensures removed_map { (r : Repertoire) (source : List ℕ) (keys : List (List ℕ)) → RemovingWithCommentsTakesTheValues r source keys }
 {}

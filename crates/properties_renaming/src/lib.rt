@@ -15,12 +15,13 @@ pub mod comment_lines;
 mod commenting;
 mod comments;
 mod copied;
+mod keyed;
 pub mod laws;
 mod renames;
 mod renaming;
 
-pub use commenting::set_comment;
-pub use comments::remove_with_comment;
+pub use commenting::{NewComment, set_comment, set_comments};
+pub use comments::{remove_with_comment, remove_with_comments};
 pub use properties_editing::{Comments, SourceOptions};
 pub use properties_items::error::{ErrorKind, PropertiesError};
 pub use properties_text::encoding::Encoding;

@@ -1,19 +1,18 @@
 // Renames many keys of a source, and keeps every other byte.
 
-ghost use Rattle.std.specs.Prelude.{◌≡◌, ◌<◌, ◌≤◌, None, false, true, IfErr, IfOk, IfSome, OnOk, length, replicate};
+ghost use Rattle.std.specs.Prelude.{◌≡◌, ◌<◌, ◌≤◌, None, false, true, IfErr, IfOk, IfSome, length, replicate};
 ghost use Rattle.std.specs.Str.{chars};
-ghost use Rattle.properties_format.specs.Computed.Items.{outcome_of};
 ghost use Rattle.properties_editing.specs.Editing.{asked_for};
 ghost use Rattle.properties_renaming.specs.Renames.{RenamesKeys, names_in, new_name};
 ghost use Rattle.properties_items.specs.Errors.{IsBareError};
 ghost use Rattle.properties_items.specs.declared.error.ErrorKind.TheVariants as kind;
-ghost use Rattle.properties_renaming.specs.Private.Renames.{AddsNames, AreFound, AreRolesOf, GivesRole, HasRoles, IsFound, IsInEditableEncoding, IsRoleWithin, RenamesAtOnce, RenamesFront, RenamesInTurn, RenamesSome, error_at, is_needed, kept_role, last_rename, role_at, role_of};
+ghost use Rattle.properties_renaming.specs.Private.Renames.{AddsNames, AreFound, AreRolesOf, HasRoles, IsFound, IsInEditableEncoding, IsRoleWithin, RenamesAtOnce, RenamesFront, RenamesInTurn, RenamesSome, error_at, is_needed, kept_role, last_rename};
 
 use crate::copied::{Copied, copy_of};
+use crate::keyed::{give_value, value_at, value_of};
 use crate::renaming::{NewKey, RenameError, put_key, rename_editable, repertoire_for};
 use properties_editing::{SourceOptions, View, edit_with};
-use properties_items::error::{ErrorKind, PropertiesError};
-use properties_items::found::{find_item, pair_texts};
+use properties_items::error::PropertiesError;
 use std::alloc::{AllocError, Global};
 use std::collections::BTreeMap;
 use std::error::Error;
@@ -212,7 +211,7 @@ fn rename_by_roles(
     let mut found = none_found(alloc, renames.len())?;
     let mut first = true;
     while let Some(group) = view.next()? {
-        match role_of(alloc, roles, view.line())? {
+        match value_of(alloc, roles, view.line())? {
             Some(Role::Old(index, last)) => {
                 let key = NewKey {
                     repertoire,
@@ -254,7 +253,7 @@ fn first_refused(
     let mut found = none_found(alloc, count)?;
     let mut taken = count;
     while let Some(_) = view.next()? {
-        match role_of(alloc, &names, view.line())? {
+        match value_of(alloc, &names, view.line())? {
             Some(Role::Old(index, _)) => found[index] = true,
             Some(Role::Kept(index)) => found[index] = true,
             Some(Role::New(index)) => taken = taken.min(index),
@@ -284,7 +283,7 @@ fn first_missing(
     ensures within { IfSome result (λ index. index < length renames.now) }
 {
     for (index, rename) in renames.iter().enumerate() {
-        if !is_found(found, role_at(roles, &rename.old)) {
+        if !is_found(found, value_at(roles, &rename.old)) {
             return Some(index);
         }
     }
@@ -393,14 +392,14 @@ fn add_names(
     if old == new {
         return keep_name(alloc, roles, index, old);
     }
-    if new.is_empty() || is_needed(role_at(roles, old)) {
+    if new.is_empty() || is_needed(value_at(roles, old)) {
         return Ok(false);
     }
-    let Some(last) = last_rename(index, role_at(roles, new)) else {
+    let Some(last) = last_rename(index, value_at(roles, new)) else {
         return Ok(false);
     };
-    give_role(alloc, roles, old, Role::Old(index, last))?;
-    give_role(alloc, roles, new, Role::New(index))?;
+    give_value(alloc, roles, old, Role::Old(index, last))?;
+    give_value(alloc, roles, new, Role::New(index))?;
     Ok(true)
 }
 
@@ -414,10 +413,10 @@ fn keep_name(
     ensures { AddsNames roles.old.entries index (new_name (chars key.now) (chars key.now))
         result roles.new.entries }
 {
-    let Some(role) = kept_role(index, role_at(roles, key)) else {
+    let Some(role) = kept_role(index, value_at(roles, key)) else {
         return Ok(false);
     };
-    give_role(alloc, roles, key, role)?;
+    give_value(alloc, roles, key, role)?;
     Ok(true)
 }
 
@@ -457,44 +456,4 @@ fn is_needed(role: Option<Role>) -> bool
         Some(Role::New(_)) => false,
         None => false,
     }
-}
-
-fn give_role(
-    alloc: Global,
-    roles: &mut BTreeMap<String, Role>,
-    name: &str,
-    role: Role,
-) -> Result<(), AllocError>
-    ensures { OnOk result (GivesRole roles.old.entries (chars name.now) role roles.new.entries) }
-{
-    roles.insert(String::from_str(alloc, name)?, role)?;
-    Ok(())
-}
-
-// Returns the role of a logical line's key, if the line is a pair and its key has one.
-fn role_of(
-    alloc: Global,
-    roles: &BTreeMap<String, Role>,
-    line: &str,
-) -> Result<Option<Role>, AllocError>
-    ensures { IfOk result (λ role. role ≡ role_of roles.now.entries (outcome_of (chars line.now))) }
-{
-    match find_item(alloc, 1, line) {
-        Ok(Some(found)) => match pair_texts(&found, line) {
-            Some((key, _)) => Ok(role_at(roles, key)),
-            None => Ok(None),
-        },
-        Ok(None) => Ok(None),
-        Err(error) => match error.kind() {
-            ErrorKind::Memory => Err(AllocError),
-            _ => Ok(None),
-        },
-    }
-}
-
-// Returns the role of a name, if it has one.
-fn role_at(roles: &BTreeMap<String, Role>, name: &str) -> Option<Role>
-    ensures { result ≡ role_at roles.now.entries (chars name.now) }
-{
-    roles.get(name).copied()
 }

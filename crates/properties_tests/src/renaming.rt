@@ -1,10 +1,11 @@
 // Sources in which a key is renamed, its comment set, or both removed, and what comes of each.
 
 use java_properties::{
-    Comments, Encoding, ErrorKind, Rename, RenameError, RenamesError, SourceOptions, comment_of,
-    remove_with_comment, rename_key, rename_keys, set_comment,
+    Comments, Encoding, ErrorKind, NewComment, Rename, RenameError, RenamesError, SourceOptions,
+    comment_of, remove_with_comment, remove_with_comments, rename_key, rename_keys, set_comment,
+    set_comments,
 };
-use std::alloc::Global;
+use std::alloc::{AllocError, Global};
 use std::process::Abort;
 use std::test::Fail;
 
@@ -553,4 +554,71 @@ fn a_comment_needs_its_key(rt: HostRuntime) {
             Err(error) => same(&rt, row, reason_of(&error), *wanted),
         }
     }
+}
+
+// A list of keys and texts.
+fn new_comments(alloc: Global, texts: &[(&str, &str)]) -> Result<Vec<NewComment>, AllocError> {
+    let mut comments = Vec::new(alloc);
+    for (key, text) in texts {
+        comments.push(NewComment {
+            key: String::from_str(alloc, key)?,
+            text: String::from_str(alloc, text)?,
+        })?;
+    }
+    Ok(comments)
+}
+
+#[test]
+fn comments_of_many_keys_are_set(rt: HostRuntime) -> Result<(), Fail> {
+    let alloc = rt.alloc();
+    let options = SourceOptions::new(Encoding::UTF_8);
+    let texts = [("b", "two"), ("a", "x"), ("c", ""), ("a", "one")];
+    let comments = new_comments(alloc, texts.as_slice())?;
+    let source = b"# first\na=1\n;old\n! a\na=2\r\nb=1\n#\nc=1";
+    let commented = set_comments(alloc, source, options, &comments)?;
+    same(
+        &rt,
+        0,
+        commented.as_slice(),
+        b"# first\na=1\n;old\n! one\na=2\r\n# two\nb=1\nc=1".as_slice(),
+    );
+    let none = set_comments(alloc, source, options, &[])?;
+    same(&rt, 1, none.as_slice(), source.as_slice());
+    Ok(())
+}
+
+#[test]
+fn the_first_comment_without_a_pair_is_told(rt: HostRuntime) -> Result<(), Fail> {
+    let alloc = rt.alloc();
+    let options = SourceOptions::new(Encoding::UTF_8);
+    let texts = [("b", "x"), ("c", "x"), ("a", "x"), ("d", "x")];
+    let comments = new_comments(alloc, texts.as_slice())?;
+    match set_comments(alloc, b"# d=1\na=1\nb=1\n", options, &comments) {
+        Ok(_) => panic!(rt; "it was commented"),
+        Err(RenamesError::NoKey(index)) => same(&rt, 0, index, 1usize),
+        Err(_other) => panic!(rt; "another error"),
+    }
+    Ok(())
+}
+
+#[test]
+fn many_keys_are_removed_with_their_comments(rt: HostRuntime) -> Result<(), Fail> {
+    let alloc = rt.alloc();
+    let options = SourceOptions::new(Encoding::UTF_8);
+    let keys = vec![in alloc;
+        String::from_str(alloc, "a")?,
+        String::from_str(alloc, "c")?,
+        String::from_str(alloc, "z")?,
+    ]?;
+    let source = b"# one\na=1\n# two\nb=2\n\n# three\nc=3\n# four\na=4\n# end\n";
+    let removed = remove_with_comments(alloc, source, options, &keys)?;
+    same(
+        &rt,
+        0,
+        removed.as_slice(),
+        b"# two\nb=2\n\n# end\n".as_slice(),
+    );
+    let all = remove_with_comments(alloc, source, options, &[])?;
+    same(&rt, 1, all.as_slice(), source.as_slice());
+    Ok(())
 }

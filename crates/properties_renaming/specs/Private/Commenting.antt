@@ -1,30 +1,38 @@
--- How the comment of a key is found and set, group after group of a view.
-use Rattle.std.specs.Prelude.{◌≡◌, ◌≢◌, ◌⊎◌, ◌++◌, ◌-◌, ℕ, ◌+◌, Bool, false, true, if◌then◌else◌, List, [], ◌∷◌, length, map, Option, Some, None, Result, Ok, Err}
+-- How comments are set, group after group of a view.
+use Rattle.std.specs.Prelude.{◌≡◌, ◌≢◌, ◌⊎◌, ◌++◌, ◌-◌, ◌<◌, ◌≤◌, ℕ, ◌+◌, ◌==◌, Bool, true, is_some, if◌then◌else◌, List, [], ◌∷◌, get_or, length, map, Option, Some, None, Result, Ok, Err}
 use Rattle.std.specs.Global.{Vec}
 use Rattle.std.specs.Option.{unwrap_or}
+use Rattle.std.specs.declared.string.String.{String}
 use Rattle.properties_format.specs.Text.{crlf, is_empty, lf, line_ending_text}
-use Rattle.properties_format.specs.Encoding.{Encoding, Repertoire, byte_order_mark, repertoire_in_force}
+use Rattle.properties_format.specs.Encoding.{Encoding, Repertoire, repertoire_in_force}
 use Rattle.properties_format.specs.Lines.{HoldsNoLineEnding, is_comment_line, joined}
-use Rattle.properties_format.specs.Body.{AreGroupsOf, HeldLine, HasKey, NoneHasKey, as_lines, ending_bytes, group_bytes, groups_bytes, last_ending}
-use Rattle.properties_format.specs.Edited.{bom_of, final_group, is_editable}
+use Rattle.properties_format.specs.Body.{AreGroupsOf, HeldLine, as_lines, ending_bytes, group_bytes, groups_bytes, held_in, last_ending}
+use Rattle.properties_format.specs.Edited.{bom_of, is_editable}
 use Rattle.properties_format.specs.Valued.{ending_in}
+use Rattle.properties_format.specs.Computed.Items.{outcome_of}
 use Rattle.properties_format.specs.Computed.Lines.{ends_in_cr, lines_of, rest_of_end}
 use Rattle.properties_text.specs.Printing.{text_bytes}
 use Rattle.properties_text.specs.declared.print.Place.TheVariants.{Prefix}
 use Rattle.properties_text.specs.declared.print.Repertoire as code
-use Rattle.properties_items.specs.Errors.{IsBareError}
 use Rattle.properties_items.specs.Texts.{characters}
-use Rattle.properties_items.specs.declared.error.ErrorKind.TheVariants as error
 use Rattle.properties_items.specs.declared.error.PropertiesError.{PropertiesError}
 use Rattle.properties_editing.specs.Views.{OpenView, past_group}
 use Rattle.properties_editing.specs.declared.group.ViewedGroup.{ViewedGroup}
-use Rattle.properties_renaming.specs.CommentLines.{AreCommentGroups, AreCommentTexts, IsCommentGroup, IsCommentLine, IsCommentOf}
-use Rattle.properties_renaming.specs.Commenting.{HasNewLines, HaveNoText, IsCommentSet, IsStyleFor, LineStyle, gap_before, texts_of}
-use Rattle.properties_renaming.specs.Renaming.{AreIn, LacksKey}
-use Rattle.properties_renaming.specs.Private.Commented.{TakesHeaded}
+use Rattle.properties_renaming.specs.CommentLines.{AreCommentGroups, AreCommentTexts, IsCommentLine}
+use Rattle.properties_renaming.specs.Commenting.{AreCommentsSet, HasLines, HasNoPairFor, HaveNoText, IsCommented, IsStyleFor, LineStyle, NewText, gap_before, text_for, texts_of}
+use Rattle.properties_renaming.specs.Renaming.{AreIn}
+use Rattle.properties_renaming.specs.Sections.{AreDivided, AreMadeOf, Section}
+use Rattle.properties_renaming.specs.Private.Commented.{IsUnopened, TakesHeaded}
+use Rattle.properties_renaming.specs.Private.Copied.{copied_to}
+use Rattle.properties_renaming.specs.Private.Keyed.{value_at, value_of}
+use Rattle.properties_renaming.specs.Private.Renaming.{PrintsKeys}
 use Rattle.properties_renaming.specs.declared.commenting.Comment.{Comment}
+use Rattle.properties_renaming.specs.declared.commenting.Commented.{Commented}
+use Rattle.properties_renaming.specs.declared.commenting.Commented.TheVariants.{Bytes, NoKey}
+use Rattle.properties_renaming.specs.declared.commenting.Look.{Look}
 use Rattle.properties_renaming.specs.declared.commenting.Style.{Style}
 use Rattle.properties_renaming.specs.declared.commenting.TextLines.{TextLines}
+use Rattle.properties_renaming.specs.declared.copied.Copied.{Copied}
 
 -- ---- the comment lines above a group
 
@@ -52,13 +60,13 @@ TellsModel start run None = HaveNoText run
 TellsModel start run (Some model) = IsModel start run model
 
 -- what is known of the comment lines above a group
-abbrev pub texts_in : Comment → List (List ℕ)
-texts_in comment = map characters comment.texts.items
+abbrev pub texts_above : Comment → List (List ℕ)
+texts_above comment = map characters comment.texts.items
 
 -- The next group that isn't a comment line was given, with the comment lines directly above it, and their texts;
 abbrev pub TakesComment : OpenView → Comment → OpenView → Type 0
 TakesComment old comment new =
-    (h : TakesHeaded old comment.headed new) × AreCommentTexts h.run (texts_in comment) × TellsModel (past_group old).start h.run comment.model
+    (h : TakesHeaded old comment.headed new) × AreCommentTexts h.run (texts_above comment) × TellsModel (past_group old).start h.run comment.model
 
 -- or comment lines alone were to come.
 abbrev pub GivesComment : OpenView → Option Comment → OpenView → Type 0
@@ -69,64 +77,77 @@ GivesComment old (Some comment) new = TakesComment old comment new
 abbrev pub first_model : Option ViewedGroup → ViewedGroup → List ℕ → Option ViewedGroup
 first_model model line text = if is_empty text then model else Some (unwrap_or model line)
 
--- ---- the last pair with a key
+-- ---- the last pairs with keys
 
--- The last of these groups that is a pair with the key, and its comment. The first of them begins here.
-pub record IsCommentFoundIn (groups : List (List HeldLine)) (key : List ℕ) (start : ℕ) (comment : Comment) : Type 0 where
+-- The comment with this index is the last one for the key.
+abbrev pub IsIndexOf : List NewText → List ℕ → Option ℕ → Type 0
+IsIndexOf texts key None = text_for texts key ≡ None
+IsIndexOf texts key (Some i) = (i < length texts) × ((d : NewText) → ((get_or texts i d).key ≡ key) × (text_for texts key ≡ Some (get_or texts i d).text))
+
+abbrev pub AreIndicesOf : {Y : Type 0} → List NewText → List (String Y × ℕ) → Type 0
+AreIndicesOf texts indices = (key : List ℕ) → IsIndexOf texts key (value_at indices key)
+
+abbrev pub AreIndicesBelow : {Y : Type 0} → ℕ → List (String Y × ℕ) → Type 0
+AreIndicesBelow count indices = (key : List ℕ) (i : ℕ) → value_at indices key ≡ Some i → i < count
+
+-- The group is a pair whose key has this index.
+abbrev pub HasIndex : {Y : Type 0} → List (String Y × ℕ) → ℕ → List HeldLine → Type 0
+HasIndex indices i group = value_of indices (outcome_of (joined (as_lines group))) ≡ Some i
+
+abbrev pub NoneHasIndex : {Y : Type 0} → List (String Y × ℕ) → ℕ → List (List HeldLine) → Type 0
+NoneHasIndex indices i [] = Unit {0}
+NoneHasIndex indices i (g ∷ gs) = ¬ (HasIndex indices i g) × NoneHasIndex indices i gs
+
+-- The last of these groups with this index has this number.
+pub record IsLastWith {Y : Type 0} (indices : List (String Y × ℕ)) (i : ℕ) (groups : List (List HeldLine)) (number : ℕ) : Type 0 where
   pub before : List (List HeldLine)
-  pub run : List (List HeldLine)
   pub group : List HeldLine
   pub after : List (List HeldLine)
-  pub division : groups ≡ before ++ (run ++ group ∷ after)
-  pub has_key : HasKey key group
-  pub no_later : NoneHasKey key after
-  pub are_comments : AreCommentGroups run
-  pub no_earlier : ¬ (IsCommentGroup (final_group before))
-  pub are_texts : AreCommentTexts run (texts_in comment)
-  pub start_is : comment.headed.start ≡ start + length (groups_bytes before)
-  pub at : IsGroupAt (comment.headed.start + length (groups_bytes run)) group comment.headed.group
-  pub model : TellsModel comment.headed.start run comment.model
+  pub division : groups ≡ before ++ group ∷ after
+  pub has_index : HasIndex indices i group
+  pub no_later : NoneHasIndex indices i after
+  pub is_number : number ≡ length (held_in before) + 1
 
-abbrev pub TellsFound : List (List HeldLine) → List ℕ → ℕ → Option Comment → Type 0
-TellsFound groups key start None = NoneHasKey key groups
-TellsFound groups key start (Some comment) = IsCommentFoundIn groups key start comment
+-- Or none has it.
+abbrev pub TellsLast : {Y : Type 0} → List (String Y × ℕ) → ℕ → List (List HeldLine) → ℕ → Type 0
+TellsLast indices i groups number = (number ≡ 0) × NoneHasIndex indices i groups ⊎ IsLastWith indices i groups number
 
--- These are the groups of a source, and this is found in them.
-pub record HasFound (e : Encoding) (source key : List ℕ) (found : Option Comment) : Type 0 where
+-- These are the lines of the last groups of a source with each index.
+pub record HasLastLines {Y : Type 0} (e : Encoding) (source : List ℕ) (indices : List (String Y × ℕ)) (lines : List ℕ) : Type 0 where
   pub groups : List (List HeldLine)
   pub held : AreIn e source groups
-  pub editable : is_editable (byte_order_mark e source).encoding ≡ true
-  pub whole : source ≡ bom_of source ++ groups_bytes groups
-  pub found_is : TellsFound groups key (length (bom_of source)) found
+  pub tells : (i : ℕ) → i < length lines → TellsLast indices i groups (get_or lines i 0)
 
--- Or the encoding can't be edited, or memory ran out.
-abbrev pub IsUnopened : Encoding → List ℕ → PropertiesError → Type 0
-IsUnopened e source reason =
-    (is_editable (byte_order_mark e source).encoding ≡ false) × IsBareError error.Unsupported reason ⊎ IsBareError error.Memory reason
+abbrev pub FindsLines : {Y : Type 0} → Encoding → List ℕ → List (String Y × ℕ) → ℕ → Result (Vec ℕ) PropertiesError → Type 0
+FindsLines e source indices count (Ok lines) = (length lines.items ≡ count) × HasLastLines e source indices lines.items
+FindsLines e source indices count (Err reason) = IsUnopened e source reason
 
-abbrev pub FindsComment : Encoding → List ℕ → List ℕ → Result (Option Comment) PropertiesError → Type 0
-FindsComment e source key (Ok found) = HasFound e source key found
-FindsComment e source key (Err reason) = IsUnopened e source reason
+-- the index of a comment if the last pair with its key begins in this line
+abbrev pub index_at : List ℕ → Option ℕ → ℕ → Option ℕ
+index_at lines None line = None
+index_at lines (Some i) line = if get_or lines i 0 == line then Some i else None
 
--- It was found there for some key.
-abbrev pub IsFoundComment : Encoding → List ℕ → Comment → Type 0
-IsFoundComment e source comment = (key : List ℕ) × HasFound e source key (Some comment)
+-- No pair was found with the key, which has an index;
+abbrev pub IsWithout : {Y : Type 0} → List (String Y × ℕ) → List ℕ → List ℕ → Type 0
+IsWithout indices lines key = is_some (index_at lines (value_at indices key) 0) ≡ true
 
-abbrev pub IsFoundSome : List ℕ → Comment → Type 0
-IsFoundSome source comment = (e : Encoding) × IsFoundComment e source comment
+abbrev pub NoneIsWithout : {Y : Type 0} → List (String Y × ℕ) → List ℕ → List NewText → Type 0
+NoneIsWithout indices lines [] = Unit {0}
+NoneIsWithout indices lines (t ∷ ts) = ¬ (IsWithout indices lines t.key) × NoneIsWithout indices lines ts
 
-abbrev pub comment_in : {groups : List (List HeldLine)} {key : List ℕ} {start : ℕ} {comment : Comment} → IsCommentFoundIn groups key start comment → IsCommentOf groups key
-comment_in h = record {
-  before = h.before;
-  run = h.run;
-  group = h.group;
-  after = h.after;
-  division = h.division;
-  has_key = h.has_key;
-  no_later = h.no_later;
-  are_comments = h.are_comments;
-  no_earlier = h.no_earlier;
-}
+-- and this is the first such comment.
+pub record IsFirstWithout {Y : Type 0} (indices : List (String Y × ℕ)) (lines : List ℕ) (texts : List NewText) (index : ℕ) : Type 0 where
+  pub before : List NewText
+  pub text : NewText
+  pub after : List NewText
+  pub division : texts ≡ before ++ text ∷ after
+  pub index_is : index ≡ length before
+  pub none_before : NoneIsWithout indices lines before
+  pub without : IsWithout indices lines text.key
+
+abbrev pub TellsFirst : {Y : Type 0} → List (String Y × ℕ) → List ℕ → List NewText → Option ℕ → Type 0
+TellsFirst indices lines texts None = NoneIsWithout indices lines texts
+TellsFirst indices lines texts (Some index) = IsFirstWithout indices lines texts index
 
 -- ---- what a group has around its text
 
@@ -144,10 +165,25 @@ HoldsLine source g group = HoldsGroup source g group × (is_comment_line (group_
 abbrev pub style_in : Style → LineStyle
 style_in style = record { indent = style.indent.now; sign = style.sign; blank = style.blank.now; ending = style.ending.now }
 
+-- Each of these comment lines is one in bytes.
+abbrev pub AreCommentBytes : List (List HeldLine) → Type 0
+AreCommentBytes [] = Unit {0}
+AreCommentBytes (g ∷ gs) = (is_comment_line (group_bytes g) ≡ true) × AreCommentBytes gs
+
+-- The source has the section at its place.
+pub record IsSectionAt (source : List ℕ) (comment : Comment) (s : Section) : Type 0 where
+  pub front : List ℕ
+  pub rest : List ℕ
+  pub whole : source ≡ front ++ (groups_bytes s.run ++ (group_bytes s.group ++ rest))
+  pub start_is : comment.headed.start ≡ length front
+  pub at : IsGroupAt (comment.headed.start + length (groups_bytes s.run)) s.group comment.headed.group
+  pub are_texts : AreCommentTexts s.run (texts_above comment)
+  pub model : TellsModel comment.headed.start s.run comment.model
+  pub are_comments : AreCommentBytes s.run
+
 -- What new comment lines have, given the line ending that they have if the pair has none.
 abbrev pub IsFoundStyle : List ℕ → Comment → List ℕ → LineStyle → Type 0
-IsFoundStyle source comment other style =
-    (e : Encoding) (key : List ℕ) (h : HasFound e source key (Some comment)) → IsStyleFor other h.found_is.run h.found_is.group style
+IsFoundStyle source comment other style = (s : Section) → IsSectionAt source comment s → IsStyleFor other s.run s.group style
 
 -- This is the last line ending of a body, or an LF if it has none.
 abbrev pub IsLastEndingOf : List ℕ → List ℕ → Type 0
@@ -164,17 +200,39 @@ line_feed_after front = line_ending_text (if ends_in_cr front then crlf else lf)
 abbrev pub comment_line_bytes : code.Repertoire → Style → List ℕ → List ℕ
 comment_line_bytes r style x = style.indent.now ++ (style.sign ∷ (gap_before style.blank.now x ++ (text_bytes r Prefix x ++ style.ending.now)))
 
--- They were put in place of those that were found.
-abbrev pub PutsLines : Repertoire → List ℕ → Comment → List (List ℕ) → List ℕ → Type 0
-PutsLines r source comment lines result =
-    (key : List ℕ) (h : HasFound r.encoding source key (Some comment))
-    → HasNewLines (repertoire_in_force r source) source (comment_in h.found_is) lines result
+-- The comment lines of a section are copied, or others are put in their place.
+pub record IsHeadSet (t : Repertoire) (other : List ℕ) (s : Section) (old : Copied) (comment : Comment) (text : List ℕ) (new : Copied) : Type 0 where
+  pub head : List ℕ
+  pub lines : HasLines t other s text head
+  pub copied : copied_to new comment.headed.group.start ≡ copied_to old comment.headed.start ++ head
+  pub done : new.done ≤ comment.headed.group.start
+  pub source_is : new.source.now ≡ old.source.now
 
--- The source with the comment of a key set, or no pair has the key.
-abbrev pub MakesComment : Repertoire → List ℕ → List ℕ → List ℕ → Result (Option (Vec ℕ)) PropertiesError → Type 0
-MakesComment r source key text (Ok None) = LacksKey r.encoding source key
-MakesComment r source key text (Ok (Some bytes)) = IsCommentSet r source key text bytes.items
-MakesComment r source key text (Err reason) = IsUnopened r.encoding source reason
+abbrev pub SetsLines : Copied → Look → Comment → List ℕ → Copied → Type 0
+SetsLines old look comment text new =
+    (t : Repertoire) (s : Section) → PrintsKeys t look.repertoire → IsSectionAt old.source.now comment s
+    → IsHeadSet t look.ending.now s old comment text new
+
+-- The bytes are the source with these comments, but for an LF that may come first.
+pub record AreCommentsPut (r : Repertoire) (source : List ℕ) (texts : List NewText) (bytes : List ℕ) : Type 0 where
+  pub groups : List (List HeldLine)
+  pub held : AreIn r.encoding source groups
+  pub sections : List Section
+  pub last : List (List HeldLine)
+  pub divided : AreDivided groups sections last
+  pub body : List ℕ
+  pub set : AreMadeOf (IsCommented (repertoire_in_force r source) (ending_in groups) texts) sections last body
+  pub whole : bytes ≡ bom_of source ++ body
+
+abbrev pub PutsComments : Repertoire → List ℕ → List NewText → Result (Vec ℕ) PropertiesError → Type 0
+PutsComments r source texts (Ok bytes) = AreCommentsPut r source texts bytes.items
+PutsComments r source texts (Err reason) = IsUnopened r.encoding source reason
+
+-- The source with the comments set, or no pair has the key of one.
+abbrev pub MakesComments : Repertoire → List ℕ → List NewText → Result Commented PropertiesError → Type 0
+MakesComments r source texts (Ok (Bytes bytes)) = AreCommentsSet r source texts bytes.items
+MakesComments r source texts (Ok (NoKey index)) = HasNoPairFor r.encoding source texts index
+MakesComments r source texts (Err reason) = IsUnopened r.encoding source reason
 
 -- ---- the lines of a text
 

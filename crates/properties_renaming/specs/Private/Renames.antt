@@ -2,19 +2,17 @@
 use Rattle.std.specs.Prelude.{◌≡◌, ◌≢◌, ◌⊎◌, ◌++◌, ℕ, ◌<◌, ◌≤◌, Bool, true, false, if◌then◌else◌, List, [], ◌∷◌, bytes_eq, get_or, length, take, Option, Some, None, Result, Ok, Err}
 use Rattle.std.specs.Option.{unwrap_or}
 use Rattle.std.specs.Global.{Vec}
-use Rattle.std.specs.Map.{lookup, update}
 use Rattle.std.specs.declared.string.String.{String}
 use Rattle.properties_format.specs.Encoding.{Repertoire, byte_order_mark, repertoire_in_force}
-use Rattle.properties_format.specs.Items.{Outcome, given, pair}
 use Rattle.properties_format.specs.Body.{HasKey, HeldLine, NoneHasKey, group_bytes}
 use Rattle.properties_format.specs.Edited.{bom_of, is_editable}
 use Rattle.properties_items.specs.declared.error.ErrorKind.TheVariants as kind
 use Rattle.properties_items.specs.declared.error.PropertiesError.{PropertiesError}
 use Rattle.properties_items.specs.Errors.{IsBareError}
-use Rattle.properties_items.specs.Texts.{characters}
 use Rattle.properties_editing.specs.Editing.{asked_for}
 use Rattle.properties_editing.specs.declared.source.SourceOptions.{SourceOptions}
 use Rattle.properties_renaming.specs.Laws.{IsName}
+use Rattle.properties_renaming.specs.Private.Keyed.{value_at}
 use Rattle.properties_renaming.specs.Private.Renaming.{AreMade}
 use Rattle.properties_renaming.specs.Renaming.{AreIn, HasNewName, IsRekeyed, IsTaken, LacksKey}
 use Rattle.properties_renaming.specs.Renames.{AreRenamedInTurn, IsRefusedAt, NewName, name_in, names_in}
@@ -129,19 +127,6 @@ RenamesAtOnce r source names (Err error) =
 
 -- ---- the roles of names
 
--- the role of a name
-abbrev pub role_at : {Y : Type 0} → List (String Y × Role) → List ℕ → Option Role
-role_at roles key = lookup (λ x. bytes_eq key (characters x)) roles
-
--- A name is given a role.
-abbrev pub GivesRole : {Y : Type 0} → List (String Y × Role) → List ℕ → Role → List (String Y × Role) → Type 0
-GivesRole old key role new = (k : List ℕ) → role_at new k ≡ update bytes_eq (role_at old) key (Some role) k
-
--- the role of the key that a logical line has, if it is a pair
-abbrev pub role_of : {Y : Type 0} → List (String Y × Role) → Outcome → Option Role
-role_of roles (given (pair key value)) = role_at roles key
-role_of roles other = None
-
 -- This rename of a list has the old name.
 abbrev pub IsOldAt : List NewName → List ℕ → ℕ → Type 0
 IsOldAt names key i = (i < length names) × ((d : NewName) → key ≡ (get_or names i d).old)
@@ -159,7 +144,7 @@ IsRoleIn all names key (Some (New first)) = needed names key ≡ Some false
 
 -- One pass can make these renames of a list, and these are the roles of their names.
 abbrev pub AreRolesOf : {Y : Type 0} → List NewName → List NewName → List (String Y × Role) → Type 0
-AreRolesOf all names roles = AreMakeable names × ((key : List ℕ) → IsRoleIn all names key (role_at roles key))
+AreRolesOf all names roles = AreMakeable names × ((key : List ℕ) → IsRoleIn all names key (value_at roles key))
 
 -- They are those of the first of these renames.
 pub record HasRoles (renames : List Rename) (roles : Roles) : Type 0 where
@@ -181,7 +166,7 @@ IsFound found other = Unit {0}
 -- Each is found.
 abbrev pub AreFound : {Y : Type 0} → List Bool → List (String Y × Role) → List NewName → Type 0
 AreFound found roles [] = Unit {0}
-AreFound found roles (n ∷ ns) = IsFound found (role_at roles n.old) × AreFound found roles ns
+AreFound found roles (n ∷ ns) = IsFound found (value_at roles n.old) × AreFound found roles ns
 
 -- whether a pair has to have a name with this role
 abbrev pub is_needed : Option Role → Bool

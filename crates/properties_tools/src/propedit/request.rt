@@ -3,7 +3,7 @@
 use crate::propedit::against::Base;
 use java_properties::Encoding;
 pub use properties_changing::request::{
-    AbsentKeys, Change, Conversion, Edits, FileChange, Missing, NewComment, Removal, Renaming,
+    AbsentKeys, Change, Conversion, Edits, FileChange, Missing, NewComments, Removal, Renaming,
     Step, Steps,
 };
 pub use properties_checking::request::{Allowed, Check, Report};

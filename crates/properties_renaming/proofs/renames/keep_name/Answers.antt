@@ -8,5 +8,5 @@ use Rattle.properties_renaming.proofs.renames.keep_name.Goals as goal
 pub returns : goal.returns
 returns c =
     let key = chars c.args.key.now in
-    let may = ap (kept_role c.args.index) (sym c.role_at.ensures) ∙ sym c.kept_role.ensures ∙ c.in-Some.is in
-    name-kept c.args.roles.now.entries c.give_role.new.roles.entries c.args.index (new_name key key) c.in-Some.role refl may c.in_ok-give_role.ensures
+    let may = ap (kept_role c.args.index) (sym c.value_at.ensures) ∙ sym c.kept_role.ensures ∙ c.in-Some.is in
+    name-kept c.args.roles.now.entries c.give_value.new.values.entries c.args.index (new_name key key) c.in-Some.role refl may c.in_ok-give_value.ensures

@@ -9,7 +9,8 @@ use Rattle.properties_editing.specs.Editing.{asked_for}
 use Rattle.properties_format.specs.Computed.Items.{outcome_of}
 use Rattle.properties_renaming.specs.Renaming.{IsRekeyed}
 use Rattle.properties_renaming.specs.Renames.{NewName, name_in, names_in}
-use Rattle.properties_renaming.specs.Private.Renames.{AreFound, role_of}
+use Rattle.properties_renaming.specs.Private.Keyed.{value_of}
+use Rattle.properties_renaming.specs.Private.Renames.{AreFound}
 use Rattle.properties_renaming.specs.declared.renames.Rename.{Rename}
 use Rattle.properties_renaming.proofs.RenamedKeys.{copied-group, next-among, next-slice, none-left, prints-next, viewed}
 use Rattle.properties_renaming.proofs.RenamesAtOnce.{any-name, all-next, all-none, all-renamed, found-set, group-role, made-kept, made-none, made-old, no-some, none-found, pair-of}
@@ -26,7 +27,7 @@ loop-found-init c =
 
 pub put_key-requires-clause-pair : goal.put_key-requires-clause-pair
 put_key-requires-clause-pair c =
-    let told = ap (λ w. role_of c.args.roles.now.entries (outcome_of w)) (sym c.line.ensures) ∙ sym c.in_ok-index.ensures in
+    let told = ap (λ w. value_of c.args.roles.now.entries (outcome_of w)) (sym c.line.ensures) ∙ sym c.in_ok-index.ensures in
     let role = told ∙ c.in-Some-Old.is ∙ ap Some c.in-Some-Old.field-0-is in
     let g = c.next.new.self.group in
     let old = group-role (names_in c.args.renames.now) c.args.roles.now.entries g c.requires role in
@@ -56,7 +57,7 @@ loop-found-preserved c =
     let slice = next-slice {next = next} h.up g takes.takes start in
     let done : c.loop-found.copied.done ≤ next.start = subst (λ s. c.loop-found.copied.done ≤ s) (sym start) h.up.done in
     let end : c.loop-found.copied.done ≤ next.start + length (group_bytes g) = omega arith in
-    let told = ap (λ w. role_of roles (outcome_of w)) (sym c.line.ensures) ∙ sym c.in_ok-index.ensures in
+    let told = ap (λ w. value_of roles (outcome_of w)) (sym c.line.ensures) ∙ sym c.in_ok-index.ensures in
     elim c.match-branch-7.branch [
       | in-Some-Old+in_ok-put_key-in-Some-Old w ↦
           let i = w.in-Some-Old.index in

@@ -1,0 +1,52 @@
+// Values that are kept by key, and the one of a logical line's key.
+
+ghost use Rattle.std.specs.Prelude.{◌≡◌, IfOk, OnOk};
+ghost use Rattle.std.specs.Str.{chars};
+ghost use Rattle.properties_format.specs.Computed.Items.{outcome_of};
+ghost use Rattle.properties_renaming.specs.Private.Keyed.{GivesValue, value_at, value_of};
+
+use properties_items::error::ErrorKind;
+use properties_items::found::{find_item, pair_texts};
+use std::alloc::{AllocError, Global};
+use std::collections::BTreeMap;
+
+// Gives a key a value, in place of the one that it has.
+pub(crate) fn give_value<V: Drop>(
+    alloc: Global,
+    values: &mut BTreeMap<String, V>,
+    key: &str,
+    value: V,
+) -> Result<(), AllocError>
+    ensures { OnOk result (GivesValue values.old.entries (chars key.now) value values.new.entries) }
+{
+    values.insert(String::from_str(alloc, key)?, value)?;
+    Ok(())
+}
+
+// Returns the value of a logical line's key, if the line is a pair and its key has one.
+pub(crate) fn value_of<V: Copy>(
+    alloc: Global,
+    values: &BTreeMap<String, V>,
+    line: &str,
+) -> Result<Option<V>, AllocError>
+    ensures { IfOk result (λ value. value ≡ value_of values.now.entries (outcome_of (chars line.now))) }
+{
+    match find_item(alloc, 1, line) {
+        Ok(Some(found)) => match pair_texts(&found, line) {
+            Some((key, _)) => Ok(value_at(values, key)),
+            None => Ok(None),
+        },
+        Ok(None) => Ok(None),
+        Err(error) => match error.kind() {
+            ErrorKind::Memory => Err(AllocError),
+            _ => Ok(None),
+        },
+    }
+}
+
+// Returns the value of a key, if it has one.
+pub(crate) fn value_at<V: Copy>(values: &BTreeMap<String, V>, key: &str) -> Option<V>
+    ensures { result ≡ value_at values.now.entries (chars key.now) }
+{
+    values.get(key).copied()
+}
