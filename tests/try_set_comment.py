@@ -7,7 +7,7 @@ HOW_MANY of them from file FIRST on.
 The lines of TEXT replace the comment lines directly above the last pair with KEY, and look like the first of these that
 has a text. Every other byte stays, and no byte changes if the comment has these lines already. Then `comment` prints
 these lines, setting them again changes nothing, and `list -v` and `get` print what they did. A list of edits gives what
-its edits give one after another.
+its edits give one after another, but of several texts for one KEY without another edit between them the last one counts.
 """
 import random
 import re
@@ -262,6 +262,18 @@ def check_laws(data, words, result, escaped, fail):
         fail(f"then the comments are {after}, and not {before}")
 
 
+def last_texts(edits):
+    """The edits, with one comment for each key of those that follow each other: the last one, in the place of the first."""
+    one_each, run = [], {}
+    for edit in [*edits, None]:
+        if edit and edit[0] == "set-comment":
+            run[edit[2]] = edit
+            continue
+        one_each += [*run.values(), *([edit] if edit else [])]
+        run = {}
+    return one_each
+
+
 def check_list(data, named, draw, fail):
     """Compares a list of edits with the same edits one after another."""
     # What would begin like a byte order mark gets a line feed, which a later edit may make needless.
@@ -275,7 +287,7 @@ def check_list(data, named, draw, fail):
         others = ["remove", "--", key], ["set", "--", key, text], ["rename", "--", key, text]
         edits.append(draw.choice([new_comment, new_comment, *others]))
     wanted = (0, data, b"")
-    for edit in edits:
+    for edit in last_texts(edits):
         wanted = propedit("-e", named, *edit, data=wanted[1])
         if wanted[0] != 0:
             break

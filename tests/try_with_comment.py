@@ -5,8 +5,10 @@ random files, or on HOW_MANY of them from file FIRST on.
     tests/try_with_comment.py PROPEDIT [HOW_MANY [FIRST]]
 
 Each pair with the key goes, with the comment lines directly above it, and all else stays. With -x, a key that no pair has
-is refused. A list of edits gives what its edits give one after another.
+is refused. Keys that are removed one after another are left out at once, and a list of edits gives what its runs of
+removals and its other edits give one after another.
 """
+import itertools
 import random
 import subprocess
 import sys
@@ -54,11 +56,11 @@ def whole(groups):
     return "".join(text for _, text in groups).encode()
 
 
-def without(groups, key):
-    """The groups without the pairs with a key and the comment lines above them, from the last to the first."""
+def without(groups, *keys):
+    """The groups without the pairs with these keys and the comment lines above them, from the last to the first."""
     left, takes = [], False
     for kind, text in reversed(groups):
-        takes = kind == [key] or takes and kind == "comment"
+        takes = isinstance(kind, list) and kind[0] in keys or takes and kind == "comment"
         if not takes:
             left.append((kind, text))
     return left[::-1]
@@ -79,16 +81,32 @@ def check_removal(groups, key, fail):
     return "comments" if left != propedit("remove", "--", key, data=data)[1] else "no comments"
 
 
+def removals(keys):
+    return sum((["remove", "--", key] for key in keys), [])
+
+
+def check_removals(groups, draw, fail):
+    """Compares the removal of some keys with the groups."""
+    keys = [draw.choice(KEYS) for _ in range(draw.randrange(0, 5))]
+    missing = [key for key in keys if not any(kind == [key] for kind, _ in groups)]
+    if keys:
+        data, left = whole(groups), whole(without(groups, *keys))
+        if propedit("--with-comment", *removals(keys), data=data) != (0, left, b""):
+            fail(f"the removal of {keys} gives another result")
+        if propedit("-x", "--with-comment", *removals(keys), data=data)[:2] != ((1, b"") if missing else (0, left)):
+            fail(f"the removal of {keys} with -x gives another result")
+
+
 def check_list(groups, draw, fail):
-    """Compares a list of edits with the same edits one after another."""
+    """Compares a list of edits with its runs of removals and its other edits, one after another."""
     edits = []
     for _ in range(draw.randrange(2, 6)):
         key, text = draw.choice(KEYS), draw.choice(KEYS)
         edits.append(draw.choice([["remove", "--", key], ["remove", "--", key], ["set", "--", key, text], ["rename", "--", key, text]]))
     wanted = (0, whole(groups), b"")
-    for edit in edits:
-        option = ["--with-comment"] if edit[0] == "remove" else []
-        wanted = propedit(*option, *edit, data=wanted[1])
+    for removes, run in itertools.groupby(edits, lambda edit: edit[0] == "remove" or edit):
+        option = ["--with-comment"] if removes is True else []
+        wanted = propedit(*option, *sum(run, []), data=wanted[1])
         if wanted[0] != 0:
             break
     option = ["--with-comment"] if any(edit[0] == "remove" for edit in edits) else []
@@ -104,7 +122,9 @@ def main():
         keys = [kind[0] for kind, _ in groups if isinstance(kind, list)]
         key = draw.choice(keys if keys and draw.random() < 0.9 else KEYS)
         told[check_removal(groups, key, lambda why: sys.exit(f"file {number}, {whole(groups)}, {key!r}: {why}"))] += 1
-        check_list(groups, draw, lambda why: sys.exit(f"file {number}, {whole(groups)}: {why}"))
+        fail = lambda why: sys.exit(f"file {number}, {whole(groups)}: {why}")
+        check_list(groups, draw, fail)
+        check_removals(groups, draw, fail)
     print(f"{HOW_MANY} files:", ", ".join(f"{count} {what}" for what, count in told.items()))
 
 
