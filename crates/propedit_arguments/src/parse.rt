@@ -411,7 +411,7 @@ fn edit<'a>(
     change(alloc, row, options, change_by(alloc, options, list)?)
 }
 
-// Returns the change that edits are. Edits of a kind are one step as long as no other comes between them.
+// Returns the change that edits are. Edits of one kind are one step as long as none of another kind comes between them.
 fn change_by(
     alloc: Global,
     options: &Options<'_>,

@@ -16,8 +16,8 @@ use Rattle.properties_tables.specs.declared.error.Failure.TheVariants.{Absent, I
 abbrev pub comment_repertoire : Encoding → NewComments → Repertoire
 comment_repertoire e comments = record { encoding = e; characters = characters_for comments.ascii_only comments.latin_1 }
 
--- Why no comment of a sound source is set: no pair has this key, which is that of the first such comment; or the source isn't edited,
--- since its encoding is not one that is, or memory ran out.
+-- Why no comment of a sound source is set: no pair has this key, which is that of the first comment whose key no pair has; or the
+-- source isn't edited, since its encoding is not one that is, or memory ran out.
 abbrev pub KeepsComments : Repertoire → List ℕ → List NewText → Failure → Type 0
 KeepsComments r source texts (Absent name) =
     IsEditable r source × ((index : ℕ) × (h : HasNoPairFor r.encoding source texts index) × (characters name ≡ h.text.key))

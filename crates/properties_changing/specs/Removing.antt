@@ -35,7 +35,7 @@ Leaves e source keys (Err failure) = IsUnsound e source failure ⊎ IsNotEdited 
 abbrev pub removed_keys : Removal → List (List ℕ)
 removed_keys r = map characters r.keys.items
 
--- A pair of a source that can be edited has to have each of the keys, and this is the first of them that none has.
+-- The source can be edited, but each key has to be that of a pair, and this is the first that no pair has.
 abbrev pub LacksRequired : Encoding → List ℕ → Removal → Failure → Type 0
 LacksRequired e source r (Absent key) =
     (r.absent ≡ Refused) × IsEditable (all_of e) source × IsFirstAbsent e source (removed_keys r) (characters key)

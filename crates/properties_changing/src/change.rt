@@ -27,9 +27,9 @@ use std::alloc::{AllocError, Global};
 /// asked for, the first key to set or remove that no pair of the source has. If such keys are to be left out, only the
 /// edits of other keys are made. A conversion keeps what is malformed.
 ///
-/// Of steps, each is made to what the one before it left, and the first that is refused refuses the change. A step reads
-/// the source once if it makes edits, twice if it removes keys with their comments, three times if it sets comments, and
-/// twice if it renames keys: `rename_keys` says when it reads it more often.
+/// Of steps, each is made to what the one before it left, and the first that is refused refuses the change. A step that
+/// makes edits reads the source once; one that removes keys with their comments, or renames keys, twice; one that sets
+/// comments, three times. `rename_keys` says when it reads it more often.
 ///
 /// ```text
 /// let edits = Change::Edits(Edits {

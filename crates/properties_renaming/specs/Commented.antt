@@ -16,7 +16,7 @@ use Rattle.properties_renaming.specs.Sections.{AreDivided, AreMadeOf, Section, i
 abbrev pub HasOneOf : List (List ℕ) → List HeldLine → Type 0
 HasOneOf keys group = (key : List ℕ) × (is_among keys key ≡ true) × HasKey key group
 
--- A pair with one of the keys is left out with the comment lines above it, and any other section stays.
+-- A pair with one of the keys is left out with the comment lines directly above it, and any other section stays.
 abbrev pub IsLeftOf : List (List ℕ) → Section → List (List HeldLine) → List ℕ → Type 0
 IsLeftOf keys s after left =
     HasOneOf keys s.group × (left ≡ [])

@@ -131,7 +131,7 @@ pub record IsLastFor (texts : List NewText) (s : Section) (after : List (List He
   pub no_later : NoneHasKey key after
   pub is_text : text_for texts key ≡ Some text
 
--- Comment lines with this text are above a section's group: its own, if they have these lines already, or new ones.
+-- The comment lines above a section's group have this text: they are its own, if those have it already, or else new ones.
 pub record HasLines (r : Repertoire) (other : List ℕ) (s : Section) (text head : List ℕ) : Type 0 where
   pub texts : List (List ℕ)
   pub are_texts : AreCommentTexts s.run texts
@@ -142,7 +142,7 @@ pub record HasLines (r : Repertoire) (other : List ℕ) (s : Section) (text head
       ⊎ (texts ≢ lines)
       × ((style : LineStyle) × IsStyleFor other s.run s.group style × (head ≡ flat_map (comment_line r style) lines))
 
--- The last pair with a key gets the text for the key, and any other section stays.
+-- The last pair with a key gets the text for that key as its comment, if there is one; any other section stays.
 abbrev pub IsCommented : Repertoire → List ℕ → List NewText → Section → List (List HeldLine) → List ℕ → Type 0
 IsCommented r other texts s after made =
     (head : List ℕ)
@@ -168,7 +168,7 @@ pub record AreCommentsSet (r : Repertoire) (source : List ℕ) (texts : List New
   pub set : AreMadeOf (IsCommented (repertoire_in_force r source) (ending_in groups) texts) sections last body
   pub whole : result ≡ bom_of source ++ (guarding_lf source body ++ body)
 
--- No pair has the key of the comment with this index, and a pair has that of each before it.
+-- No pair has the key of the comment with this index, and the key of each comment before it is that of a pair.
 pub record HasNoPairFor (e : Encoding) (source : List ℕ) (texts : List NewText) (index : ℕ) : Type 0 where
   pub groups : List (List HeldLine)
   pub held : AreIn e source groups
@@ -190,7 +190,7 @@ SetsComments options source texts (Err (KeyTaken index number)) = ⊥
 SetsComments options source texts (Err (Source error)) =
     EditsWith options source [] (Err error) ⊎ IsEditable options source × IsBareError kind.Memory error
 
--- The same of one comment.
+-- The same for one comment.
 abbrev pub SetsComment : SourceOptions → List ℕ → List ℕ → List ℕ → Result (Vec ℕ) RenameError → Type 0
 SetsComment options source key text (Ok bytes) =
     IsEditable options source × AreCommentsSet (asked_for options) source (new_text key text ∷ []) bytes.items

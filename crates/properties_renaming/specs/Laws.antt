@@ -82,7 +82,7 @@ pub record ChangedComment : Type 0 where
   pub key : List ℕ
   pub value : List ℕ
 
--- the contents before all of these were replaced, and those after that; the last of them stay
+-- the contents with the old comments, and those with the new ones; the last contents stay in both
 abbrev pub with_old_comments : List ChangedComment → List Content → List Content
 with_old_comments [] last = last
 with_old_comments (c ∷ cs) last = c.kept ++ (map comment c.old_texts ++ pair c.key c.value ∷ with_old_comments cs last)
@@ -91,12 +91,12 @@ abbrev pub with_new_comments : List ChangedComment → List Content → List Con
 with_new_comments [] last = last
 with_new_comments (c ∷ cs) last = c.kept ++ (map comment c.new_texts ++ pair c.key c.value ∷ with_new_comments cs last)
 
--- Each of these pairs is the last one with its key, and a comment is set for that.
+-- Each of these pairs is the last one with its key, which is one of these keys.
 abbrev pub AreLastPairs : List (List ℕ) → List ChangedComment → List Content → Type 0
 AreLastPairs keys [] last = Unit {0}
 AreLastPairs keys (c ∷ cs) last = (is_among keys c.key ≡ true) × HoldNoPair c.key (with_old_comments cs last) × AreLastPairs keys cs last
 
--- Comments right before the last pairs with these keys are replaced by others, and all other contents are unchanged.
+-- Comments right before last pairs with these keys are replaced by others, and all other contents are unchanged.
 -- Contents have no blank lines, so these may be comments beyond one.
 pub record AreCommentsChanged (keys : List (List ℕ)) (old new : List Content) : Type 0 where
   pub changes : List ChangedComment

@@ -8,6 +8,7 @@ pub record Section : Type 0 where
   pub run : List (List HeldLine)
   pub group : List HeldLine
 
+-- The run of each section is comment lines, and its group isn't one.
 abbrev pub AreSections : List Section → Type 0
 AreSections [] = Unit {0}
 AreSections (s ∷ ss) = AreCommentGroups s.run × ¬ (IsCommentGroup s.group) × AreSections ss
@@ -23,8 +24,8 @@ pub record AreDivided (groups : List (List HeldLine)) (sections : List Section) 
   pub are_sections : AreSections sections
   pub last_comments : AreCommentGroups last
 
--- The bytes are made of the sections, in order, and of the comment lines after them. What is made of a section may hang
--- on the groups after it.
+-- The bytes are made of the sections, in order, and of the comment lines after them. What is made of a section may
+-- depend on the groups after it.
 abbrev pub AreMadeOf : (Section → List (List HeldLine) → List ℕ → Type 0) → List Section → List (List HeldLine) → List ℕ → Type 0
 AreMadeOf Makes [] last bytes = bytes ≡ groups_bytes last
 AreMadeOf Makes (s ∷ ss) last bytes =

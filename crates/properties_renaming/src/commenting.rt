@@ -82,7 +82,8 @@ pub fn set_comment(
     }
 }
 
-/// Returns the source with the comments of keys set, each as [`set_comment`] sets one. All are set in one pass.
+/// Returns the source with the comments of keys set, each as [`set_comment`] would set it. The source is read three times,
+/// however many comments there are.
 ///
 /// Of several texts for one key, the last one counts.
 ///
@@ -120,7 +121,7 @@ fn new_comment(alloc: Global, key: &str, text: &str) -> Result<NewComment, Prope
     })
 }
 
-// A source with comments set, or the index of the first one whose key no pair has.
+// A source with comments set, or the index of the first comment whose key no pair has.
 #[derive(Drop)]
 enum Commented {
     Bytes(Vec<u8>),
@@ -157,8 +158,8 @@ fn indices_of(alloc: Global, comments: &[NewComment]) -> Result<BTreeMap<String,
     Ok(indices)
 }
 
-// Returns the line of the last pair with the key of each comment, or 0 if there is none. Of several comments for one key,
-// the last one has it.
+// Returns, for each comment, the line in which the last pair with its key begins, or 0 if there is none. Of several
+// comments for one key, only the last one gets it; the others get 0.
 fn last_lines(
     alloc: Global,
     source: &[u8],
@@ -197,7 +198,7 @@ fn first_without(
     None
 }
 
-// Returns the index of a comment if the last pair with its key begins in this line.
+// Returns the index of a comment if the last pair with its key begins in this line. Line 0 stands for no pair.
 fn index_at(lines: &[usize], index: Option<usize>, line: usize) -> Option<usize>
     requires { IfSome index (λ i. i < length lines.now) }
     ensures { result ≡ index_at lines.now index line }
@@ -296,7 +297,7 @@ fn first_model(model: Option<ViewedGroup>, line: ViewedGroup, text: &str) -> Opt
     Some(model.unwrap_or(line))
 }
 
-// Puts the lines of a text in place of the comment lines that the view gave last, unless these are the same.
+// Puts the lines of a text in place of the comment lines that the view gave last, unless they have these texts already.
 fn set_lines(
     alloc: Global,
     copied: &mut Copied<'_>,

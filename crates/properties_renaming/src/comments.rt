@@ -49,7 +49,7 @@ pub fn remove_with_comment(
 }
 
 /// Returns the source without the pairs that have one of these keys, and without the comment lines directly above each
-/// of them, as [`remove_with_comment`] does for one key. All keys are removed in one pass.
+/// of them, as [`remove_with_comment`] does for one key. The source is read twice, however many keys there are.
 ///
 /// ```text
 /// let source = b"# the front door\nport = 80\nhost = a\n";

@@ -30,7 +30,7 @@ pub fn renaming()
 /// What a source says after comments of keys were set, and after keys were removed with their comments, if none of its
 /// entries was malformed. The encoding in force stays.
 ///
-/// After [`set_comments`](crate::set_comments), comments right before the last pairs with these keys may be others. All
+/// After [`set_comments`](crate::set_comments), comments right before the last pairs with these keys may differ. All
 /// other comments, and the pairs with their values, are those of the source, in order, so every key keeps its value.
 /// This holds if no entry of the result is malformed, and none is if no text holds a backslash.
 ///

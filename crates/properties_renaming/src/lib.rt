@@ -1,5 +1,5 @@
-//! Renames keys of a `.properties` source where they stand, sets the comment of a key, or removes a key with its comment,
-//! and keeps all other bytes.
+//! Renames keys of a `.properties` source where they stand, sets comments of keys, or removes keys with their comments, and
+//! keeps all other bytes.
 //!
 //! ```text
 //! let options = SourceOptions::new(Encoding::UTF_8);

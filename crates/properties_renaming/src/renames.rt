@@ -27,12 +27,14 @@ pub struct Rename {
     pub new: String,
 }
 
-/// Why [`rename_keys`] renamed nothing. Renames are counted from 0.
+/// Why [`rename_keys`] renamed nothing, or [`set_comments`](crate::set_comments) set nothing. Renames and comments are
+/// counted from 0.
 #[derive(Debug, Drop)]
 pub enum RenamesError {
     /// The source can't be edited, or memory ran out.
     Source(PropertiesError),
-    /// No pair has the old key of the rename with this index, in what the renames before it left.
+    /// No pair has the old key of the rename with this index, in what the renames before it left, or the key of the
+    /// comment with this index.
     NoKey(usize),
     /// A pair has the new key of the rename with this index already. The second number is the line of the first such pair,
     /// in what the renames before it left.
