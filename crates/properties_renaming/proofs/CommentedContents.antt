@@ -6,6 +6,7 @@ use Rattle.std.specs.List.{AllByRecursion}
 use Rattle.std.specs.Option.{option_map, unwrap_or}
 use Rattle.std.proofs.lemmas.Bool.{cases_Bool, cond_both}
 use Rattle.std.proofs.lemmas.List.Elements.{recursion_from_All}
+use Rattle.std.proofs.lemmas.Slice.Eq.{bytes_eq-Decides}
 use Rattle.properties_format.specs.Text.{LineEnding, backslash, begins, is_blank, is_comment_sign, is_empty, is_line_ending, lf, line_ending_text, line_feed, scalar, space}
 use Rattle.properties_format.specs.Encoding.{Encoding, InForce, Repertoire, begins_like_bom, byte_order_mark, repertoire_in_force}
 use Rattle.properties_format.specs.Lines.{AreLines, Ended, HoldsNoLineEnding, end, is_comment_line, joined, put_together}
@@ -19,7 +20,7 @@ use Rattle.properties_format.specs.Edited.{guarding_lf, is_editable}
 use Rattle.properties_format.specs.Valued.{ending_among, ending_in}
 use Rattle.properties_format.specs.Settings.{IsGoodPrefix}
 use Rattle.properties_format.specs.Writing.{HoldsNoBackslash}
-use Rattle.properties_format.specs.Computed.Body.{held_groups_of}
+use Rattle.properties_format.specs.Computed.Body.{has_key, held_groups_of}
 use Rattle.properties_format.specs.Computed.Edited.{IsSoundOutcome}
 use Rattle.properties_format.specs.Computed.Cut.{decoded_line}
 use Rattle.properties_format.specs.Computed.Escapes.{meaning_of}
@@ -32,6 +33,7 @@ use Rattle.properties_format.proofs.Changed.Items.{IsSoundLine, sound-source, so
 use Rattle.properties_format.proofs.Edited.ByteOrderMarks.{in_force as stays_in_force}
 use Rattle.properties_format.proofs.Edited.Fronts.{outcome-empty, with_line}
 use Rattle.properties_format.proofs.Edited.LogicalLines.{none-lines}
+use Rattle.properties_format.proofs.Edited.Made.{has_key-false, has_key-true}
 use Rattle.properties_format.proofs.Edits.Lines.{OfEach, logical_lines_of}
 use Rattle.properties_format.proofs.GroupsInTurn.Merged.{AreInTurn, IsEndedGroup, in-turn}
 use Rattle.properties_format.proofs.Items.Unique.{items_of-only, outcome_of-meets, outcome_of-only}
@@ -57,11 +59,13 @@ use Rattle.properties_format.proofs.Valued.Heads.{ascii-among}
 use Rattle.properties_format.proofs.Valued.Revalued.{text-own}
 use Rattle.properties_renaming.specs.CommentLines.{AreCommentGroups, IsCommentGroup}
 use Rattle.properties_renaming.specs.Sections.{AreMadeOf, AreSections, Section, groups_of, is_among}
-use Rattle.properties_renaming.specs.Commenting.{AreCommentsSet, HasLines, IsCommented, IsStyleFor, LineStyle, NewText, comment_line, ending_or, gap_before, text_for, texts_of}
+use Rattle.properties_renaming.specs.Commenting.{AreCommentsSet, HasLines, HaveKeys, IsCommented, IsStyleFor, LineStyle, NewText, comment_line, ending_or, gap_before, text_for, texts_of}
 use Rattle.properties_renaming.specs.Commented.{HasOneOf, IsLeftOf}
-use Rattle.properties_renaming.specs.Laws.{AreCommentsChanged, AreLastPairs, AreOthersIn, ChangedComment, OfTexts, RemovingWithCommentsKeepsTheRest, RemovingWithCommentsTakesTheValues, SettingCommentsKeepsTheMap, SettingCommentsKeepsTheRest, SettingPlainCommentsBreaksNothing, keys_of, with_new_comments, with_old_comments}
+use Rattle.properties_renaming.specs.Laws.{AreAmong, AreLastPairs, AreOthersIn, ChangedComment, OfTexts, RemovingWithCommentsKeepsTheRest, RemovingWithCommentsTakesTheValues, SettingCommentsKeepsTheMap, SettingCommentsKeepsTheRest, SettingPlainCommentsBreaksNothing, changed_keys, keys_of, with_new_comments, with_old_comments}
 use Rattle.properties_renaming.proofs.CommentGroups.{comment-no_key, line-blank, line-pair}
 use Rattle.properties_renaming.proofs.KeyPlaces.{decoded-past}
+use Rattle.properties_renaming.proofs.LastLines.{text-some}
+use Rattle.properties_renaming.proofs.ManyRenames.{key-only}
 use Rattle.properties_renaming.proofs.SectionedGroups.{groups-append, none-both}
 use Rattle.properties_renaming.proofs.RenamedContents.{hold-none, is-nil, no-bytes, value-contents, value_among, value_of}
 
@@ -455,20 +459,44 @@ module _ (r : Repertoire) (ok : is_editable r.encoding ≡ true) (other : List �
                 (clean-lines h.are_lines.lines.ended h.are_lines.lines.last (subst HoldsNoBackslash h.are_lines.are_lines.text n))) k;
           }
 
+-- How contents changed, and that the comments of all keys did that a pair of these groups has.
+record HasChanges (texts : List NewText) (gs : List (List HeldLine)) (old new : List Content) : Type 0 where
+  changes : List ChangedComment
+  last : List Content
+  was : old ≡ with_old_comments changes last
+  now : new ≡ with_new_comments changes last
+  are_last : AreLastPairs (keys_of texts) changes last
+  there : (key text : List ℕ) → text_for texts key ≡ Some text → NoneHasKey key gs ⊎ (is_among (changed_keys changes) key ≡ true)
+
 -- More contents in front.
-changed-behind : (keys : List (List ℕ)) (front old new : List Content) → AreCommentsChanged keys old new → AreCommentsChanged keys (front ++ old) (front ++ new)
-changed-behind keys front old new h = by h.changes h.was h.now h.are_last
+changed-behind : {texts : List NewText} {gs : List (List HeldLine)} (hs : List (List HeldLine)) (front old new : List Content) (h : HasChanges texts gs old new)
+    → ((key text : List ℕ) → text_for texts key ≡ Some text → NoneHasKey key gs → NoneHasKey key hs) → HasChanges texts hs (front ++ old) (front ++ new)
+changed-behind {texts} {gs} hs front old new h more = by h.changes h.was h.now h.are_last h.there
   where
-    by : (cs : List ChangedComment) → old ≡ with_old_comments cs h.last → new ≡ with_new_comments cs h.last → AreLastPairs keys cs h.last
-        → AreCommentsChanged keys (front ++ old) (front ++ new)
-    by [] was now last =
-        record { changes = []; last = front ++ h.last; was = ap (λ w. front ++ w) was; now = ap (λ w. front ++ w) now; are_last = tt }
-    by (c ∷ cs) was now last = record {
+    by : (cs : List ChangedComment) → old ≡ with_old_comments cs h.last → new ≡ with_new_comments cs h.last → AreLastPairs (keys_of texts) cs h.last
+        → ((key text : List ℕ) → text_for texts key ≡ Some text → NoneHasKey key gs ⊎ (is_among (changed_keys cs) key ≡ true))
+        → HasChanges texts hs (front ++ old) (front ++ new)
+    by [] was now last there = record {
+      changes = [];
+      last = front ++ h.last;
+      was = ap (λ w. front ++ w) was;
+      now = ap (λ w. front ++ w) now;
+      are_last = tt;
+      there = λ key text q. elim (there key text q) [
+        | inl none ↦ inl (more key text q none)
+        | inr among ↦ inr among
+      ];
+    }
+    by (c ∷ cs) was now last there = record {
       changes = record c { kept = front ++ c.kept } ∷ cs;
       last = h.last;
       was = ap (λ w. front ++ w) was ∙ sym (append_assoc front c.kept _);
       now = ap (λ w. front ++ w) now ∙ sym (append_assoc front c.kept _);
       are_last = last;
+      there = λ key text q. elim (there key text q) [
+        | inl none ↦ inl (more key text q none)
+        | inr among ↦ inr among
+      ];
     }
 
 -- The groups of a source, and those with other comment lines.
@@ -477,7 +505,15 @@ record AreNewGroups (e : Encoding) (texts : List NewText) (old : List (List Held
   turn : (front : List (List HeldLine)) → AreInTurn e (front ++ old) → AreInTurn e (front ++ groups)
   bytes : groups_bytes groups ≡ body
   sound : OfTexts HoldsNoBackslash texts → are_sound old → are_sound groups
-  changed : are_sound old → are_sound groups → AreCommentsChanged (keys_of texts) (contents_in old) (contents_in groups)
+  changed : are_sound old → are_sound groups → HasChanges texts old (contents_in old) (contents_in groups)
+
+comments-none : (key : List ℕ) (gs : List (List HeldLine)) → AreCommentGroups gs → NoneHasKey key gs
+comments-none key [] h = tt
+comments-none key (g ∷ gs) h = (comment-no_key key g h.0, comments-none key gs h.1)
+
+none-before : (key : List ℕ) (run : List (List HeldLine)) (g : List HeldLine) (gs : List (List HeldLine)) → AreCommentGroups run → has_key key g ≡ false
+    → NoneHasKey key gs → NoneHasKey key (run ++ g ∷ gs)
+none-before key run g gs c other none = none-both key run (g ∷ gs) (comments-none key run c) (has_key-false key g other, none)
 
 none-rest : (key : List ℕ) (ss : List Section) (last tail : List (List HeldLine)) → (NoneHasKey key last → NoneHasKey key tail) → NoneHasKey key (groups_of ss last)
     → NoneHasKey key (groups_of ss tail)
@@ -505,7 +541,7 @@ sound-behind_group run g gs k = sound-step (joined (as_lines g)) (lines_of gs) (
 with-run : {e : Encoding} {texts : List NewText} {old : List (List HeldLine)} {text head more body : List ℕ} (s : Section) (m : AreNewGroups e texts old more)
     (n : IsNewRun e s.run text head) → (OfTexts HoldsNoBackslash texts → HoldsNoBackslash text) → body ≡ (head ++ group_bytes s.group) ++ more
     → (are_sound (s.run ++ s.group ∷ old) → are_sound (n.new ++ s.group ∷ m.groups)
-    → AreCommentsChanged (keys_of texts) (contents_in (s.run ++ s.group ∷ old)) (contents_in (n.new ++ s.group ∷ m.groups)))
+    → HasChanges texts (s.run ++ s.group ∷ old) (contents_in (s.run ++ s.group ∷ old)) (contents_in (n.new ++ s.group ∷ m.groups)))
     → AreNewGroups e texts (s.run ++ s.group ∷ old) body
 with-run {e} {old = old} {head = head} {more} s m n clean whole changed = record {
   groups = n.new ++ s.group ∷ m.groups;
@@ -525,8 +561,9 @@ with-run {e} {old = old} {head = head} {more} s m n clean whole changed = record
 
 -- It stays,
 run-kept : {e : Encoding} {texts : List NewText} {old : List (List HeldLine)} {more body : List ℕ} (s : Section) → AreCommentGroups s.run
+    → ((key text : List ℕ) → text_for texts key ≡ Some text → HasKey key s.group → ¬ (NoneHasKey key old))
     → AreNewGroups e texts old more → body ≡ (groups_bytes s.run ++ group_bytes s.group) ++ more → AreNewGroups e texts (s.run ++ s.group ∷ old) body
-run-kept {e} {texts} {old} s c m whole =
+run-kept {e} {texts} {old} s c not_last m whole =
     let n : IsNewRun e s.run [] (groups_bytes s.run) = record {
       new = s.run;
       comments = c;
@@ -535,10 +572,15 @@ run-kept {e} {texts} {old} s c m whole =
       clean = λ n old more sound k. sound-run s.run old more sound k;
     } in
     with-run s m n (λ k. tt) whole (λ k q.
+    let gs = s.run ++ s.group ∷ old in
     let rest = m.changed (sound-behind_group s.run s.group old k).1 (sound-behind_group s.run s.group m.groups q).1 in
-    subst (λ w. AreCommentsChanged (keys_of texts) w (contents_in (s.run ++ s.group ∷ m.groups))) (sym (contents-split s.run s.group old))
-    (subst (AreCommentsChanged (keys_of texts) (contents_in (s.run ++ s.group ∷ []) ++ contents_in old)) (sym (contents-split s.run s.group m.groups))
-    (changed-behind (keys_of texts) (contents_in (s.run ++ s.group ∷ [])) (contents_in old) (contents_in m.groups) rest)))
+    let more = changed-behind gs (contents_in (s.run ++ s.group ∷ [])) (contents_in old) (contents_in m.groups) rest (λ key text is none.
+    elim (cases_Bool (has_key key s.group)) [
+      | inl t ↦ absurd (not_last key text is (has_key-true key s.group t) none)
+      | inr f ↦ none-before key s.run s.group old c f none
+    ]) in
+    subst (λ w. HasChanges texts gs w (contents_in (s.run ++ s.group ∷ m.groups))) (sym (contents-split s.run s.group old))
+    (subst (HasChanges texts gs (contents_in (s.run ++ s.group ∷ []) ++ contents_in old)) (sym (contents-split s.run s.group m.groups)) more))
 
 -- or its pair is the last with a key.
 run-changed : {e : Encoding} {texts : List NewText} {old : List (List HeldLine)} {text head more body : List ℕ} (s : Section) (key : List ℕ) → AreCommentGroups s.run
@@ -556,29 +598,76 @@ run-changed {texts = texts} {old} s key c (value, has) none among clean m n whol
       now = contents-join n.new (s.group ∷ m.groups)
           ∙ ap₂ (λ v w. v ++ w) now.1 (pair-said key value s.group m.groups has ∙ ap (λ w. pair key value ∷ w) rest.now);
       are_last = (among, subst (HoldNoPair key) rest.was (hold-none key (lines_of old) (none-lines key old none)), rest.are_last);
+      there = λ k text is. elim (rest.there k text is) [
+        | inr there ↦ inr (later (bytes_eq key k) (is_among (changed_keys rest.changes) k) there)
+        | inl none ↦ elim (cases_Bool (has_key k s.group)) [
+          | inl t ↦
+              let same : key ≡ k = key-only key k s.group (value, has) (has_key-true k s.group t) in
+              let equal : bytes_eq key k ≡ true = (bytes_eq-Decides key k).1 same in inr (rw equal refl)
+          | inr f ↦ inl (none-before k s.run s.group old c f none)
+        ]
+      ];
     })
+  where
+    later : (a b : Bool) → b ≡ true → (a || b) ≡ true
+    later true b h = refl
+    later false b h = h
 
 module _ (r : Repertoire) (ok : is_editable r.encoding ≡ true) (other : List ℕ) (o : (by : LineEnding) × (other ≡ line_ending_text by)) (texts : List NewText)
     (scalars : OfTexts (All scalar) texts) where
   new-groups : (ss : List Section) (last tail : List (List HeldLine)) (body : List ℕ) → AreSections ss → groups_bytes tail ≡ groups_bytes last
-      → ((key : List ℕ) → NoneHasKey key last → NoneHasKey key tail) → AreMadeOf (IsCommented r other texts) ss last body
+      → ((key : List ℕ) → NoneHasKey key last) → ((key : List ℕ) → NoneHasKey key tail) → AreMadeOf (IsCommented r other texts) ss last body
       → AreNewGroups r.encoding texts (groups_of ss tail) body
-  new-groups [] last tail body a same none h = record {
+  new-groups [] last tail body a same none_last none h = record {
     groups = tail;
     turn = λ front k. k;
     bytes = same ∙ sym h;
     sound = λ n k. k;
-    changed = λ k m. record { changes = []; last = contents_in tail; was = refl; now = refl; are_last = tt };
+    changed = λ k m. record {
+      changes = [];
+      last = contents_in tail;
+      was = refl;
+      now = refl;
+      are_last = tt;
+      there = λ key text q. inl (none key);
+    };
   }
-  new-groups (s ∷ ss) last tail body a same none (made, more, (head, inl (text, l, lines), is), whole, h) =
-      let m = new-groups ss last tail more a.2 same none h in
+  new-groups (s ∷ ss) last tail body a same none_last none (made, more, (head, inl (text, l, lines), is), whole, h) =
+      let m = new-groups ss last tail more a.2 same none_last none h in
       let holds = text-of (All scalar) texts l.key text scalars l.is_text in
-      run-changed s l.key a.0 l.has_key (none-rest l.key ss last tail (none l.key) l.no_later) holds.1
+      run-changed s l.key a.0 l.has_key (none-rest l.key ss last tail (λ k. none l.key) l.no_later) holds.1
       (λ c. (text-of HoldsNoBackslash texts l.key text c l.is_text).0) m (new-run r ok other o s text head holds.0 a.0 lines)
       (whole ∙ ap (λ w. w ++ more) is)
-  new-groups (s ∷ ss) last tail body a same none (made, more, (head, inr (other, kept), is), whole, h) =
-      let m = new-groups ss last tail more a.2 same none h in
-      run-kept s a.0 m (whole ∙ ap (λ w. w ++ more) (is ∙ ap (λ w. w ++ group_bytes s.group) kept))
+  new-groups (s ∷ ss) last tail body a same none_last none (made, more, (head, inr (other, kept), is), whole, h) =
+      let m = new-groups ss last tail more a.2 same none_last none h in
+      run-kept s a.0
+      (λ key text q has behind. other text
+      (record { key = key; has_key = has; no_later = none-rest key ss tail last (λ k. none_last key) behind; is_text = q }))
+      m (whole ∙ ap (λ w. w ++ more) (is ∙ ap (λ w. w ++ group_bytes s.group) kept))
+
+-- Each key of a comment has a pair among these groups, so its comment changed.
+each-changed : (all : List NewText) (gs : List (List HeldLine)) (changes : List ChangedComment) → HaveKeys all gs
+    → ((key text : List ℕ) → text_for all key ≡ Some text → NoneHasKey key gs ⊎ (is_among (changed_keys changes) key ≡ true))
+    → AreAmong (keys_of all) (changed_keys changes)
+each-changed all gs changes have there = by [] all refl have
+  where
+    one : (t : NewText) → ¬ (NoneHasKey t.key gs) → (o : Option (List ℕ)) → text_for all t.key ≡ o → o ≢ None → is_among (changed_keys changes) t.key ≡ true
+    one t has None q some = absurd (some refl)
+    one t has (Some text) q some = elim (there t.key text q) [
+      | inl none ↦ absurd (has none)
+      | inr among ↦ among
+    ]
+
+    by : (before ts : List NewText) → all ≡ before ++ ts → HaveKeys ts gs → AreAmong (keys_of ts) (changed_keys changes)
+    by before [] q h = tt
+    by before (t ∷ ts) q h = (
+      one t h.0 (text_for all t.key) refl (subst (λ w. text_for w t.key ≢ None) (sym q) (text-some before t ts)),
+      by (before ++ t ∷ []) ts (q ∙ sym (append_assoc before (t ∷ []) ts)) h.1,
+    )
+
+same-have : (ts : List NewText) (gs hs : List (List HeldLine)) → ((key : List ℕ) → NoneHasKey key hs → NoneHasKey key gs) → HaveKeys ts gs → HaveKeys ts hs
+same-have [] gs hs k h = tt
+same-have (t ∷ ts) gs hs k h = ((λ none. h.0 (k t.key none)), same-have ts gs hs k h.1)
 
 -- The groups of a source and of the result.
 record AreCommented (e : Encoding) (source : List ℕ) (texts : List NewText) (result : List ℕ) : Type 0 where
@@ -586,7 +675,8 @@ record AreCommented (e : Encoding) (source : List ℕ) (texts : List NewText) (r
   new : List (List HeldLine)
   own : old ≡ held_groups_of (byte_order_mark e source).encoding (byte_order_mark e source).body
   sound : OfTexts HoldsNoBackslash texts → are_sound old → are_sound new
-  changed : are_sound old → are_sound new → AreCommentsChanged (keys_of texts) (contents_in old) (contents_in new)
+  have : HaveKeys texts old
+  changed : are_sound old → are_sound new → HasChanges texts old (contents_in old) (contents_in new)
   in_force : (byte_order_mark e result).encoding ≡ (byte_order_mark e source).encoding
   lines : logical_lines_of e result ≡ lines_of new
 
@@ -598,12 +688,13 @@ commented r source texts result ok scalars h =
     let turn = in-turn f.encoding f.body all ok h.held.division in
     let rest = has-rest f.encoding all turn in
     let tail = h.last ++ rest.rest in
+    let none_last : (key : List ℕ) → NoneHasKey key h.last = λ key. comments-none key h.last h.divided.last_comments in
     let same : all ≡ groups_of h.sections tail =
     rest.whole ∙ ap (λ w. w ++ rest.rest) (sym h.held.are ∙ h.divided.division) ∙ sym (groups-append h.sections h.last rest.rest) in
     let m = new-groups (repertoire_in_force r source) ok (ending_in h.groups) (ending_among lf (held_in h.groups), refl) texts scalars h.sections h.last tail h.body
     h.divided.are_sections
     (groups_bytes-append h.last rest.rest ∙ ap (λ w. groups_bytes h.last ++ w) rest.no_bytes ∙ append-nil (groups_bytes h.last))
-    (λ key none. none-both key h.last rest.rest none (rest.no_keys key)) h.set in
+    none_last (λ key. none-both key h.last rest.rest (none_last key) (rest.no_keys key)) h.set in
     let guard = not (begins_like_bom source) && begins_like_bom h.body in
     let slots = guard-slots f.encoding guard h.body m.groups (record { turn = m.turn [] (subst (AreInTurn f.encoding) same turn); bytes = m.bytes }) in
     let force = ap (byte_order_mark r.encoding) h.whole
@@ -613,6 +704,8 @@ commented r source texts result ok scalars h =
       new = m.groups;
       own = sym same ∙ held_groups_of-only f.encoding f.body all h.held.division;
       sound = m.sound;
+      have = same-have texts h.groups (groups_of h.sections tail)
+          (λ key none. subst (NoneHasKey key) (sym h.divided.division) (none-rest key h.sections tail h.last (λ k. none_last key) none)) h.have_keys;
       changed = m.changed;
       in_force = ap (λ w. let f : InForce = w in f.encoding) force;
       lines = ap (λ w. let f : InForce = w in lines_of (held_groups_of f.encoding f.body)) force
@@ -633,9 +726,15 @@ comment-contents r source texts scalars result h before sound =
       λ after items good.
           let now = items_of-only r.encoding result end after items in
           let new = source-sound r.encoding result (rw now at good) in
-          subst (λ w. AreCommentsChanged (keys_of texts) w (contents after)) (sym (ap contents was ∙ old.1 ∙ ap (contents_among true) old_lines))
-          (subst (AreCommentsChanged (keys_of texts) (contents_in k.old)) (sym (ap contents now ∙ new.1 ∙ ap (contents_among true) k.lines))
-          (k.changed (subst (OfEach IsSoundLine) old_lines old.0) (subst (OfEach IsSoundLine) k.lines new.0))),
+          let c = k.changed (subst (OfEach IsSoundLine) old_lines old.0) (subst (OfEach IsSoundLine) k.lines new.0) in
+          record {
+            changes = c.changes;
+            last = c.last;
+            was = ap contents was ∙ old.1 ∙ ap (contents_among true) old_lines ∙ c.was;
+            now = ap contents now ∙ new.1 ∙ ap (contents_among true) k.lines ∙ c.now;
+            are_last = c.are_last;
+            each = each-changed texts k.old c.changes k.have c.there;
+          },
     )
 
 -- If no text holds a backslash, none is.

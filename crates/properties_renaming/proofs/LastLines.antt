@@ -84,7 +84,7 @@ pub indices-below : {Y : Type 0} (ts : List NewText) (indices : List (String Y �
 indices-below ts indices h = λ key i is. (subst (IsIndexOf ts key) is (h key)).0
 
 -- Each key of a comment has one.
-text-some : (before : List NewText) (t : NewText) (after : List NewText) → text_for (before ++ t ∷ after) t.key ≢ None
+pub text-some : (before : List NewText) (t : NewText) (after : List NewText) → text_for (before ++ t ∷ after) t.key ≢ None
 text-some [] t after q = by (text_for after t.key) (bytes_eq t.key t.key) ((bytes_eq-Decides t.key t.key).1 refl) q
   where
     by : (o : Option (List ℕ)) (b : Bool) → b ≡ true → unwrap_or (option_map Some o) (if b then Some t.text else None) ≡ None → ⊥

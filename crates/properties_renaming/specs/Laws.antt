@@ -96,7 +96,16 @@ abbrev pub AreLastPairs : List (List ℕ) → List ChangedComment → List Conte
 AreLastPairs keys [] last = Unit {0}
 AreLastPairs keys (c ∷ cs) last = (is_among keys c.key ≡ true) × HoldNoPair c.key (with_old_comments cs last) × AreLastPairs keys cs last
 
--- Comments right before last pairs with these keys are replaced by others, and all other contents are unchanged.
+-- These are among those keys.
+abbrev pub AreAmong : List (List ℕ) → List (List ℕ) → Type 0
+AreAmong [] keys = Unit {0}
+AreAmong (k ∷ ks) keys = (is_among keys k ≡ true) × AreAmong ks keys
+
+-- the keys of these pairs
+abbrev pub changed_keys : List ChangedComment → List (List ℕ)
+changed_keys changes = map (λ c. let d : ChangedComment = c in d.key) changes
+
+-- Comments right before the last pairs with these keys are replaced by others, and all other contents are unchanged.
 -- Contents have no blank lines, so these may be comments beyond one.
 pub record AreCommentsChanged (keys : List (List ℕ)) (old new : List Content) : Type 0 where
   pub changes : List ChangedComment
@@ -104,6 +113,7 @@ pub record AreCommentsChanged (keys : List (List ℕ)) (old new : List Content) 
   pub was : old ≡ with_old_comments changes last
   pub now : new ≡ with_new_comments changes last
   pub are_last : AreLastPairs keys changes last
+  pub each : AreAmong keys (changed_keys changes)
 
 -- the keys whose comments are set
 abbrev pub keys_of : List NewText → List (List ℕ)

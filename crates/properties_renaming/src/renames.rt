@@ -55,11 +55,11 @@ impl fmt::Display for RenamesError {
     fn fmt<W: fmt::Write>(&self, f: &mut fmt::Formatter<W>) -> fmt::Result {
         match self {
             RenamesError::Source(error) => write!(f, "{error}"),
-            RenamesError::NoKey(index) => write!(f, "no pair has the key (rename = {index})"),
+            RenamesError::NoKey(index) => write!(f, "no pair has the key (index = {index})"),
             RenamesError::KeyTaken(index, number) => {
                 write!(
                     f,
-                    "the new key is there already (rename = {index}, line_number = {number})"
+                    "the new key is there already (index = {index}, line_number = {number})"
                 )
             }
         }
