@@ -21,8 +21,8 @@ use byte_blocks::{Byte, Either, LineEndings, find};
 use counted_io::{Counted, CountedRead, CountedWrite, ScriptedReader, ScriptedSink, SinkFault, Tail, send};
 use java_properties::{
     Call, Cause, Comments, ContentRef, Document, Edit, Encoding, GroupKind, LineContent, LineEnding, PropertiesError, PropertiesIter,
-    PropertiesWriter, Rename, RenameError, SourceOptions, Spelling, View, comment_of, convert, edit_all, edit_with, key_lines, laws, map_of, malformed_escapes, read, read_lines,
-    read_sorted, read_source, remove_key, remove_with_comment, rename_key, rename_keys, run_calls, set_comment, set_key, set_value, value_of, value_with, write, write_sorted, write_source,
+    NewComment, PropertiesWriter, Rename, RenameError, SourceOptions, Spelling, View, comment_of, convert, edit_all, edit_with, key_lines, laws, map_of, malformed_escapes, read, read_lines,
+    read_sorted, read_source, remove_key, remove_with_comment, remove_with_comments, rename_key, rename_keys, run_calls, set_comment, set_comments, set_key, set_value, value_of, value_with, write, write_sorted, write_source,
 };
 use properties_text::encoding::TextBuffer;
 use properties_text::escape::unescape;
@@ -106,6 +106,8 @@ GIVEN = {
     "host": 'let host = String::from_str(alloc, "host")?;',
     "server": 'let server = String::from_str(alloc, "server")?;',
     "server_port": 'let server_port = String::from_str(alloc, "server_port")?;',
+    "its_name": 'let its_name = String::from_str(alloc, "its name")?;',
+    "the_front_door": 'let the_front_door = String::from_str(alloc, "the front door")?;',
     "options": "let options = SourceOptions::new(Encoding::UTF_8);",
     "value": 'let value = String::from_str(alloc, "v")?;',
 }
