@@ -2,6 +2,7 @@
 -- Source: java.util.Properties of Java SE 7, load (what a comment line is; a comment line is never continued).
 use Rattle.std.specs.Prelude.{◌≡◌, ◌⊎◌, ℕ, true, false, List, map, Option, Some, None, Result, Ok, Err}
 use Rattle.std.specs.Option.{option_map}
+use Rattle.std.specs.Global.{Global}
 use Rattle.std.specs.declared.string.String.{String}
 use Rattle.std.specs.declared.vec.Vec.{Vec}
 use Rattle.properties_format.specs.Encoding.{Encoding, byte_order_mark}
@@ -12,6 +13,7 @@ use Rattle.properties_items.specs.Errors.{IsBareError}
 use Rattle.properties_items.specs.Texts.{characters}
 use Rattle.properties_items.specs.declared.error.ErrorKind.TheVariants as kind
 use Rattle.properties_items.specs.declared.error.PropertiesError.{PropertiesError}
+use Rattle.properties_editing.specs.Documents.{OpenDocument}
 use Rattle.properties_renaming.specs.CommentLines.{AreCommentTexts, IsCommentOf}
 use Rattle.java_properties.specs.Findings.{IsFirstPairError}
 
@@ -44,3 +46,8 @@ RefusesComment e source error =
 abbrev pub TellsComment : {Y Z : Type 0} → Encoding → List ℕ → List ℕ → Result (Option (Vec (String Y) Z)) PropertiesError → Type 0
 TellsComment e source key (Ok texts) = HasComment e source key (option_map (λ t. map characters t.items) texts)
 TellsComment e source key (Err error) = RefusesComment e source error
+
+-- The same of a document, or memory ran out.
+abbrev pub TellsCommentIn : {Y Z : Type 0} → OpenDocument → List ℕ → Result (Option (Vec (String Y) Z)) PropertiesError → Type 0
+TellsCommentIn d key (Ok texts) = TellsComment d.repertoire.encoding d.bytes key (Ok texts)
+TellsCommentIn d key (Err error) = TellsComment {Y = Global} {Z = Global} d.repertoire.encoding d.bytes key (Err error) ⊎ IsBareError kind.Memory error

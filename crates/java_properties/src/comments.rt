@@ -5,10 +5,10 @@ ghost use Rattle.std.specs.Str.{chars};
 ghost use Rattle.properties_format.specs.Lines.{is_comment_line};
 ghost use Rattle.properties_text.specs.Encoding.{encoding_of};
 ghost use Rattle.properties_renaming.specs.CommentLines.{is_line_of_comment};
-ghost use Rattle.java_properties.specs.Commented.{TellsComment};
+ghost use Rattle.java_properties.specs.Commented.{TellsComment, TellsCommentIn};
 ghost use Rattle.java_properties.specs.Private.PassedGroups.{AddsPassedLine, IsKindOf, PassesGroup, TellsKey, after_other, passed_texts};
 
-use properties_editing::{GroupKind, View, ViewedGroup};
+use properties_editing::{Document, GroupKind, View, ViewedGroup};
 use properties_items::error::PropertiesError;
 use properties_items::found::{find_item, pair_texts};
 use properties_renaming::comment_lines::{comment_text, is_comment_line};
@@ -49,6 +49,25 @@ pub fn comment_of(
         passed.pass(alloc, group, view.line(), key)?;
     }
     Ok(passed.comment)
+}
+
+/// Returns the comment of a key of a document, as [`comment_of`] does. It copies the document's bytes and reads them.
+///
+/// ```text
+/// let document = Document::parse(alloc, b"# the user\nuser = app\n", Encoding::UTF_8)?;
+/// if let Some(texts) = comment_in(alloc, &document, "user")? {
+///     assert!(rt; texts.len() == 1);
+/// }
+/// ```
+pub fn comment_in(
+    alloc: Global,
+    document: &Document,
+    key: &str,
+) -> Result<Option<Vec<String>>, PropertiesError>
+    ensures { TellsCommentIn document.now (chars key.now) result }
+{
+    let bytes = document.to_bytes()?;
+    comment_of(alloc, &bytes, document.options().encoding, key)
 }
 
 // What is known of a key after some groups.

@@ -4,7 +4,8 @@
 //! comments and pairs. [`set_key`], [`set_value`], [`remove_key`], [`edit_all`] and [`Document`] edit the pairs of a
 //! file, and so does [`edit_with`], with [`SourceOptions`]. [`rename_key`] renames a key where it stands,
 //! [`rename_keys`] renames many, [`set_comments`] sets the comments of keys, and [`remove_with_comments`] removes keys
-//! with their comments. [`View`] shows where each part of a file is. [`convert`] changes its encoding.
+//! with their comments. [`edit_keys`] applies a list of edits of all these kinds. [`View`] shows where each part of a file
+//! is. [`convert`] changes its encoding.
 //!
 //! ```text
 //! for item in PropertiesIter::new(alloc, &mut input)? {
@@ -27,7 +28,7 @@ mod maps;
 mod sources;
 mod writer;
 
-pub use comments::comment_of;
+pub use comments::{comment_in, comment_of};
 pub use converting::convert;
 pub use copy::CopyError;
 pub use iter::{
@@ -44,8 +45,9 @@ pub use properties_items::findings::{KeyLine, MalformedEscape};
 pub use properties_items::found::Found;
 pub use properties_items::line::{Line, LineContent, LineEnding};
 pub use properties_renaming::{
-    NewComment, Rename, RenameError, RenamesError, remove_with_comment, remove_with_comments,
-    rename_key, rename_keys, set_comment, set_comments,
+    KeyEdit, NewComment, Rename, RenameError, RenamesError, edit_keys, remove_with_comment,
+    remove_with_comment_in, remove_with_comments, rename_in, rename_key, rename_keys, set_comment,
+    set_comment_in, set_comments,
 };
 pub use properties_text::convert::Spelling;
 pub use properties_text::encoding::Encoding;

@@ -1,5 +1,5 @@
 -- What a logical line gives, by how its texts are given.
-use Rattle.std.proofs.Common.{◌≡◌, ◌≢◌, ℕ, false, true, List, ◌∷◌, [], ◌++◌, refl, sym, ap, ap₂, ◌∙◌, subst, inl, inr, append_assoc, append-nil}
+use Rattle.std.proofs.Common.{◌≡◌, ℕ, false, true, List, ◌∷◌, [], ◌++◌, refl, sym, ap, ap₂, ◌∙◌, subst, inl, inr, append_assoc, append-nil}
 use Rattle.std.specs.Prelude.{◌⊎◌, ◌&&◌, Bool, Option, Some, None, Result, Ok, Err}
 use Rattle.std.specs.Str.{chars}
 use Rattle.properties_format.specs.Escapes.{Malformed, means}
@@ -20,7 +20,7 @@ use Rattle.properties_items.specs.declared.borrowed.LineRef.{LineRef}
 use Rattle.properties_items.specs.declared.error.PropertiesError.{PropertiesError}
 use Rattle.properties_items.specs.declared.found.Found.{Found}
 use Rattle.properties_items.proofs.FoundItems.{found-item}
-use Rattle.properties_c.specs.Items.{standing, asked_texts, GivesAskedLine, IsShown, IsShownAs, TakesOutcome, shown}
+use Rattle.properties_c.specs.Items.{standing, asked_texts, IsShown, IsShownAs, TakesOutcome, shown}
 use Rattle.properties_c.specs.Packed.{packed}
 use Rattle.properties_c.specs.Private.Results.{PushesLine, PushesRead, Resolves, passes, reads, standing_record}
 use Rattle.properties_c.specs.declared.asked.Asked.{Asked}

@@ -2,8 +2,8 @@
 use Rattle.std.proofs.Common.{◌≡◌, ℕ, ◌-◌, ◌<◌, List, [], ◌∷◌, ◌++◌, length, take, drop, refl, ap, sym, ◌∙◌, arith, append_assoc}
 use Rattle.std.proofs.lemmas.List.{append-nil, drop_at, map-append, take_at}
 use Rattle.std.proofs.lemmas.List.Concat.{flat_map-append}
-use Rattle.properties_editing.specs.declared.edit.Edit.{Edit}
-use Rattle.java_properties.specs.Editing.{edit_in, edits_in}
+use Rattle.properties_renaming.specs.KeyEdits.{key_edit_in, key_edits_in}
+use Rattle.properties_renaming.specs.declared.key_edits.KeyEdit.{KeyEdit}
 use Rattle.properties_c.specs.Packed.{Meaning, edits, AreMeant, BeginsList, Record, IsSized, packed}
 use Rattle.properties_c.specs.Private.Lists.{header_bytes, header_of, Splits, IsFirstThing, RefusesFirst, RefusesRecord}
 use Rattle.properties_c.specs.declared.status.Status.{Status}
@@ -57,9 +57,10 @@ first-texts {list} {r} {rest} splits =
 
 -- ---- edits
 
-pub edits-more : {list rest after : List ℕ} (found : List Edit) (edit : Edit)
-    → BeginsList edits list (edits_in found) rest → IsFirstThing edits rest (edit_in edit) after → BeginsList edits list (edits_in (found ++ edit ∷ [])) after
+pub edits-more : {list rest after : List ℕ} (found : List KeyEdit) (edit : KeyEdit)
+    → BeginsList edits list (key_edits_in found) rest → IsFirstThing edits rest (key_edit_in edit) after
+    → BeginsList edits list (key_edits_in (found ++ edit ∷ [])) after
 edits-more {list} {rest} {after} found edit before next =
-    rw (map-append edit_in found (edit ∷ [])) (Begins-more before next)
+    rw (map-append key_edit_in found (edit ∷ [])) (Begins-more before next)
 
 pub ruleset taking = (first-refused, edits-more, IsFirst-shorter)

@@ -7,7 +7,6 @@ use Rattle.properties_format.specs.Items.{Outcome}
 use Rattle.properties_format.specs.Split.{Logical, blank, comment, pair, IsSplit}
 use Rattle.properties_format.proofs.Split.Unique.{split_of-only}
 use Rattle.properties_editing.specs.Views.{OpenView, GivesNext, TakesNext, IsGroup, IsRawKey, IsRawValue, group_kind, viewed_line, text_or_value}
-use Rattle.properties_editing.specs.declared.group.GroupKind.{GroupKind}
 use Rattle.properties_editing.specs.declared.group.GroupKind.TheVariants as group
 use Rattle.properties_editing.specs.declared.group.ViewedGroup.{ViewedGroup}
 use Rattle.properties_c.specs.Items.{ArePacked, IsPackedGroup, IsShown, key_in, kind_number, standing, asked_texts}

@@ -1,5 +1,5 @@
 -- Where the front of a part ends, and how many line endings it has.
-use Rattle.std.proofs.Common.{◌≡◌, ◌⊎◌, ℕ, ◌+◌, ◌-◌, ◌%◌, ◌≤◌, ◌==◌, Bool, true, List, [], ◌++◌, length, take, drop, refl, ap, ap₂, sym, subst, ◌∙◌, inl, inr, arith, length-append, length-drop}
+use Rattle.std.proofs.Common.{◌≡◌, ◌⊎◌, ℕ, ◌+◌, ◌-◌, ◌%◌, ◌≤◌, ◌==◌, Bool, true, List, ◌++◌, length, take, drop, ap, ap₂, sym, subst, ◌∙◌, inl, inr, arith, length-append, length-drop}
 use Rattle.std.specs.Prelude.{◌&&◌, ◌||◌, not, Some, None}
 use Rattle.std.specs.Bool.{Decides}
 use Rattle.std.specs.List.{starts_with, ends_with}

@@ -30,6 +30,12 @@ pub record RefusesCall (status : Status) (line : ℕ) (x : Crossing) : Type 0 wh
   pub answers : AnswersCall status 0 line x.returned x.count x.line
   pub kept : x.left ≡ x.out
 
+-- The call returned a status for one of its edits, and nothing else: the length is the index of that edit, and nothing
+-- was written.
+pub record RefusesEdit (status : Status) (index line : ℕ) (x : Crossing) : Type 0 where
+  pub answers : AnswersCall status index line x.returned x.count x.line
+  pub kept : x.left ≡ x.out
+
 -- The bytes fit. They are at the front of `out`, the length is theirs, and the rest of `out` is as it was.
 pub record FitsBuffer (bytes : List ℕ) (status : Status) (line : ℕ) (x : Crossing) : Type 0 where
   pub room : length bytes ≤ length x.out

@@ -1,33 +1,36 @@
 -- What the export that edits gives.
-use Rattle.std.specs.Prelude.{◌⊎◌, ℕ, Bool, List, Result}
+use Rattle.std.specs.Prelude.{◌⊎◌, ℕ, Bool, List, Result, Ok, Err}
 use Rattle.std.specs.Global.{Vec}
-use Rattle.properties_format.specs.Encoding.{Encoding, Repertoire, characters_for}
-use Rattle.properties_format.specs.Edits.{Edit}
-use Rattle.java_properties.specs.Editing.{MakesEditsFor}
-use Rattle.properties_items.specs.declared.error.PropertiesError.{PropertiesError}
-use Rattle.properties_c.specs.Crossing.{Crossing, Crosses, Delivers, RefusesCall}
-use Rattle.properties_c.specs.Inputs.{InEncoding, WithFlags, WithSource, comments_for, for_conversions, for_edits, ToTarget}
+use Rattle.properties_format.specs.Encoding.{Encoding}
+use Rattle.properties_renaming.specs.KeyEdits.{KeyEdit, MakesKeyEdits}
+use Rattle.properties_renaming.specs.declared.renames.RenamesError.{RenamesError}
+use Rattle.properties_renaming.specs.declared.renames.RenamesError.TheVariants as error
+use Rattle.properties_c.specs.Crossing.{Crossing, Delivers, Fails, RefusesCall, RefusesEdit}
+use Rattle.properties_c.specs.Inputs.{InEncoding, WithFlags, WithSource, for_conversions, for_edits, ToTarget}
+use Rattle.properties_c.specs.Keys.{IsGivenBy}
 use Rattle.properties_c.specs.Packed.{edits, WithList}
 use Rattle.properties_c.specs.declared.encoding.Flags.{Flags}
 use Rattle.properties_format.specs.Converting.{IsConverted}
 use Rattle.properties_text.specs.Printing.{in_format}
 use Rattle.properties_text.specs.declared.print.Repertoire as code
-use Rattle.properties_c.specs.declared.status.Status.TheVariants.{Done, NoMemory}
+use Rattle.properties_c.specs.declared.status.Status.TheVariants.{Done, KeyTaken, NoKey, NoMemory}
 
--- what may stand unescaped in what is put in, as the flags ask for it
-abbrev pub repertoire_for : Flags → Encoding → Repertoire
-repertoire_for f e = record { encoding = e; characters = characters_for f.ascii_only f.latin_1 }
+-- What edits returned crosses: the bytes; or that no pair has the key of the edit with this index, or the line of the
+-- first pair with its new key; or its error.
+abbrev pub EditedCrosses : Result (Vec ℕ) RenamesError → Crossing → Type 0
+EditedCrosses (Ok bytes) x = Delivers bytes.items Done 0 x
+EditedCrosses (Err (error.NoKey index)) x = RefusesEdit NoKey index 0 x
+EditedCrosses (Err (error.KeyTaken index number)) x = RefusesEdit KeyTaken index number x
+EditedCrosses (Err (error.Source e)) x = Fails e x
 
-abbrev pub MakesAll : Flags → Encoding → List ℕ → List Edit → Result (Vec ℕ) PropertiesError → Type 0
-MakesAll f e source edits result = MakesEditsFor (comments_for f.read_comments) (repertoire_for f e) source edits result
-
--- An edit returned a result for which this holds, and the result crosses.
-abbrev pub GivesEdited : (Result (Vec ℕ) PropertiesError → Type 0) → Crossing → Type 0
-GivesEdited IsMade x = (outcome : Result (Vec ℕ) PropertiesError) × IsMade outcome × Crosses outcome x
+-- Edits returned a result, and the result crosses.
+abbrev pub GivesEdited : Encoding → Flags → List ℕ → List KeyEdit → Crossing → Type 0
+GivesEdited e f source es x =
+    (outcome : Result (Vec ℕ) RenamesError) × IsGivenBy (λ o. MakesKeyEdits o source es) e f outcome × EditedCrosses outcome x
 
 abbrev pub EditsAcross : List ℕ → ℕ → ℕ → List ℕ → Crossing → Type 0
 EditsAcross source encoding flags list x =
-    InEncoding encoding (λ e. WithFlags for_edits flags (λ f. WithList edits list (λ es. WithSource f.strict e source (GivesEdited (MakesAll f e source es) x) x) x) x) x
+    InEncoding encoding (λ e. WithFlags for_edits flags (λ f. WithList edits list (λ es. WithSource f.strict e source (GivesEdited e f source es x) x) x) x) x
 
 -- ---- What the export that converts gives.
 

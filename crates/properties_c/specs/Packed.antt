@@ -4,7 +4,7 @@ use Rattle.std.specs.Int.{w64, to_le_bytes}
 use Rattle.std.specs.List.{flat_map}
 use Rattle.properties_c.specs.declared.records.Record as code
 use Rattle.std.specs.Str.{IsUtf8, chars}
-use Rattle.properties_format.specs.Edits.{Edit, put, remove, set_value}
+use Rattle.properties_format.specs.Edits.{put, remove, set_value}
 use Rattle.properties_format.specs.Encoding.{Encoding, byte_order_mark}
 use Rattle.properties_format.specs.Items.{Content, comment, pair, Entry, item, malformed}
 use Rattle.properties_c.specs.Crossing.{Crossing, RefusesCall}
@@ -15,6 +15,7 @@ use Rattle.properties_c.specs.declared.status.Status.{Status}
 use Rattle.properties_format.specs.Escapes.{Malformed, not_enough_digits, not_hex, invalid_character}
 use Rattle.properties_format.specs.Found.{MalformedEscape}
 use Rattle.java_properties.specs.Findings.{KeyEntry}
+use Rattle.properties_renaming.specs.KeyEdits.{KeyEdit, edit, rename, remove_with_comment, set_comment}
 
 -- a number as eight bytes, the lowest first
 unfoldable pub number_bytes : ℕ → List ℕ
@@ -66,16 +67,20 @@ pub record Meaning (A : Type 0) : Type 1 where
 
 -- ---- edits
 
--- The kind is that of an edit, which no line has, and a key that is removed has no value.
+-- The kind is that of an edit, which no item has, and a key that is removed has no value.
 abbrev pub IsKnownEdit : Record → Type 0
-IsKnownEdit r = (r.kind ≡ 2) ⊎ ((r.kind ≡ 3) × (r.value ≡ []) ⊎ (r.kind ≡ 4))
+IsKnownEdit r =
+    (r.kind ≡ 2) ⊎ ((r.kind ≡ 3) × (r.value ≡ []) ⊎ ((r.kind ≡ 4) ⊎ ((r.kind ≡ 7) ⊎ ((r.kind ≡ 8) ⊎ (r.kind ≡ 9) × (r.value ≡ [])))))
 
-abbrev pub MeansEdit : Record → Edit → Type 0
-MeansEdit r (put key value) = (r.kind ≡ 2) × IsPackedText r.key key × IsPackedText r.value value
-MeansEdit r (remove key) = (r.kind ≡ 3) × IsPackedText r.key key × (r.value ≡ [])
-MeansEdit r (set_value key value) = (r.kind ≡ 4) × IsPackedText r.key key × IsPackedText r.value value
+abbrev pub MeansEdit : Record → KeyEdit → Type 0
+MeansEdit r (edit (put key value)) = (r.kind ≡ 2) × IsPackedText r.key key × IsPackedText r.value value
+MeansEdit r (edit (remove key)) = (r.kind ≡ 3) × IsPackedText r.key key × (r.value ≡ [])
+MeansEdit r (edit (set_value key value)) = (r.kind ≡ 4) × IsPackedText r.key key × IsPackedText r.value value
+MeansEdit r (rename name) = (r.kind ≡ 7) × IsPackedText r.key name.old × IsPackedText r.value name.new
+MeansEdit r (set_comment text) = (r.kind ≡ 8) × IsPackedText r.key text.key × IsPackedText r.value text.text
+MeansEdit r (remove_with_comment key) = (r.kind ≡ 9) × IsPackedText r.key key × (r.value ≡ [])
 
-abbrev pub edits : Meaning Edit
+abbrev pub edits : Meaning KeyEdit
 edits = record { IsKnown = IsKnownEdit; Means = MeansEdit }
 
 -- ---- lines to write

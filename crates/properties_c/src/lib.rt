@@ -7,7 +7,7 @@
 //! - at 0, `length` bytes were written to `out`;
 //! - if `out` has too little room, nothing is written, and `length` is what is needed;
 //! - at any other status nothing is written and `length` is 0, but [`todrenval_items`] then gives the items before the
-//!   error;
+//!   error, and [`todrenval_edit`] the index of an edit that is refused;
 //! - `line` is the line of the error, or 0.
 //!
 //! A call with flags refuses those that it has no use for. What is in `out` past `length` stays as it was. A parameter

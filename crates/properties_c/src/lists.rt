@@ -2,14 +2,14 @@
 
 ghost use Rattle.std.specs.Prelude.{◌≡◌, ◌++◌, ◌≤◌, length, take, drop};
 ghost use Rattle.properties_c.specs.Packed.{record_in};
-ghost use Rattle.properties_c.specs.Private.Lists.{CopiesText, MakesEdit, MakesLine, ReadsEdits, ReadsFirstEdit, ReadsFirstLine, TakesText, TakesTexts};
+ghost use Rattle.properties_c.specs.Private.Lists.{CopiesKey, CopiesText, CopiesTexts, MakesEdit, MakesLine, ReadsEdits, ReadsFirstEdit, ReadsFirstLine, TakesText, TakesTexts};
 ghost use Rattle.properties_c.specs.declared.status.Status.TheVariants.{NoMemory};
 
 use crate::encoding::text_of;
 use crate::items::{COMMENT, PAIR};
 use crate::records::{HEADER_SIZE, Record, split_record};
 use crate::status::Status;
-use java_properties::Edit;
+use java_properties::{Edit, KeyEdit, NewComment, Rename};
 use std::alloc::{AllocError, AllocFailed, Global};
 
 // The kind of an edit that sets a key. Edits and lines have different kinds, so that a list of the one isn't taken for
@@ -21,6 +21,15 @@ const REMOVE: usize = 3;
 
 // The kind of an edit that sets a value.
 const SET_VALUE: usize = 4;
+
+// The kind of an edit that renames a key.
+const RENAME: usize = 7;
+
+// The kind of an edit that sets the comment of a key.
+const SET_COMMENT: usize = 8;
+
+// The kind of an edit that removes a key with its comments.
+const REMOVE_WITH_COMMENT: usize = 9;
 
 /// A line to write, with its texts in the list.
 #[derive(Clone, Copy)]
@@ -49,7 +58,7 @@ impl<T: Drop> From<AllocFailed<T>> for Status {
 
 /// Returns the edits of a packed list, or why it is refused.
 #[tactic(auto, using(crate::proofs::ListFronts::taking))]
-pub fn edits_of(alloc: Global, list: &[u8]) -> Result<Vec<Edit>, Status>
+pub fn edits_of(alloc: Global, list: &[u8]) -> Result<Vec<KeyEdit>, Status>
     ensures { ReadsEdits list.now result }
 {
     let mut edits = Vec::new(alloc);
@@ -68,7 +77,7 @@ pub fn edits_of(alloc: Global, list: &[u8]) -> Result<Vec<Edit>, Status>
 
 // Returns the first edit of a list and what comes after it.
 #[tactic(auto, using(crate::proofs::ListFronts::taking))]
-fn first_edit(alloc: Global, list: &[u8]) -> Result<(Edit, &[u8]), Status>
+fn first_edit(alloc: Global, list: &[u8]) -> Result<(KeyEdit, &[u8]), Status>
     ensures { ReadsFirstEdit list.now result }
 {
     let Some((first, rest)) = split_record(list) else {
@@ -96,26 +105,49 @@ pub fn first_line(list: &[u8]) -> Result<(Line<'_>, &[u8]), Status>
     }
 }
 
-fn edit_of(alloc: Global, given: Record<'_>) -> Result<Edit, Status>
+fn edit_of(alloc: Global, given: Record<'_>) -> Result<KeyEdit, Status>
     ensures { MakesEdit (record_in given.entry) result }
 {
     match given.kind {
         PUT => {
-            let key = copy_of(alloc, given.key)?;
-            Ok(Edit::Put(key, copy_of(alloc, given.value)?))
+            let (key, value) = texts_of(alloc, given)?;
+            Ok(KeyEdit::Edit(Edit::Put(key, value)))
         }
-        REMOVE => {
-            if !given.value.is_empty() {
-                return Err(Status::BadList);
-            }
-            Ok(Edit::Remove(copy_of(alloc, given.key)?))
-        }
+        REMOVE => Ok(KeyEdit::Edit(Edit::Remove(key_of(alloc, given)?))),
         SET_VALUE => {
-            let key = copy_of(alloc, given.key)?;
-            Ok(Edit::SetValue(key, copy_of(alloc, given.value)?))
+            let (key, value) = texts_of(alloc, given)?;
+            Ok(KeyEdit::Edit(Edit::SetValue(key, value)))
         }
+        RENAME => {
+            let (old, new) = texts_of(alloc, given)?;
+            Ok(KeyEdit::Rename(Rename { old, new }))
+        }
+        SET_COMMENT => {
+            let (key, text) = texts_of(alloc, given)?;
+            Ok(KeyEdit::SetComment(NewComment { key, text }))
+        }
+        REMOVE_WITH_COMMENT => Ok(KeyEdit::RemoveWithComment(key_of(alloc, given)?)),
         _ => Err(Status::BadList),
     }
+}
+
+// Returns copies of both texts of a record.
+fn texts_of(alloc: Global, given: Record<'_>) -> Result<(String, String), Status>
+    ensures { CopiesTexts (record_in given.entry) result }
+{
+    let key = copy_of(alloc, given.key)?;
+    let value = copy_of(alloc, given.value)?;
+    Ok((key, value))
+}
+
+// Returns a copy of the key of a record that may have no value.
+fn key_of(alloc: Global, given: Record<'_>) -> Result<String, Status>
+    ensures { CopiesKey (record_in given.entry) result }
+{
+    if !given.value.is_empty() {
+        return Err(Status::BadList);
+    }
+    copy_of(alloc, given.key)
 }
 
 // Returns the line of a record, whose texts are one after the other in `texts` too.

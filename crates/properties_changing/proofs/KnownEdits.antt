@@ -14,17 +14,6 @@ use Rattle.properties_changing.specs.Private.Collected.{with_values}
 use Rattle.properties_tables.specs.Values.{value_texts, HaveValues}
 use Rattle.properties_changing.specs.Change.{edited_keys, AreKnown}
 
-pub same-edit : (x y : editor.Edit) → IsSameEdit x y → edit_in x ≡ edit_in y
-same-edit (Put k v) (Put l w) h = rw (h.0, h.1) refl
-same-edit (Put k v) (Remove l) h = absurd h
-same-edit (Put k v) (SetValue l w) h = absurd h
-same-edit (Remove k) (Put l w) h = absurd h
-same-edit (Remove k) (Remove l) h = rw h refl
-same-edit (Remove k) (SetValue l w) h = absurd h
-same-edit (SetValue k v) (Put l w) h = absurd h
-same-edit (SetValue k v) (Remove l) h = absurd h
-same-edit (SetValue k v) (SetValue l w) h = rw (h.0, h.1) refl
-
 -- Those that have a value in their place are those of which a pair has the key.
 pub known-are : (e : Encoding) (source : List ℕ) (edits : List Edit) (values : List (Option (List ℕ))) → HaveValues e source (edited_keys edits) values
     → AreKnown e source edits (with_values edits values)

@@ -40,6 +40,10 @@ OpensDocumentWith options source (Ok d) =
     × AreMadeFor options.comments (asked_for options) source [] source
 OpensDocumentWith options source (Err error) = IsRefusal (IsResultFor options.comments (asked_for options) source []) error
 
+-- These are the options of the document.
+abbrev pub TellsOptions : OpenDocument → SourceOptions → Type 0
+TellsOptions d options = (asked_for options ≡ d.repertoire) × (options.comments ≡ d.comments)
+
 -- What the edits after this put in is written in ASCII only, or in all characters of the encoding. All else is as it was.
 abbrev pub TurnsAsciiOnly : Bool → OpenDocument → OpenDocument → Type 0
 TurnsAsciiOnly only old new = new ≡ record old { repertoire = repertoire old.repertoire.encoding only }

@@ -4,7 +4,7 @@ ghost use Rattle.std.specs.Prelude.{◌≡◌, IfOk};
 ghost use Rattle.std.specs.Option.{option_map};
 ghost use Rattle.std.specs.Str.{chars};
 ghost use Rattle.properties_text.specs.Encoding.{encoding_of};
-ghost use Rattle.properties_editing.specs.Documents.{HasKeysInOrder, HasValueAt, OpensDocument, OpensDocumentWith, PutsInto, RemovesFrom, SetsValueIn, TurnsAsciiOnly};
+ghost use Rattle.properties_editing.specs.Documents.{HasKeysInOrder, HasValueAt, OpensDocument, OpensDocumentWith, PutsInto, RemovesFrom, SetsValueIn, TellsOptions, TurnsAsciiOnly};
 
 use crate::parts::NamedKeys;
 use crate::parts::source_parts::SourceParts;
@@ -107,6 +107,18 @@ impl Document {
             source: source.to_vec(alloc)?,
             edited,
         })
+    }
+
+    /// Returns the options for which [`edit_with`](crate::edit_with) reads and writes as this document does.
+    pub fn options(&self) -> SourceOptions
+        ensures { TellsOptions self.now result }
+    {
+        SourceOptions {
+            encoding: self.encoding,
+            ascii_only: self.edited.opened.ascii_only,
+            latin_1: self.edited.opened.latin_1,
+            comments: self.comments,
+        }
     }
 
     /// Returns the value of a key: that of the last pair with the key, or `None` if no pair has it.

@@ -10,6 +10,9 @@ pub mod CommentGroups
 pub mod CommentedKeys
 pub mod CommentTexts
 pub mod TextLines
+pub mod EditRuns
+pub mod RunsInTurn
+pub mod ReopenedDocuments
 pub mod FoundComments
 pub mod KeyedValues
 pub mod LastLines

@@ -27,7 +27,7 @@ use Rattle.properties_renaming.specs.Laws.{IsName}
 use Rattle.properties_renaming.specs.Renaming.{AreRekeyed, IsRekeyed, IsRenamed, key_text}
 use Rattle.properties_renaming.specs.Renames.{AreRenamedInTurn, NewName}
 use Rattle.properties_renaming.specs.Private.Renaming.{AreMade}
-use Rattle.properties_renaming.specs.Private.Renames.{AreRenamedAtOnce, AreThere, IsFreeOf, IsMadeBy, last_name, needed}
+use Rattle.properties_renaming.specs.Private.Renames.{AreRenamedAtOnce, AreThere, IsFreeOf, IsGivenBy, IsMadeBy, IsMakeable, last_name, needed}
 use Rattle.properties_renaming.proofs.NewPairs.{IsNamed, IsNewGroup, rekeyed-again, rekeyed-pair}
 use Rattle.properties_renaming.proofs.RenamedContents.{AreNamed, ended-mark, is-nil, no-bytes, none-all, none-given}
 use Rattle.properties_renaming.proofs.RenamedKeys.{source-alike}
@@ -124,10 +124,7 @@ module _ (r : Repertoire) (n : NewName) (ns : List NewName) (ok : is_editable r.
           let is_new : key ≢ n.new = λ s. free key has (ap (needed (n ∷ ns)) s ∙ needed-new n ns apart) in
           free key has (needed-other n ns key (other key has) is_new ∙ q)
 
-      others : ((key : List ℕ) × (new : List ℕ) × HasKey key g × (last_name (n ∷ ns) key ≡ Some new) × IsRekeyed r first g new made)
-          ⊎ ((key : List ℕ) → HasKey key g → last_name (n ∷ ns) key ≡ None) × (made ≡ group_bytes g)
-          → ((key : List ℕ) × (new : List ℕ) × HasKey key g × (last_name ns key ≡ Some new) × IsRekeyed r first g new made)
-          ⊎ ((key : List ℕ) → HasKey key g → last_name ns key ≡ None) × (made ≡ group_bytes g)
+      others : IsGivenBy r (n ∷ ns) first g made → IsGivenBy r ns first g made
       others (inl (key, new, has, q, k)) = inl (key, new, has, sym (last-other n ns key (other key has)) ∙ q, k)
       others (inr (none, same)) = inr (λ key has. sym (last-other n ns key (other key has)) ∙ none key has, same)
 
@@ -464,6 +461,25 @@ kept-there n ns gs same there key q = elim (cases_Bool (bytes_eq key n.old)) [
       there key (needed-other n ns key other (λ s. other (s ∙ sym same)) ∙ q)
 ]
 
+-- The last rename gives its name to the pairs with its old key, even if it is the empty one.
+last-rekeyed : (r : Repertoire) (n : NewName) (first : Bool) (gs : List (List HeldLine)) (bytes : List ℕ) → n.old ≢ n.new
+    → AreMade (IsMadeBy r (n ∷ [])) first gs bytes → AreRekeyed r n.old n.new first gs bytes
+last-rekeyed r n first [] bytes apart h = h
+last-rekeyed r n first (g ∷ gs) bytes apart (made, more, k, s, rest) = (made, more, of k, s, last-rekeyed r n false gs more apart rest)
+  where
+    of : IsMadeBy r (n ∷ []) first g made → HasKey n.old g × IsRekeyed r first g n.new made ⊎ ¬ (HasKey n.old g) × (made ≡ group_bytes g)
+    of (free, inr (none, same)) = inr (λ has. (let t = sym (none n.old has) ∙ last-old n [] apart in cc), same)
+    of (free, inl (key, new, has, q, k)) = elim (cases_Bool (bytes_eq key n.old)) [
+      | inl t ↦
+          let is = (bytes_eq-Decides key n.old).0 t in
+          let final : Some new ≡ Some n.new = sym q ∙ ap (last_name (n ∷ [])) is ∙ last-old n [] apart in
+          inl (subst (λ w. HasKey w g) is has, subst (λ w. IsRekeyed r first g w made) (cc) k)
+      | inr t ↦
+          let other : key ≢ n.old = λ s. let u = (bytes_eq-Decides key n.old).1 s in cc in
+          let none : Some new ≡ None = sym q ∙ last-other n [] key other in
+          absurd (cc)
+    ]
+
 -- The first of several renames, given that the others are made in turn to what it leaves.
 first-in-turn : (options : SourceOptions) (source result : List ℕ) (n : NewName) (ns : List NewName)
     → is_editable (byte_order_mark (asked_for options).encoding source).encoding ≡ true → AreRenamedAtOnce (asked_for options) source (n ∷ ns) result
@@ -472,9 +488,7 @@ first-in-turn : (options : SourceOptions) (source result : List ℕ) (n : NewNam
     → AreRenamedInTurn options source (n ∷ ns) result
 first-in-turn options source result n ns ok h others = of h.makeable.0
   where
-    of : (n.old ≡ n.new) × (needed ns n.old ≢ Some false)
-        ⊎ (n.old ≢ n.new) × IsName n.new × (needed ns n.old ≢ Some true) × (needed ns n.new ≢ Some false)
-        → AreRenamedInTurn options source (n ∷ ns) result
+    of : IsMakeable n ns → AreRenamedInTurn options source (n ∷ ns) result
     of (inl (same, stays)) =
         let r = asked_for options in (
           source,
@@ -489,7 +503,24 @@ first-in-turn options source result n ns ok h others = of h.makeable.0
             whole = h.whole;
           }),
         )
-    of (inr (apart, name, gone, free_new)) =
+    of (inr (apart, inr last, gone, free_new)) =
+        let r = asked_for options in
+        let t = repertoire_in_force r source in
+        let renamed : IsRenamed r source n.old n.new result = record {
+          groups = h.groups;
+          held = h.held;
+          is_there = h.there n.old (needed-old n ns);
+          is_free = none-free t (n ∷ ns) n.new true h.groups h.body (needed-new n ns apart) h.made;
+          body = h.body;
+          renamed =
+              last-rekeyed t n true h.groups h.body apart (subst (λ ms. AreMade (IsMadeBy t (n ∷ ms)) true h.groups h.body) last h.made);
+          whole = h.whole;
+        } in (
+          result,
+          inl (apart, renamed, source-alike r source n.old n.new result renamed),
+          subst (λ ms. AreRenamedInTurn options result ms result) (sym last) refl,
+        )
+    of (inr (apart, inl name, gone, free_new)) =
         let r = asked_for options in
         let k = next-step r source result n ns ok apart name gone free_new h in (
           k.next,

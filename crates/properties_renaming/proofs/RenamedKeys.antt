@@ -1,6 +1,6 @@
 -- How a key is renamed, group after group of a view.
 use Rattle.std.proofs.Common.{inl, inr, ◌≡◌, ◌≢◌, ◌<◌, ◌≤◌, ℕ, zero, suc, ◌+◌, ◌-◌, Bool, true, false, List, [], ◌∷◌, ◌++◌, length, take, drop, refl, sym, ap, ap₂, ◌∙◌, subst, arith, append_assoc, append-nil, length-append, lit<}
-use Rattle.std.specs.Prelude.{◌⊎◌, ◌==◌, ◌&&◌, not, bytes_eq, Option, Some, None, Ok}
+use Rattle.std.specs.Prelude.{◌==◌, ◌&&◌, not, bytes_eq, Option, Some, None, Ok}
 use Rattle.std.specs.Global.{Vec}
 use Rattle.std.specs.Option.{unwrap_or}
 use Rattle.std.specs.Str.{chars}
@@ -14,19 +14,13 @@ use Rattle.properties_format.specs.Text.{equals_sign, is_blanks, is_empty}
 use Rattle.properties_format.specs.Encoding.{Characters, Encoding, InForce, Repertoire, ascii_in, byte_order_mark, in_encoding, repertoire_in_force, latin_1_in, output_encoding, utf_8}
 use Rattle.properties_format.specs.Split.{Logical, blank, comment, pair, IsSplit}
 use Rattle.properties_format.specs.Printing.{encoded_text, in_prefix, printed_characters, printed_key}
-use Rattle.properties_format.specs.Lines.{joined}
-use Rattle.properties_format.specs.Body.{HeldLine, HasKey, NoneHasKey, as_lines, group_bytes, groups_bytes, held_in}
-use Rattle.properties_format.specs.Items as entry
-use Rattle.properties_format.specs.Items.{Outcome, broken, given, ignored}
-use Rattle.properties_items.specs.BorrowedItems.{outcome_pair}
-use Rattle.properties_format.specs.Computed.Body.{has_key}
+use Rattle.properties_format.specs.Body.{HeldLine, HasKey, NoneHasKey, group_bytes, groups_bytes, held_in}
 use Rattle.properties_format.specs.Computed.Valued.{between_if_pair, between_in}
 use Rattle.properties_format.specs.Edited.{bom_of, is_editable}
 use Rattle.properties_format.proofs.AsciiOnly.{printed_characters-alike, printed_characters-ascii, printed_characters-same}
 use Rattle.properties_format.proofs.Valued.InAscii.{encoded-same}
 use Rattle.properties_format.proofs.Edited.ByteOrderMarks.{source-whole}
 use Rattle.properties_format.proofs.Edited.Pair.{editable-own}
-use Rattle.properties_format.proofs.Edited.Made.{has_key-true, HasKey-test}
 use Rattle.properties_format.proofs.Printing.Characters.{encoded-ascii}
 use Rattle.properties_format.proofs.Split.Unique.{split_of-only}
 use Rattle.properties_format.proofs.Valued.Parts.{between_in-pair}
@@ -47,13 +41,11 @@ use Rattle.properties_editing.specs.declared.source.Comments.TheVariants.{Passed
 use Rattle.properties_editing.specs.Views.{GivesNext, AreGiven, AreOfPair, IsViewOf, ArePlaces, OpenView, TakesNext, viewed_line, past_group, size_before, with_bytes}
 use Rattle.properties_editing.specs.declared.group.PartPlaces.{PartPlaces}
 use Rattle.properties_editing.specs.declared.group.ViewedGroup.{ViewedGroup}
-use Rattle.properties_renaming.specs.Renaming.{AreIn, AreAlike, ArePrinted, AreRekeyed, IsRekeyed, IsRenamed, Replaced, with_new, with_old, key_text}
+use Rattle.properties_renaming.specs.Renaming.{AreIn, AreAlike, ArePrinted, AreRekeyed, IsRenamed, Replaced, with_new, with_old, key_text}
 use Rattle.properties_renaming.specs.Private.Copied.{IsNew, IsReplacedIn, copied_to}
-use Rattle.properties_renaming.specs.Private.Renaming.{AreMade, IsAmong, Names, PrintsKeys, IsAnyPair, IsRekeyedIn, IsSlice, TellsTaken, TellsThere, AreRenamed, is_join, later, past_joins}
+use Rattle.properties_renaming.specs.Private.Renaming.{AreMade, IsAmong, PrintsKeys, IsAnyPair, IsRekeyedIn, IsSlice, is_join, later, past_joins}
 use Rattle.properties_renaming.proofs.KeyPlaces.{IsPlaced}
 use Rattle.properties_renaming.specs.declared.copied.Copied.{Copied}
-use Rattle.properties_renaming.specs.declared.renaming.Named.{Named}
-use Rattle.properties_renaming.specs.declared.renaming.Named.TheVariants.{Old, New, Other}
 use Rattle.properties_renaming.specs.declared.renaming.NewKey.{NewKey}
 
 -- ---- what joins lines before a key
@@ -81,9 +73,6 @@ front-empty start [] = grind (arith, nat_tests)
 front-empty start (c ∷ front) = grind (arith, nat_tests)
 
 -- ---- a group that is a pair
-
-pub has-pair : (key : List ℕ) (g : List HeldLine) → has_key key g ≡ true → IsAnyPair (joined (as_lines g))
-has-pair key g h = let k = (has_key-true key g h).1 in (k.raw_key, k.raw_value, k.split)
 
 same-split : (x : List ℕ) (p q : Logical) → IsSplit x p → IsSplit x q → p ≡ q
 same-split x p q h k = split_of-only x p h ∙ sym (split_of-only x q k)
@@ -184,13 +173,9 @@ pub none-append : (key : List ℕ) (gs : List (List HeldLine)) (g : List HeldLin
 none-append key [] g h k = (k, tt)
 none-append key (f ∷ gs) g h k = (h.0, none-append key gs g h.1 k)
 
-pub none-front : (key : List ℕ) (gs hs : List (List HeldLine)) → NoneHasKey key (gs ++ hs) → NoneHasKey key gs
-none-front key [] hs h = tt
-none-front key (f ∷ gs) hs h = (h.0, none-front key gs hs h.1)
-
-pub none-last : (key : List ℕ) (gs : List (List HeldLine)) (g : List HeldLine) → NoneHasKey key (gs ++ g ∷ []) → ¬ (HasKey key g)
-none-last key [] g h = h.0
-none-last key (f ∷ gs) g h = none-last key gs g h.1
+pub none-at : (key : List ℕ) (gs : List (List HeldLine)) (g : List HeldLine) (hs : List (List HeldLine)) → NoneHasKey key (gs ++ g ∷ hs) → ¬ (HasKey key g)
+none-at key [] g hs h = h.0
+none-at key (f ∷ gs) g hs h = none-at key gs g hs h.1
 
 pub held-push : (gs : List (List HeldLine)) (g : List HeldLine) → length (held_in (gs ++ g ∷ [])) ≡ length (held_in gs) + length g
 held-push [] g = let same : length g ≡ 0 + length g = omega arith in ap length (append-nil g) ∙ same
@@ -235,40 +220,6 @@ pub record IsUpTo (Makes : Bool → List HeldLine → List ℕ → Type 0) (sour
   pub made : List ℕ
   pub copied : copied_to c (past_group now).start ≡ take v.start source ++ made
   pub goes_on : (more : List ℕ) → AreMade Makes first now.to_come more → AreMade Makes true v.to_come (made ++ more)
-
--- Whether the next group has the keys.
-pub there-next : (old : List ℕ) (gs : List (List HeldLine)) (g : List HeldLine) (is_there : Bool) → TellsThere old gs is_there → ¬ (HasKey old g)
-    → TellsThere old (gs ++ g ∷ []) is_there
-there-next old gs g true h k = λ none. h (none-front old gs (g ∷ []) none)
-there-next old gs g false h k = none-append old gs g h k
-
-pub there-now : (old : List ℕ) (gs : List (List HeldLine)) (g : List HeldLine) → HasKey old g → TellsThere old (gs ++ g ∷ []) true
-there-now old gs g h = λ none. none-last old gs g none h
-
-pub taken-next : (old new : List ℕ) (gs : List (List HeldLine)) (g : List HeldLine) (taken : Option ℕ) → TellsTaken old new gs taken
-    → (old ≢ new → taken ≡ None → ¬ (HasKey new g)) → TellsTaken old new (gs ++ g ∷ []) taken
-taken-next old new gs g None h k = λ apart. none-append new gs g (h apart) (k apart refl)
-taken-next old new gs g (Some number) h k = (
-  h.0,
-  record {
-    before = h.1.before;
-    group = h.1.group;
-    after = h.1.after ++ g ∷ [];
-    division = ap (λ w. w ++ g ∷ []) h.1.division ∙ append_assoc h.1.before (h.1.group ∷ h.1.after) (g ∷ []);
-    none_before = h.1.none_before;
-    has_key = h.1.has_key;
-    is_number = h.1.is_number;
-  },
-)
-
-pub taken-now : (old new : List ℕ) (gs : List (List HeldLine)) (g : List HeldLine) (number : ℕ) → old ≢ new → TellsTaken old new gs None → HasKey new g
-    → number ≡ length (held_in gs) + 1 → TellsTaken old new (gs ++ g ∷ []) (Some number)
-taken-now old new gs g number apart h k is =
-    (apart, record { before = gs; group = g; after = []; division = refl; none_before = h apart; has_key = k; is_number = is })
-
--- A group with one key doesn't have another.
-pub one-key : (old new : List ℕ) (g : List HeldLine) → has_key old g ≡ true → old ≢ new → ¬ (HasKey new g)
-one-key old new g h apart k = apart (grind (arith, HasKey-test new g k, bytes_eq-Decides))
 
 module _ {Makes : Bool → List HeldLine → List ℕ → Type 0} {source : List ℕ} {v : OpenView} where
   -- the next group is one of the groups of the source, and a slice of it
@@ -409,102 +360,13 @@ viewed characters v = record { encoding = v.encoding; characters = characters }
 pub viewed-force : {r : Repertoire} {source : List ℕ} {v : OpenView} → IsViewOf r.encoding source v → viewed r.characters v ≡ repertoire_in_force r source
 viewed-force {r} {source} {v} o = sym (ap (λ w. let f : InForce = w in in_encoding r f.encoding) o.in_force)
 
--- ---- one key
-
--- What is made of a group: a pair with the old key gets the new one.
-abbrev pub IsMadeOf : Repertoire → List ℕ → List ℕ → Bool → List HeldLine → List ℕ → Type 0
-IsMadeOf r old new first g made = HasKey old g × IsRekeyed r first g new made ⊎ ¬ (HasKey old g) × (made ≡ group_bytes g)
-
-are-rekeyed : (r : Repertoire) (old new : List ℕ) (first : Bool) (gs : List (List HeldLine)) (bytes : List ℕ)
-    → AreMade (IsMadeOf r old new) first gs bytes → AreRekeyed r old new first gs bytes
-are-rekeyed r old new first [] bytes h = h
-are-rekeyed r old new first (g ∷ gs) bytes (made, more, k, s, q) = (made, more, k, s, are-rekeyed r old new false gs more q)
-
--- What was copied, and found.
-pub record IsRenamedUpTo (characters : Characters) (source old new : List ℕ) (v now : OpenView) (c : Copied) (is_there : Bool) (taken : Option ℕ)
-    (first : Bool) : Type 0 where
-  pub up : IsUpTo (IsMadeOf (viewed characters v) old new) source v now c first
-  pub there : TellsThere old up.passed is_there
-  pub tells_taken : TellsTaken old new up.passed taken
-
-module _ {characters : Characters} {source old new : List ℕ} {v : OpenView} where
-  pub renamed-next : {now next : OpenView} {c c' : Copied} {is_there is_there' first : Bool} {taken taken' : Option ℕ} (group : ViewedGroup) (made : List ℕ)
-      → (h : IsRenamedUpTo characters source old new v now c is_there taken first) → TakesNext now group next → c'.source.now ≡ c.source.now
-      → c'.done ≤ next.start + length (group_bytes next.group)
-      → copied_to c' (next.start + length (group_bytes next.group)) ≡ copied_to c next.start ++ made
-      → IsMadeOf (viewed characters next) old new first next.group made
-      → TellsThere old (h.up.passed ++ next.group ∷ []) is_there' → TellsTaken old new (h.up.passed ++ next.group ∷ []) taken'
-      → IsRenamedUpTo characters source old new v next c' is_there' taken' false
-  renamed-next {now} {next} {is_there' = is_there'} {first = first} {taken' = taken'} group made h t same done copied step there taken =
-      let encoding : next.encoding ≡ v.encoding = ap (λ w. let o : OpenView = w in o.encoding) t.moves ∙ h.up.encoding in
-      let n = next-up group made h.up t same done copied
-      (subst (λ e. IsMadeOf (record { encoding = e; characters = characters }) old new first next.group made) encoding step) in
-      record {
-        up = n.0;
-        there = subst (λ gs. TellsThere old gs is_there') (sym n.1) there;
-        tells_taken = subst (λ gs. TellsTaken old new gs taken') (sym n.1) taken;
-      }
-
-  pub renamed-none : {requested : Encoding} {c : Copied} → IsViewOf requested source v → IsNew source c
-      → IsRenamedUpTo characters source old new v v c false None true
-  renamed-none o k =
-      let n = none-yet o k in
-      record { up = n.0; there = subst (NoneHasKey old) (sym n.1) tt; tells_taken = λ apart. subst (NoneHasKey new) (sym n.1) tt }
-
-pub renamed-all : {r : Repertoire} {source old new : List ℕ} {v now : OpenView} {c : Copied} {is_there first : Bool} {taken : Option ℕ} (bytes : Vec ℕ)
-    → IsViewOf r.encoding source v → IsRenamedUpTo r.characters source old new v now c is_there taken first → now.to_come ≡ []
-    → bytes.items ≡ copied_to c (length c.source.now)
-    → AreRenamed r source old new (record { bytes = bytes; is_there = is_there; taken = taken })
-renamed-all {r} {source} {old} {new} {v} bytes o h none is =
-    let k = all-up bytes.items o h.up none is in
-    record {
-      groups = h.up.passed;
-      held = k.held;
-      there = h.there;
-      taken = h.tells_taken;
-      body = k.body;
-      rekeyed =
-          subst (λ t. AreRekeyed t old new true h.up.passed k.body) (viewed-force {r = r} o) (are-rekeyed (viewed r.characters v) old new true h.up.passed k.body k.made);
-      whole = k.whole;
-    }
-
 -- ---- which key a logical line has
 
 abbrev pub first-of : List ℕ × List ℕ → Option (List ℕ × List ℕ) → List ℕ
 first-of p None = p.0
 first-of p (Some q) = q.0
 
-pub named-pair : (o : Outcome) (key value old new : List ℕ) (n : Named) → outcome_pair o ≡ Some (key, value) → Names (given (entry.pair key [])) old new n
-    → Names o old new n
-named-pair (given (entry.pair k v)) key value old new Old h names =
-    let same : k ≡ key = ap (λ o. first-of (key, value) o) h in ap (λ w. bytes_eq w old) same ∙ names
-named-pair (given (entry.pair k v)) key value old new New h names =
-    let same : k ≡ key = ap (λ o. first-of (key, value) o) h in (ap (λ w. bytes_eq w old) same ∙ names.0, ap (λ w. bytes_eq w new) same ∙ names.1)
-named-pair (given (entry.pair k v)) key value old new Other h names =
-    let same : k ≡ key = ap (λ o. first-of (key, value) o) h in (ap (λ w. bytes_eq w old) same ∙ names.0, ap (λ w. bytes_eq w new) same ∙ names.1)
-named-pair (given (entry.comment text)) key value old new n h names = absurd (cc)
-named-pair ignored key value old new n h names = absurd (cc)
-named-pair (broken kind) key value old new n h names = absurd (cc)
-
-pub named-none : (o : Outcome) (old new : List ℕ) → outcome_pair o ≡ None → Names o old new Other
-named-none (given (entry.pair k v)) old new h = absurd (cc)
-named-none (given (entry.comment text)) old new h = (refl, refl)
-named-none ignored old new h = (refl, refl)
-named-none (broken kind) old new h = (refl, refl)
-
-pub taken-new : (old new : List ℕ) (gs : List (List HeldLine)) (g : List HeldLine) (number : ℕ) (taken : Option ℕ) → has_key old g ≡ false
-    → has_key new g ≡ true
-    → TellsTaken old new gs taken → number ≡ length (held_in gs) + 1 → TellsTaken old new (gs ++ g ∷ []) (Some (unwrap_or taken number))
-taken-new old new gs g number None h k told is =
-    taken-now old new gs g number (λ same. (let t = ap (λ w. has_key w g) same in cc)) told (has_key-true new g k) is
-taken-new old new gs g number (Some first) h k told is = taken-next old new gs g (Some first) told (λ apart none. absurd (cc))
-
 -- ---- the result
-
-pub none-taken : (old new : List ℕ) (gs : List (List HeldLine)) (taken : Option ℕ) → ((n : ℕ) → taken ≡ Some n → ⊥) → old ≢ new → TellsTaken old new gs taken
-    → NoneHasKey new gs
-none-taken old new gs None other apart h = h apart
-none-taken old new gs (Some n) other apart h = absurd (other n refl)
 
 pub edited-editable : (r : Repertoire) (source : List ℕ) (bytes : Vec ℕ) (comments : Comments) → MakesEditsFor comments r source [] (Ok bytes)
     → is_editable (byte_order_mark r.encoding source).encoding ≡ true
@@ -601,14 +463,6 @@ pub none-left : (old new : OpenView) (answer : Option ViewedGroup) → GivesNext
     → ((group : ViewedGroup) → answer ≡ Some group → ⊥) → old.to_come ≡ []
 none-left old new None h none = h.0
 none-left old new (Some group) h none = absurd (none group refl)
-
-pub there-none : (old : List ℕ) (gs : List (List HeldLine)) (is_there : Bool) → is_there ≡ false → TellsThere old gs is_there → NoneHasKey old gs
-there-none old gs true off h = absurd (cc)
-there-none old gs false off h = h
-
-pub there-some : (old : List ℕ) (gs : List (List HeldLine)) (is_there : Bool) → is_there ≡ true → TellsThere old gs is_there → ¬ (NoneHasKey old gs)
-there-some old gs true on h = h
-there-some old gs false on h = absurd (cc)
 
 pub same-key : (old new : List ℕ) → bytes_eq old new ≡ true → old ≡ new
 same-key old new h = (bytes_eq-Decides old new).0 h

@@ -1,6 +1,8 @@
 pub mod CommentLines
 pub mod Commented
 pub mod Commenting
+pub mod Documents
+pub mod KeyEdits
 pub mod Laws
 pub mod Private
 pub mod Renames

@@ -4,4 +4,5 @@ pub mod Renames
 pub mod Commented
 pub mod CommentTexts
 pub mod Commenting
+pub mod KeyEdits
 pub mod Keyed

@@ -1,16 +1,18 @@
 // Renames many keys of a source, and keeps every other byte.
 
-ghost use Rattle.std.specs.Prelude.{◌≡◌, ◌<◌, ◌≤◌, None, false, true, IfErr, IfOk, IfSome, length, replicate};
+ghost use Rattle.std.specs.Prelude.{◌≡◌, ◌≢◌, ◌<◌, ◌≤◌, false, List, length, IfErr, IfOk, OnOk};
 ghost use Rattle.std.specs.Str.{chars};
 ghost use Rattle.properties_editing.specs.Editing.{asked_for};
-ghost use Rattle.properties_renaming.specs.Renames.{RenamesKeys, names_in, new_name};
+ghost use Rattle.properties_renaming.specs.Renames.{NewName, RenamesKeys, name_in, names_in, new_name};
+ghost use Rattle.properties_format.specs.Computed.Items.{outcome_of};
+ghost use Rattle.properties_renaming.specs.Private.Keyed.{value_at, value_of};
 ghost use Rattle.properties_items.specs.Errors.{IsBareError};
 ghost use Rattle.properties_items.specs.declared.error.ErrorKind.TheVariants as kind;
-ghost use Rattle.properties_renaming.specs.Private.Renames.{AddsNames, AreFound, AreRolesOf, HasRoles, IsFound, IsInEditableEncoding, IsRoleWithin, RenamesAtOnce, RenamesFront, RenamesInTurn, RenamesSome, error_at, is_needed, kept_role, last_rename};
+ghost use Rattle.properties_renaming.specs.Private.Renames.{AddsNames, AreRolesOf, HasRoles, IsInEditableEncoding, Passes, RenamesInTurn, RenamesSome, TellsFirstRefused, TellsMakeable, TellsRefusal, asks, error_at, first_last, last_in};
 
 use crate::copied::{Copied, copy_of};
-use crate::keyed::{give_value, value_at, value_of};
-use crate::renaming::{NewKey, RenameError, put_key, rename_editable, repertoire_for};
+use crate::keyed::{found_in, give_value, keep_value, key_in, value_at};
+use crate::renaming::{NewKey, RenameError, put_key, repertoire_for};
 use properties_editing::{SourceOptions, View, edit_with};
 use properties_items::error::PropertiesError;
 use std::alloc::{AllocError, Global};
@@ -27,17 +29,17 @@ pub struct Rename {
     pub new: String,
 }
 
-/// Why [`rename_keys`] renamed nothing, or [`set_comments`](crate::set_comments) set nothing. Renames and comments are
-/// counted from 0.
+/// Why [`rename_keys`] renamed nothing, [`set_comments`](crate::set_comments) set nothing, or
+/// [`edit_keys`](crate::edit_keys) edited nothing. Renames, comments and edits are counted from 0.
 #[derive(Debug, Drop)]
 pub enum RenamesError {
     /// The source can't be edited, or memory ran out.
     Source(PropertiesError),
-    /// No pair has the old key of the rename with this index, in what the renames before it left, or the key of the
-    /// comment with this index.
+    /// No pair has the old key of the rename with this index, or the key of the comment with this index, in what those
+    /// before it left.
     NoKey(usize),
     /// A pair has the new key of the rename with this index already. The second number is the line of the first such pair,
-    /// in what the renames before it left.
+    /// in what those before it left.
     KeyTaken(usize, usize),
 }
 
@@ -73,7 +75,7 @@ impl Error for RenamesError {}
 ///
 /// The source is read once to check it, and once for all renames, even if some rename the same pairs again (`a` to `b`,
 /// then `b` to `c`). A rename to the empty name takes a pass of its own, and the renames before it and after it take one
-/// each. A refused rename costs up to five more passes.
+/// each. A refused rename costs up to two more passes.
 ///
 /// Fails as [`rename_key`] does, and then nothing is renamed. The error tells which rename was refused.
 ///
@@ -134,13 +136,13 @@ fn error_at(index: usize, error: RenameError) -> RenamesError
 
 // A source after the first renames of a list, and how many these are.
 #[derive(Drop)]
-struct Run {
-    bytes: Vec<u8>,
-    count: usize,
+pub(crate) struct Run {
+    pub(crate) bytes: Vec<u8>,
+    pub(crate) count: usize,
 }
 
 // Makes the first rename of a list, and those after it that the same pass can make.
-fn rename_some(
+pub(crate) fn rename_some(
     alloc: Global,
     source: &[u8],
     options: SourceOptions,
@@ -150,198 +152,161 @@ fn rename_some(
     requires some { 0 < length renames.now }
     ensures { RenamesSome options source.now renames.now result }
 {
-    if let Some(run) = rename_front(alloc, source, options, renames)? {
-        return Ok(run);
+    let run = &renames[..run_size(alloc, renames)?];
+    let Roles { names, is_makeable } = roles_of(alloc, run)?;
+    // `run_size` gives no run that one pass can't make, but this isn't proved.
+    if !is_makeable && run.len() > 1 {
+        return rename_some(alloc, source, options, &run[..1]);
     }
-    let count = first_refused(alloc, source, options, renames)?;
-    if let Some(run) = rename_front(alloc, source, options, &renames[..count])? {
-        return Ok(run);
-    }
-    rename_first(alloc, source, options, renames)
-}
-
-// Makes the first rename of a list.
-fn rename_first(
-    alloc: Global,
-    source: &[u8],
-    options: SourceOptions,
-    renames: &[Rename],
-) -> Result<Run, RenameError>
-    requires { 0 < length renames.now }
-    ensures { RenamesSome options source.now renames.now result }
-{
-    let first = &renames[0];
-    let bytes = rename_editable(alloc, source, options, &first.old, &first.new)?;
-    Ok(Run { bytes, count: 1 })
-}
-
-// Makes the first renames of a list in one pass. Returns `None` if one pass can make none of them, or if the source
-// refuses one.
-fn rename_front(
-    alloc: Global,
-    source: &[u8],
-    options: SourceOptions,
-    renames: &[Rename],
-) -> Result<Option<Run>, PropertiesError>
-    requires { IsInEditableEncoding options source.now }
-    ensures { RenamesFront options source.now renames.now result }
-{
-    let Roles { names, count } = roles_of(alloc, renames)?;
-    if count == 0 {
-        return Ok(None);
-    }
-    match rename_by_roles(alloc, source, options, &renames[..count], &names)? {
-        Some(bytes) => Ok(Some(Run { bytes, count })),
-        None => Ok(None),
+    let Pass { bytes, lines } = rename_by_roles(alloc, source, options, run, &names)?;
+    match first_refused(&names, &lines, run) {
+        None => Ok(Run {
+            bytes,
+            count: run.len(),
+        }),
+        Some((0, error)) => Err(error),
+        Some((index, _)) => rename_some(alloc, source, options, &run[..index]),
     }
 }
 
-// Makes renames in one pass, given the roles of their names, or returns `None` if the source refuses one.
+// What a pass makes of a source, and the line of the first pair with each name of its renames, if there is one.
+#[derive(Drop)]
+struct Pass {
+    bytes: Vec<u8>,
+    lines: BTreeMap<String, usize>,
+}
+
+// Makes renames in one pass, given the roles of their names.
 fn rename_by_roles(
     alloc: Global,
     source: &[u8],
     options: SourceOptions,
     renames: &[Rename],
     roles: &BTreeMap<String, Role>,
-) -> Result<Option<Vec<u8>>, PropertiesError>
+) -> Result<Pass, PropertiesError>
     requires { AreRolesOf (names_in renames.now) (names_in renames.now) roles.now.entries }
-    ensures { RenamesAtOnce (asked_for options) source.now (names_in renames.now) result }
+    ensures { Passes (asked_for options) source.now (names_in renames.now) result }
 {
     let mut view = View::open(alloc, source, options.encoding)?;
     let repertoire = repertoire_for(options, view.encoding());
     let mut copied = Copied::new(alloc, source)?;
-    let mut found = none_found(alloc, renames.len())?;
+    let mut lines = BTreeMap::new(alloc);
     let mut first = true;
     while let Some(group) = view.next()? {
-        match value_of(alloc, roles, view.line())? {
-            Some(Role::Old(index, last)) => {
-                let key = NewKey {
-                    repertoire,
-                    first,
-                    text: &renames[last].new,
-                };
-                put_key(alloc, &mut copied, &view, group, key)?;
-                found[index] = true;
-            }
-            Some(Role::Kept(index)) => found[index] = true,
-            Some(Role::New(_)) => return Ok(None),
-            None => {}
+        let role = role_of(alloc, roles, renames, view.line())?;
+        if role.is_some() {
+            keep_value(alloc, &mut lines, view.line(), group.line_number)?;
+        }
+        if let Some(last) = last_in(role) {
+            let key = NewKey {
+                repertoire,
+                first,
+                text: &renames[last].new,
+            };
+            put_key(alloc, &mut copied, &view, group, key)?;
         }
         first = false;
     }
-    if first_missing(roles, renames, &found).is_some() {
-        return Ok(None);
-    }
     let bytes = copied.finish()?;
-    Ok(Some(bytes))
+    Ok(Pass { bytes, lines })
 }
 
-// Returns the index of the first rename that the source refuses, or that one pass can't make with those before it.
-fn first_refused(
+// Returns the role of a logical line's key, if the line is a pair and its key has one.
+fn role_of(
     alloc: Global,
-    source: &[u8],
-    options: SourceOptions,
-    renames: &[Rename],
-) -> Result<usize, PropertiesError>
-    requires { IsInEditableEncoding options source.now }
-    ensures within { IfOk result (λ index. index ≤ length renames.now) }
-    ensures memory { IfErr result (IsBareError kind.Memory) }
-{
-    let Roles { names, count } = roles_of(alloc, renames)?;
-    if count == 0 {
-        return Ok(0);
-    }
-    let mut view = View::open(alloc, source, options.encoding)?;
-    let mut found = none_found(alloc, count)?;
-    let mut taken = count;
-    while let Some(_) = view.next()? {
-        match value_of(alloc, &names, view.line())? {
-            Some(Role::Old(index, _)) => found[index] = true,
-            Some(Role::Kept(index)) => found[index] = true,
-            Some(Role::New(index)) => taken = taken.min(index),
-            None => {}
-        }
-    }
-    let missing = first_missing(&names, &renames[..count], &found);
-    Ok(missing.unwrap_or(count).min(taken))
-}
-
-// Returns a mark for each rename: no key was found yet.
-fn none_found(alloc: Global, count: usize) -> Result<Vec<bool>, AllocError>
-    ensures { IfOk result (λ found. found.items ≡ replicate count false) }
-{
-    vec![in alloc; false; count]
-}
-
-// Returns the index of the first rename whose old key has to be there and wasn't found.
-fn first_missing(
     roles: &BTreeMap<String, Role>,
     renames: &[Rename],
-    found: &[bool],
-) -> Option<usize>
-    requires roles { AreRolesOf (names_in renames.now) (names_in renames.now) roles.now.entries }
-    requires sizes { length found.now ≡ length renames.now }
-    ensures found { result ≡ None → AreFound found.now roles.now.entries (names_in renames.now) }
-    ensures within { IfSome result (λ index. index < length renames.now) }
+    line: &str,
+) -> Result<Option<Role>, AllocError>
+    requires { AreRolesOf (names_in renames.now) (names_in renames.now) roles.now.entries }
+    ensures { IfOk result (λ role.
+        role ≡ value_of roles.now.entries (outcome_of (chars line.now))) }
+{
+    let found = found_in(alloc, line)?;
+    match key_in(&found, line) {
+        Some(key) => Ok(role_at(roles, renames, key)),
+        None => Ok(None),
+    }
+}
+
+// Returns the role of a key, if it has one. For a single rename, comparing its two names is faster than a search.
+fn role_at(roles: &BTreeMap<String, Role>, renames: &[Rename], key: &str) -> Option<Role>
+    requires { AreRolesOf (names_in renames.now) (names_in renames.now) roles.now.entries }
+    ensures { result ≡ value_at roles.now.entries (chars key.now) }
+{
+    if renames.len() == 1 && !is_named(&renames[0], key) {
+        return None;
+    }
+    value_at(roles, key)
+}
+
+// Returns whether a key is one of the names of a rename.
+fn is_named(rename: &Rename, key: &str) -> bool
+    ensures { result ≡ false →
+        (chars key.now ≢ (name_in rename.now).old) × (chars key.now ≢ (name_in rename.now).new) }
+{
+    key == rename.old.as_str() || key == rename.new.as_str()
+}
+
+// Returns the index of the first rename that a source with these pairs refuses, and why it does.
+fn first_refused(
+    roles: &BTreeMap<String, Role>,
+    lines: &BTreeMap<String, usize>,
+    renames: &[Rename],
+) -> Option<(usize, RenameError)>
+    requires { AreRolesOf (names_in renames.now) (names_in renames.now) roles.now.entries }
+    ensures { TellsFirstRefused (names_in renames.now) lines.now.entries result }
 {
     for (index, rename) in renames.iter().enumerate() {
-        if !is_found(found, value_at(roles, &rename.old)) {
-            return Some(index);
+        if let Some(error) = refusal(roles, lines, &rename.old, &rename.new) {
+            return Some((index, error));
         }
     }
     None
 }
 
-// Returns whether a pair was found with a key of this role, if one has to be.
-fn is_found(found: &[bool], role: Option<Role>) -> bool
-    requires { IsRoleWithin (length found.now) role }
-    ensures { result ≡ true → IsFound found.now role }
+// Returns why a source with these pairs refuses a rename, if it does.
+fn refusal(
+    roles: &BTreeMap<String, Role>,
+    lines: &BTreeMap<String, usize>,
+    old: &str,
+    new: &str,
+) -> Option<RenameError>
+    ensures { (names : List NewName) → AreRolesOf names names roles.now.entries →
+        TellsRefusal names lines.now.entries (new_name (chars old.now) (chars new.now)) result }
 {
-    match role {
-        Some(Role::Old(index, _)) => found[index],
-        Some(Role::Kept(index)) => found[index],
-        Some(Role::New(_)) => true,
-        None => true,
+    if asks(value_at(roles, old), true) && value_at(lines, old).is_none() {
+        return Some(RenameError::NoKey);
     }
+    if !asks(value_at(roles, new), false) {
+        return None;
+    }
+    let number = value_at(lines, new)?;
+    Some(RenameError::KeyTaken(number))
 }
 
-// What the renames of a list have to do with the pairs of a source that have a name. Each has the index of the first of
-// them with that name.
+// What the renames of a list have to do with the pairs of a source that have a name.
 #[derive(Clone, Copy)]
-enum Role {
-    // There has to be such a pair. The second index is that of the rename that gives it its last name.
-    Old(usize, usize),
-    // There has to be such a pair, and it keeps its key.
-    Kept(usize),
-    // There must be no such pair.
-    New(usize),
+struct Role {
+    // Whether there has to be such a pair. Otherwise there must be none.
+    is_needed: bool,
+    // The index of the rename that gives such a pair its last name, if it gets another.
+    last: Option<usize>,
 }
 
-// The roles of the names of the first renames of a list, and how many these are.
+// The roles of the names in a list, and whether one pass can make all of its renames.
 #[derive(Drop)]
 struct Roles {
     names: BTreeMap<String, Role>,
-    count: usize,
-}
-
-// Returns the roles of the names in a list, as far as one pass can make its renames.
-fn roles_of(alloc: Global, renames: &[Rename]) -> Result<Roles, AllocError>
-    ensures { IfOk result (HasRoles renames.now) }
-{
-    let count = run_size(alloc, renames)?;
-    if let Some(names) = all_roles(alloc, &renames[..count])? {
-        return Ok(Roles { names, count });
-    }
-    Ok(Roles {
-        names: BTreeMap::new(alloc),
-        count: 0,
-    })
+    is_makeable: bool,
 }
 
 // Returns how many of the first renames one pass can make, as far as their names tell: up to one that gives the empty name,
-// renames a key that no pair has any more, or gives one that pairs have by then.
-fn run_size(alloc: Global, renames: &[Rename]) -> Result<usize, AllocError>
-    ensures { IfOk result (λ size. size ≤ length renames.now) }
+// renames a key that no pair has any more, or gives one that pairs have by then. It is at least one.
+fn run_size(alloc: Global, renames: &[Rename]) -> Result<usize, PropertiesError>
+    requires { 0 < length renames.now }
+    ensures some { IfOk result (λ size. (0 < size) × (size ≤ length renames.now)) }
+    ensures memory { IfErr result (IsBareError kind.Memory) }
 {
     let mut is_there: BTreeMap<&str, bool> = BTreeMap::new(alloc);
     for (index, rename) in renames.iter().enumerate() {
@@ -350,7 +315,7 @@ fn run_size(alloc: Global, renames: &[Rename]) -> Result<usize, AllocError>
         let is_gone = is_there.get(old) == Some(&false);
         let is_taken = old != new && (new.is_empty() || is_there.get(new) == Some(&true));
         if is_gone || is_taken {
-            return Ok(index);
+            return Ok(index.max(1));
         }
         is_there.insert(old, false)?;
         is_there.insert(new, true)?;
@@ -358,104 +323,89 @@ fn run_size(alloc: Global, renames: &[Rename]) -> Result<usize, AllocError>
     Ok(renames.len())
 }
 
-// Returns the roles of the names of all of these renames, or `None` if one pass can't make them. The last rename comes
-// first, since the role of a key depends on the one of its new name.
-fn all_roles(
-    alloc: Global,
-    renames: &[Rename],
-) -> Result<Option<BTreeMap<String, Role>>, AllocError>
-    ensures { IfOk result (λ given. IfSome given (λ roles.
-        AreRolesOf (names_in renames.now) (names_in renames.now) roles.entries)) }
+// Returns the roles of the names in a list. Its last rename comes first, since the role of a key depends on the one of its
+// new name.
+fn roles_of(alloc: Global, renames: &[Rename]) -> Result<Roles, PropertiesError>
+    ensures are { IfOk result (HasRoles (names_in renames.now)) }
+    ensures memory { IfErr result (IsBareError kind.Memory) }
 {
-    let mut roles = BTreeMap::new(alloc);
+    let mut names = BTreeMap::new(alloc);
+    let mut is_makeable = true;
     let mut index = renames.len();
     while index > 0 {
         index -= 1;
         let Rename { old, new } = &renames[index];
-        if !add_names(alloc, &mut roles, index, old, new)? {
-            return Ok(None);
-        }
+        is_makeable = is_makeable && is_first_makeable(&names, old, new);
+        add_names(alloc, &mut names, index, old, new)?;
     }
-    Ok(Some(roles))
+    Ok(Roles { names, is_makeable })
 }
 
-// Gives both names of a rename their roles, given those of the renames after it, and returns whether one pass can make it
-// with these.
+// Returns whether the pass that makes the renames after a rename, which have these roles, can make it before them.
+fn is_first_makeable(roles: &BTreeMap<String, Role>, old: &str, new: &str) -> bool
+    ensures { TellsMakeable roles.now.entries (new_name (chars old.now) (chars new.now)) result }
+{
+    if old == new {
+        return !asks(value_at(roles, old), false);
+    }
+    if new.is_empty() || asks(value_at(roles, old), true) {
+        return false;
+    }
+    !asks(value_at(roles, new), false)
+}
+
+// Gives both names of a rename their roles, given those of the renames after it.
 fn add_names(
     alloc: Global,
     roles: &mut BTreeMap<String, Role>,
     index: usize,
     old: &str,
     new: &str,
-) -> Result<bool, AllocError>
-    ensures { AddsNames roles.old.entries index (new_name (chars old.now) (chars new.now))
-        result roles.new.entries }
+) -> Result<(), AllocError>
+    ensures { OnOk result (AddsNames roles.old.entries index
+        (new_name (chars old.now) (chars new.now)) roles.new.entries) }
 {
-    if old == new {
-        return keep_name(alloc, roles, index, old);
-    }
-    if new.is_empty() || is_needed(value_at(roles, old)) {
-        return Ok(false);
-    }
-    let Some(last) = last_rename(index, value_at(roles, new)) else {
-        return Ok(false);
+    let later = last_in(value_at(roles, new));
+    let free = Role {
+        is_needed: false,
+        last: later,
     };
-    give_value(alloc, roles, old, Role::Old(index, last))?;
-    give_value(alloc, roles, new, Role::New(index))?;
-    Ok(true)
-}
-
-// The same for a rename of a key to itself.
-fn keep_name(
-    alloc: Global,
-    roles: &mut BTreeMap<String, Role>,
-    index: usize,
-    key: &str,
-) -> Result<bool, AllocError>
-    ensures { AddsNames roles.old.entries index (new_name (chars key.now) (chars key.now))
-        result roles.new.entries }
-{
-    let Some(role) = kept_role(index, value_at(roles, key)) else {
-        return Ok(false);
+    let needed = Role {
+        is_needed: true,
+        last: first_last(old == new, index, later),
     };
-    give_value(alloc, roles, key, role)?;
-    Ok(true)
+    give_value(alloc, roles, new, free)?;
+    give_value(alloc, roles, old, needed)?;
+    Ok(())
 }
 
-// Returns the last rename of the pairs that a rename gives a name, which has this role in those after it, or `None` if no
-// pair may have it then.
-fn last_rename(index: usize, later: Option<Role>) -> Option<usize>
-    ensures { result ≡ last_rename index later }
+// Returns the index of the rename that gives the pairs with the old key of a rename their last name, given the one for its
+// new key among those after it.
+fn first_last(is_kept: bool, index: usize, later: Option<usize>) -> Option<usize>
+    ensures { result ≡ first_last is_kept index later }
 {
-    match later {
-        Some(Role::Old(_, last)) => Some(last),
-        Some(Role::New(_)) => None,
-        Some(Role::Kept(_)) => Some(index),
-        None => Some(index),
+    if is_kept {
+        return later;
     }
+    Some(later.unwrap_or(index))
 }
 
-// Returns the role of a key that a rename leaves as it is, and that has this role in those after it, or `None` if no pair
-// may have it then.
-fn kept_role(index: usize, later: Option<Role>) -> Option<Role>
-    ensures { result ≡ kept_role index later }
-{
-    match later {
-        Some(Role::Old(_, last)) => Some(Role::Old(index, last)),
-        Some(Role::New(_)) => None,
-        Some(Role::Kept(_)) => Some(Role::Kept(index)),
-        None => Some(Role::Kept(index)),
-    }
-}
-
-// Returns whether a pair has to have a name with this role.
-fn is_needed(role: Option<Role>) -> bool
-    ensures { result ≡ is_needed role }
+// Returns whether a pair has to have a name with this role, or whether none may.
+fn asks(role: Option<Role>, is_needed: bool) -> bool
+    ensures { result ≡ asks role is_needed }
 {
     match role {
-        Some(Role::Old(_, _)) => true,
-        Some(Role::Kept(_)) => true,
-        Some(Role::New(_)) => false,
+        Some(role) => role.is_needed == is_needed,
         None => false,
+    }
+}
+
+// Returns the index of the rename that gives the pairs with a name of this role their last name, if one does.
+fn last_in(role: Option<Role>) -> Option<usize>
+    ensures { result ≡ last_in role }
+{
+    match role {
+        Some(role) => role.last,
+        None => None,
     }
 }

@@ -1,31 +1,31 @@
 // Renames a key of a source, and keeps every other byte.
 
-ghost use Rattle.std.specs.Prelude.{◌≡◌, ◌≤◌, [], length, drop, IfOk, OnOk};
+ghost use Rattle.std.specs.Prelude.{◌≡◌, ◌≤◌, length, drop, IfErr, IfOk, OnOk};
 ghost use Rattle.std.specs.Str.{chars};
 ghost use Rattle.properties_format.specs.Encoding.{in_encoding, latin_1_in, output_encoding};
-ghost use Rattle.properties_format.specs.Items.{given, pair};
-ghost use Rattle.properties_format.specs.Computed.Items.{outcome_of};
 ghost use Rattle.properties_format.specs.Text.{is_line_ending};
 ghost use Rattle.properties_text.specs.Encoding.{encoding_of};
+ghost use Rattle.properties_items.specs.Errors.{IsBareError};
+ghost use Rattle.properties_items.specs.declared.error.ErrorKind.TheVariants as kind;
 ghost use Rattle.properties_editing.specs.Editing.{asked_for};
 ghost use Rattle.properties_editing.specs.Views.{IsGroup, viewed_line};
 ghost use Rattle.properties_renaming.specs.Renaming.{RenamesKey};
-ghost use Rattle.properties_renaming.specs.Private.Renames.{RenamesIn};
-ghost use Rattle.properties_renaming.specs.Private.Renaming.{AppendsKey, IsAmong, IsAnyPair, IsSlice, Names, PrintsKeys, RekeysIn, RenamesGroups, TellsSign, is_join, later, past_joins};
+ghost use Rattle.properties_renaming.specs.Renames.{name_in, new_name};
+ghost use Rattle.properties_renaming.specs.Private.Renaming.{AppendsKey, IsAmong, IsAnyPair, IsSlice, PrintsKeys, RekeysIn, TellsSign, is_join, later, past_joins};
 
-use crate::copied::{Copied, copy_of};
+use crate::copied::Copied;
+use crate::renames::{Rename, Run, rename_some};
 use properties_editing::{SourceOptions, View, ViewedGroup, edit_with};
-use properties_items::error::{ErrorKind, PropertiesError};
-use properties_items::found::{find_item, pair_texts};
+use properties_items::error::PropertiesError;
 use properties_text::characters::is_blank;
 use properties_text::encoding::{Encoding, LineEncoding};
 use properties_text::parse::{ParsedSpans, are_blanks, parse_spans};
 use properties_text::print::{LineBuffer, PairLayout, Repertoire, print_texts};
 use std::alloc::{AllocError, Global};
 use std::error::Error;
-use std::fmt;
+use std::{fmt, slice};
 
-/// Why [`rename_key`] renamed nothing, or [`set_comment`](crate::set_comment) set nothing.
+/// Why [`rename_key`] renamed nothing, or [`set_comment`](crate::set_comment) set nothing, in a source or a document.
 #[derive(Debug, Drop)]
 pub enum RenameError {
     /// The source can't be edited, or memory ran out.
@@ -92,124 +92,19 @@ pub fn rename_key(
 {
     // Refuses a source that an edit would refuse.
     edit_with(alloc, source, options, &[])?;
-    rename_editable(alloc, source, options, old, new)
+    let rename = rename_of(alloc, old, new)?;
+    let Run { bytes, .. } = rename_some(alloc, source, options, slice::from_ref(&rename))?;
+    Ok(bytes)
 }
 
-/// Renames a key, and refuses no malformed escape.
-pub(crate) fn rename_editable(
-    alloc: Global,
-    source: &[u8],
-    options: SourceOptions,
-    old: &str,
-    new: &str,
-) -> Result<Vec<u8>, RenameError>
-    ensures { RenamesIn options source.now (chars old.now) (chars new.now) result }
+// Returns a rename with copies of both keys.
+fn rename_of(alloc: Global, old: &str, new: &str) -> Result<Rename, PropertiesError>
+    ensures same { IfOk result (λ rename. name_in rename ≡ new_name (chars old.now) (chars new.now)) }
+    ensures memory { IfErr result (IsBareError kind.Memory) }
 {
-    let renamed = rename_groups(alloc, source, options, old, new)?;
-    if !renamed.is_there {
-        return Err(RenameError::NoKey);
-    }
-    if let Some(number) = renamed.taken {
-        return Err(RenameError::KeyTaken(number));
-    }
-    if old == new {
-        let same = copy_of(alloc, source)?;
-        return Ok(same);
-    }
-    Ok(renamed.bytes)
-}
-
-// A source with the key of some pairs replaced.
-#[derive(Drop)]
-struct Renamed {
-    bytes: Vec<u8>,
-    // Whether a pair has the old key.
-    is_there: bool,
-    // The line of the first pair that has the new key instead.
-    taken: Option<usize>,
-}
-
-// Returns the source with the keys of these pairs replaced.
-fn rename_groups(
-    alloc: Global,
-    source: &[u8],
-    options: SourceOptions,
-    old: &str,
-    new: &str,
-) -> Result<Renamed, PropertiesError>
-    ensures { RenamesGroups (asked_for options) source.now (chars old.now) (chars new.now) result }
-{
-    let mut view = View::open(alloc, source, options.encoding)?;
-    let repertoire = repertoire_for(options, view.encoding());
-    let mut copied = Copied::new(alloc, source)?;
-    let mut is_there = false;
-    let mut taken: Option<usize> = None;
-    let mut first = true;
-    while let Some(group) = view.next()? {
-        match find_named(alloc, view.line(), old, new)? {
-            Named::Old => {
-                let key = NewKey {
-                    repertoire,
-                    first,
-                    text: new,
-                };
-                put_key(alloc, &mut copied, &view, group, key)?;
-                is_there = true;
-            }
-            Named::New => taken = Some(taken.unwrap_or(group.line_number)),
-            Named::Other => {}
-        }
-        first = false;
-    }
-    let bytes = copied.finish()?;
-    Ok(Renamed {
-        bytes,
-        is_there,
-        taken,
-    })
-}
-
-// Whether a logical line is a pair with one of two keys.
-#[derive(Clone, Copy)]
-pub(crate) enum Named {
-    Old,
-    New,
-    Other,
-}
-
-// Returns which of two keys this logical line has as a pair, if it has one. If they are the same,
-// it is the old one.
-pub(crate) fn find_named(
-    alloc: Global,
-    line: &str,
-    old: &str,
-    new: &str,
-) -> Result<Named, AllocError>
-    ensures { IfOk result (Names (outcome_of (chars line.now)) (chars old.now) (chars new.now)) }
-{
-    match find_item(alloc, 1, line) {
-        Ok(Some(found)) => match pair_texts(&found, line) {
-            Some((key, _)) => Ok(name_by(key, old, new)),
-            None => Ok(Named::Other),
-        },
-        Ok(None) => Ok(Named::Other),
-        Err(error) => match error.kind() {
-            ErrorKind::Memory => Err(AllocError),
-            _ => Ok(Named::Other),
-        },
-    }
-}
-
-fn name_by(key: &str, old: &str, new: &str) -> Named
-    ensures { Names (given (pair (chars key.now) [])) (chars old.now) (chars new.now) result }
-{
-    if key == old {
-        Named::Old
-    } else if key == new {
-        Named::New
-    } else {
-        Named::Other
-    }
+    let old = String::from_str(alloc, old)?;
+    let new = String::from_str(alloc, new)?;
+    Ok(Rename { old, new })
 }
 
 // A key that is put in: how it is printed, and whether it is in the first group.

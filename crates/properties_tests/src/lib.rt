@@ -4,6 +4,8 @@
 
 #[cfg(test)]
 mod failure;
+#[cfg(test)]
+mod key_edits;
 pub mod last_number;
 #[cfg(test)]
 mod parts;

@@ -1,5 +1,5 @@
 -- What taking a packed list apart returns.
-use Rattle.std.specs.Prelude.{◌≡◌, ◌++◌, ℕ, List, length, ◌<◌, ◌^◌, Option, Some, None, Result, Ok, Err}
+use Rattle.std.specs.Prelude.{◌≡◌, ◌++◌, ℕ, List, [], length, ◌<◌, ◌^◌, Option, Some, None, Result, Ok, Err}
 use Rattle.properties_c.specs.Packed.{number_bytes, IsPackedText, Meaning, edits, lines, IsPackedList, IsBadList, LacksText, HasNoRecord, HasNoText, Record, packed, record_in, IsSized}
 use Rattle.properties_c.specs.declared.lists.Line.{Line}
 use Rattle.properties_c.specs.declared.lists.Line.TheVariants.{Comment, Pair}
@@ -8,8 +8,8 @@ use Rattle.std.specs.Borrow.{Bor}
 use Rattle.std.specs.Global.{Vec}
 use Rattle.std.specs.Str.{IsUtf8, chars}
 use Rattle.properties_format.specs.Items.{Content, comment, pair}
-use Rattle.java_properties.specs.Editing.{edit_in, edits_in}
-use Rattle.properties_editing.specs.declared.edit.Edit.{Edit}
+use Rattle.properties_renaming.specs.KeyEdits.{key_edit_in, key_edits_in}
+use Rattle.properties_renaming.specs.declared.key_edits.KeyEdit.{KeyEdit}
 use Rattle.std.specs.declared.string.String.{String}
 use Rattle.properties_items.specs.Texts.{characters}
 use Rattle.properties_c.specs.declared.records.Record as code
@@ -70,18 +70,28 @@ abbrev pub CopiesText : {Z : Type 0} → List ℕ → Result (String Z) Status �
 CopiesText bytes (Ok text) = IsPackedText bytes (characters text)
 CopiesText bytes (Err status) = RefusesFor ⊥ (¬ IsUtf8 bytes) status
 
+-- the result of copying both texts of a record
+abbrev pub CopiesTexts : {Z Y : Type 0} → Record → Result (String Z × String Y) Status → Type 0
+CopiesTexts r (Ok (key, value)) = IsPackedText r.key (characters key) × IsPackedText r.value (characters value)
+CopiesTexts r (Err status) = RefusesFor ⊥ (IsUtf8 r.key → IsUtf8 r.value → ⊥) status
+
+-- the result of copying the key of a record that may have no value
+abbrev pub CopiesKey : {Z : Type 0} → Record → Result (String Z) Status → Type 0
+CopiesKey r (Ok key) = IsPackedText r.key (characters key) × (r.value ≡ [])
+CopiesKey r (Err status) = RefusesFor (¬ (r.value ≡ [])) ((r.value ≡ []) × ¬ (IsUtf8 r.key)) status
+
 -- ---- edits
 
-abbrev pub MakesEdit : Record → Result Edit Status → Type 0
-MakesEdit r (Ok edit) = edits.Means r (edit_in edit)
+abbrev pub MakesEdit : Record → Result KeyEdit Status → Type 0
+MakesEdit r (Ok edit) = edits.Means r (key_edit_in edit)
 MakesEdit r (Err status) = RefusesRecord edits r status
 
-abbrev pub ReadsFirstEdit : List ℕ → Result (Edit × Bor (List ℕ)) Status → Type 0
-ReadsFirstEdit list (Ok (edit, rest)) = IsFirstThing edits list (edit_in edit) rest.now
+abbrev pub ReadsFirstEdit : List ℕ → Result (KeyEdit × Bor (List ℕ)) Status → Type 0
+ReadsFirstEdit list (Ok (edit, rest)) = IsFirstThing edits list (key_edit_in edit) rest.now
 ReadsFirstEdit list (Err status) = RefusesFirst edits list status
 
-abbrev pub ReadsEdits : List ℕ → Result (Vec Edit) Status → Type 0
-ReadsEdits list (Ok found) = IsPackedList edits list (edits_in found.items)
+abbrev pub ReadsEdits : List ℕ → Result (Vec KeyEdit) Status → Type 0
+ReadsEdits list (Ok found) = IsPackedList edits list (key_edits_in found.items)
 ReadsEdits list (Err status) = RefusesList edits list status
 
 -- ---- lines to write

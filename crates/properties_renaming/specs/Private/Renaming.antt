@@ -1,29 +1,21 @@
 -- How a key is renamed, group after group of a view.
-use Rattle.std.specs.Prelude.{◌≡◌, ◌≢◌, ◌≤◌, ◌⊎◌, ◌++◌, ℕ, ◌+◌, ◌==◌, nat_le, ◌&&◌, ◌||◌, not, Bool, true, false, if◌then◌else◌, List, [], ◌∷◌, length, take, drop, Option, Some, None, Result, Ok, Err}
+use Rattle.std.specs.Prelude.{◌≡◌, ◌≤◌, ◌++◌, ℕ, ◌+◌, ◌==◌, nat_le, ◌&&◌, ◌||◌, not, Bool, true, false, if◌then◌else◌, List, [], ◌∷◌, length, take, drop, Result}
 use Rattle.std.specs.Str.{chars}
 use Rattle.properties_format.specs.Text.{backslash, begins, equals_sign, is_blank, is_blanks, is_line_ending}
-use Rattle.properties_format.specs.Encoding.{Characters, Encoding, Repertoire, byte_order_mark, repertoire_in_force}
+use Rattle.properties_format.specs.Encoding.{Characters, Encoding, Repertoire}
 use Rattle.properties_format.specs.Split.{IsPair}
 use Rattle.properties_format.specs.Printing.{encoded_text, in_prefix, printed_characters, printed_key}
-use Rattle.properties_format.specs.Items.{Outcome}
 use Rattle.properties_format.specs.Body.{AreGroupsOf, HasKey, HeldLine, NoneHasKey, group_bytes, held_in}
-use Rattle.properties_format.specs.Edited.{bom_of, is_editable}
-use Rattle.properties_format.specs.Computed.Body.{is_pair_with}
+use Rattle.properties_format.specs.Edited.{is_editable}
 use Rattle.properties_format.specs.Computed.Valued.{between_in}
 use Rattle.properties_text.specs.Printing.{AppendsOnOk, key_bytes, text_bytes}
 use Rattle.properties_text.specs.declared.print.Place.TheVariants.{Prefix}
 use Rattle.properties_text.specs.declared.print.Repertoire as code
-use Rattle.properties_items.specs.declared.error.ErrorKind.TheVariants as kind
-use Rattle.properties_items.specs.declared.error.PropertiesError.{PropertiesError}
-use Rattle.properties_items.specs.Errors.{IsBareError}
 use Rattle.properties_editing.specs.Views.{OpenView}
-use Rattle.properties_renaming.specs.Renaming.{AreIn, AreRekeyed, IsRekeyed, key_text}
+use Rattle.properties_renaming.specs.Renaming.{IsRekeyed, key_text}
 use Rattle.properties_renaming.specs.Private.Copied.{copied_to}
 use Rattle.properties_renaming.specs.declared.copied.Copied.{Copied}
-use Rattle.properties_renaming.specs.declared.renaming.Named.{Named}
-use Rattle.properties_renaming.specs.declared.renaming.Named.TheVariants.{Old, New, Other}
 use Rattle.properties_renaming.specs.declared.renaming.NewKey.{NewKey}
-use Rattle.properties_renaming.specs.declared.renaming.Renamed.{Renamed}
 
 -- ---- what joins lines before a key
 
@@ -42,12 +34,6 @@ abbrev pub later : ℕ → ℕ → ℕ
 later a b = if nat_le a b then b else a
 
 -- ---- a logical line
-
--- which of two keys the outcome of a logical line has
-abbrev pub Names : Outcome → List ℕ → List ℕ → Named → Type 0
-Names o old new Old = is_pair_with old o ≡ true
-Names o old new New = (is_pair_with old o ≡ false) × (is_pair_with new o ≡ true)
-Names o old new Other = (is_pair_with old o ≡ false) × (is_pair_with new o ≡ false)
 
 -- The line is a pair.
 abbrev pub IsAnyPair : List ℕ → Type 0
@@ -115,28 +101,3 @@ pub record IsFirstWith (key : List ℕ) (groups : List (List HeldLine)) (number 
   pub none_before : NoneHasKey key before
   pub has_key : HasKey key group
   pub is_number : number ≡ length (held_in before) + 1
-
--- Which of them have the keys.
-abbrev pub TellsThere : List ℕ → List (List HeldLine) → Bool → Type 0
-TellsThere old groups true = ¬ (NoneHasKey old groups)
-TellsThere old groups false = NoneHasKey old groups
-
-abbrev pub TellsTaken : List ℕ → List ℕ → List (List HeldLine) → Option ℕ → Type 0
-TellsTaken old new groups None = old ≢ new → NoneHasKey new groups
-TellsTaken old new groups (Some number) = (old ≢ new) × IsFirstWith new groups number
-
--- The pairs with the old key were renamed.
-pub record AreRenamed (r : Repertoire) (source old new : List ℕ) (renamed : Renamed) : Type 0 where
-  pub groups : List (List HeldLine)
-  pub held : AreIn r.encoding source groups
-  pub there : TellsThere old groups renamed.is_there
-  pub taken : TellsTaken old new groups renamed.taken
-  pub body : List ℕ
-  pub rekeyed : AreRekeyed (repertoire_in_force r source) old new true groups body
-  pub whole : renamed.bytes.items ≡ bom_of source ++ body
-
--- Or the encoding can't be edited, or memory ran out.
-abbrev pub RenamesGroups : Repertoire → List ℕ → List ℕ → List ℕ → Result Renamed PropertiesError → Type 0
-RenamesGroups r source old new (Ok renamed) = AreRenamed r source old new renamed
-RenamesGroups r source old new (Err error) =
-    (is_editable (byte_order_mark r.encoding source).encoding ≡ false) × IsBareError kind.Unsupported error ⊎ IsBareError kind.Memory error

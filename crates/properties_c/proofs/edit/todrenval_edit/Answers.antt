@@ -1,5 +1,5 @@
-use Rattle.std.proofs.Common.{refl, rules, subst, inl, inr}
-use Rattle.java_properties.specs.Editing.{edits_in, EditsWith}
+use Rattle.std.proofs.Common.{◌≡◌, refl, rules, subst, inl, inr, to_z, of_z, w32}
+use Rattle.properties_renaming.specs.KeyEdits.{key_edits_in, MakesKeyEdits}
 use Rattle.properties_text.specs.Encoding.{encoding_of}
 use Rattle.properties_c.specs.Packed.{edits}
 use Rattle.properties_c.proofs.Refusals.{list-crossed}
@@ -26,7 +26,7 @@ returns-in-Some-refused_line c =
         c.in-Some-flags_numbered.flags,
         search rules,
         inl (
-          edits_in c.in-Ok.edits.items,
+          key_edits_in c.in-Ok.edits.items,
           search rules,
           inr (
             c.in-Some-refused_line.number,
@@ -39,6 +39,7 @@ returns-in-Some-refused_line c =
 
 pub returns : goal.returns
 returns c =
+    let plain : to_z w32 (of_z w32 c.write_edited.result) ≡ c.write_edited.result = search rules in
     inl (
       encoding_of c.in-Some.encoding,
       search rules,
@@ -46,14 +47,18 @@ returns c =
         c.in-Some-flags_numbered.flags,
         search rules,
         inl (
-          edits_in c.in-Ok.edits.items,
+          key_edits_in c.in-Ok.edits.items,
           search rules,
           inl (
             c.in_default-refused_line.ensures,
             (
-              c.edit_with-edited.result,
-              subst (λ o. EditsWith o c.args.source.now (edits_in c.in-Ok.edits.items) c.edit_with-edited.result) c.options_for.ensures (search rules),
-              search rules,
+              c.edit_keys-edited.result,
+              (
+                c.in-Some.encoding,
+                refl,
+                subst (λ o. MakesKeyEdits o c.args.source.now (key_edits_in c.in-Ok.edits.items) c.edit_keys-edited.result) c.options_for.ensures (search rules),
+              ),
+              rw plain c.write_edited.ensures,
             ),
           ),
         ),

@@ -1,4 +1,4 @@
-use Rattle.std.proofs.Common.{◌≡◌, ◌∙◌, ap, refl, rules, sym}
+use Rattle.std.proofs.Common.{◌∙◌, ap, refl, rules, sym}
 use Rattle.properties_lines.specs.LineJoiner.{LineState}
 use Rattle.java_properties.proofs.Items.{ended}
 use Rattle.properties_c.proofs.GivenItems.{packed-start, packed-next, packed-failed, packed-all}

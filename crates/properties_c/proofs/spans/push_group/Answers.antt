@@ -1,14 +1,12 @@
-use Rattle.std.proofs.Common.{◌≡◌, ◌∙◌, ap, ap₂, sym, inl, inr, false}
-use Rattle.std.specs.Prelude.{encode_utf8_all}
-use Rattle.std.specs.Str.{chars}
+use Rattle.std.proofs.Common.{◌∙◌, ap, ap₂, sym, inl, inr}
 use Rattle.properties_format.specs.Items.{given}
 use Rattle.properties_text.specs.Escaping.{holds_backslash}
 use Rattle.properties_text.proofs.Texts.Resolving.{holds_backslash-text}
 use Rattle.properties_items.specs.BorrowedItems.{borrowed_content}
 use Rattle.properties_editing.specs.Views.{viewed_line}
-use Rattle.properties_c.specs.Items.{key_in, standing, outcome_value}
+use Rattle.properties_c.specs.Items.{standing}
 use Rattle.properties_c.specs.Packed.{record_in, spanned}
-use Rattle.properties_c.specs.Private.Results.{content_record, is_read}
+use Rattle.properties_c.specs.Private.Results.{content_record}
 use Rattle.properties_c.proofs.GivenLines.{no-item, shown-read, shown-standing}
 use Rattle.properties_c.proofs.PackedGroups.{group-packed, is-not-read, raw-value, read-texts, standing-record}
 use Rattle.properties_c.proofs.spans.push_group.Goals as goal

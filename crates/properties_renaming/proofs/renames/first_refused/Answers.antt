@@ -1,33 +1,25 @@
-use Rattle.std.proofs.Common.{◌∙◌, ap, arith, sym, take}
-use Rattle.std.specs.Prelude.{Some}
-use Rattle.properties_format.specs.Computed.Items.{outcome_of}
-use Rattle.properties_renaming.specs.Renames.{names_in}
-use Rattle.properties_renaming.specs.Private.Keyed.{value_of}
-use Rattle.properties_renaming.proofs.RenamesAtOnce.{group-role}
-use Rattle.properties_renaming.proofs.RenamesInTurn.{names-size}
+use Rattle.std.proofs.Common.{◌≡◌, ◌<◌, ap₂, arith, length, subst, sym, take}
+use Rattle.std.specs.Str.{chars}
+use Rattle.properties_renaming.specs.Renames.{name_in, names_in, new_name}
+use Rattle.properties_renaming.specs.Private.Renames.{AreAccepted, IsAccepted, TellsRefusal}
+use Rattle.properties_renaming.proofs.KeyedValues.{not-some}
+use Rattle.properties_renaming.proofs.RenamesAtOnce.{accepted-push}
+use Rattle.properties_renaming.proofs.RenamesInTurn.{names-more}
 use Rattle.properties_renaming.proofs.renames.first_refused.Goals as goal
 
--- the key in the table says which rename is meant
-pub index_mut-requires : goal.index_mut-requires
-index_mut-requires c =
-    let roles = c.in_ok-names.field-0 in
-    let front = names_in (take roles.count c.args.renames.now) in
-    let h = c.in_ok-names.ensures in
-    let told = ap (λ w. value_of roles.names.entries (outcome_of w)) (sym c.line.ensures) ∙ sym c.in_ok-index.ensures in
-    let role = told ∙ c.in-Some-Old.is ∙ ap Some c.in-Some-Old.field-0-is in
-    let within = (group-role front roles.names.entries c.next.new.self.group h.are role).tells.1.0 in
-    let size = names-size c.args.renames.now roles.count h.within in
-    let sizes = c.loop-found.invariant.sizes in
-    omega arith
-
-pub index_mut-requires-in-Some-Kept : goal.index_mut-requires-in-Some-Kept
-index_mut-requires-in-Some-Kept c =
-    let roles = c.in_ok-names.field-0 in
-    let front = names_in (take roles.count c.args.renames.now) in
-    let h = c.in_ok-names.ensures in
-    let told = ap (λ w. value_of roles.names.entries (outcome_of w)) (sym c.line.ensures) ∙ sym c.in_ok-index.ensures in
-    let role = told ∙ c.in-Some-Kept.is ∙ ap Some c.in-Some-Kept.field-0-is in
-    let within = (group-role front roles.names.entries c.next.new.self.group h.are role).tells.1.0 in
-    let size = names-size c.args.renames.now roles.count h.within in
-    let sizes = c.loop-found.invariant.sizes in
-    omega arith
+pub loop-index-preserved : goal.loop-index-preserved
+loop-index-preserved c =
+    let i = c.loop-index.index in
+    let renames = c.args.renames.now in
+    let rename = c.index-renames-index.result in
+    let names = names_in renames in
+    let lines = c.args.lines.now.entries in
+    let within : i < length renames = omega arith in
+    let name : new_name (chars c.deref.result.now) (chars c.deref-in-loop-index.result.now) ≡ name_in rename =
+    ap₂ (λ old new. new_name (chars old) (chars new)) c.deref.ensures c.deref-in-loop-index.ensures in
+    let told : TellsRefusal names lines (name_in rename) c.refusal.result =
+    subst (λ n. TellsRefusal names lines n c.refusal.result) name (c.refusal.ensures names c.requires) in
+    let accepted : IsAccepted names lines (name_in rename) =
+    subst (TellsRefusal names lines (name_in rename)) (not-some c.refusal.result c.in_default.not-Some) told in
+    subst (AreAccepted names lines) (sym (names-more renames i rename within c.index-renames-index.is))
+    (accepted-push names lines (names_in (take i renames)) (name_in rename) c.loop-index.invariant accepted)

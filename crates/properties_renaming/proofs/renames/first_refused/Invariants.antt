@@ -1,8 +1,7 @@
-use Rattle.std.proofs.Common.{◌≡◌, ◌≤◌, length}
+use Rattle.std.proofs.Common.{take}
+use Rattle.properties_renaming.specs.Renames.{names_in}
+use Rattle.properties_renaming.specs.Private.Renames.{AreAccepted}
 use Rattle.properties_renaming.proofs.renames.first_refused.Given as goal
 
-abbrev pub invariant-loop-found : goal.invariant-loop-found
-invariant-loop-found l = record { sizes : length l.found.items ≡ l.count; within : l.taken ≤ l.count }
-
-abbrev pub decreases-loop-found : goal.decreases-loop-found
-decreases-loop-found l = length l.view.to_come
+abbrev pub invariant-loop-index : goal.invariant-loop-index
+invariant-loop-index l = AreAccepted (names_in l.renames) l.lines.entries (names_in (take l.index l.renames))

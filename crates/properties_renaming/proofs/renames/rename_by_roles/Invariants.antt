@@ -4,9 +4,9 @@ use Rattle.properties_renaming.specs.Renames.{names_in}
 use Rattle.properties_renaming.proofs.RenamesAtOnce.{AreRenamedUpTo}
 use Rattle.properties_renaming.proofs.renames.rename_by_roles.Given as goal
 
-abbrev pub invariant-loop-found : goal.invariant-loop-found
-invariant-loop-found l =
-    AreRenamedUpTo (asked_for l.fn.options).characters l.fn.source (names_in l.fn.renames) l.initial.view l.view l.copied l.found.items l.first
+abbrev pub invariant-loop-lines : goal.invariant-loop-lines
+invariant-loop-lines l =
+    AreRenamedUpTo (asked_for l.fn.options).characters l.fn.source (names_in l.fn.renames) l.initial.view l.view l.copied l.lines.entries l.first
 
-abbrev pub decreases-loop-found : goal.decreases-loop-found
-decreases-loop-found l = length l.view.to_come
+abbrev pub decreases-loop-lines : goal.decreases-loop-lines
+decreases-loop-lines l = length l.view.to_come

@@ -2,7 +2,7 @@ use Rattle.std.proofs.Common.{◌-◌, ◌<◌, arith, drop, length, subst, sym,
 use Rattle.std.specs.Prelude.{Err}
 use Rattle.std.proofs.lemmas.List.{length-drop, take_all}
 use Rattle.properties_renaming.specs.Renames.{AreRenamedInTurn, names_in}
-use Rattle.properties_renaming.specs.Private.Renames.{IsInEditableEncoding, MakesRun, RenamesSome}
+use Rattle.properties_renaming.specs.Private.Renames.{IsInEditableEncoding, MakesFirst, RenamesSome}
 use Rattle.properties_renaming.proofs.RenamesInTurn.{read-run, refused, run-more}
 use Rattle.properties_renaming.proofs.renames.rename_in_turn.Goals as goal
 
@@ -20,7 +20,7 @@ loop-index-preserved c =
     let h = c.loop-index.invariant in
     let size = length-drop i renames in
     let rest = take_all (length renames - i) (drop i renames) (omega arith) in
-    let some : MakesRun c.args.options c.deref.result.now (take (length renames - i) (drop i renames)) run = c.in-Ok.ensures in
+    let some : MakesFirst c.args.options c.deref.result.now (take (length renames - i) (drop i renames)) run = c.in-Ok.ensures in
     let more = rw (rest, c.deref.ensures.value) at some in
     let below = more.within in
     record {
@@ -36,7 +36,7 @@ loop-index-smaller c =
     let run = c.in-Ok.field-0 in
     let size = length-drop i renames in
     let rest = take_all (length renames - i) (drop i renames) (omega arith) in
-    let made : MakesRun c.args.options c.deref.result.now (take (length renames - i) (drop i renames)) run = c.in-Ok.ensures in
+    let made : MakesFirst c.args.options c.deref.result.now (take (length renames - i) (drop i renames)) run = c.in-Ok.ensures in
     let more = rw rest at made in
     let some = more.some in
     let below = more.within in
@@ -55,7 +55,7 @@ returns-in-Err c =
     let some : RenamesSome c.args.options left (drop i renames) (Err error) =
     subst (λ rs. RenamesSome c.args.options left rs (Err error)) rest
     (subst (λ s. RenamesSome c.args.options s (take (length renames - i) (drop i renames)) (Err error)) c.deref.ensures.value c.in-Err.ensures) in
-    rw c.error_at.ensures (refused c.args.options c.args.source.now left renames i error within h.made h.read some)
+    rw c.error_at.ensures (refused c.args.options c.args.source.now left renames i error within h.made some)
 
 pub returns : goal.returns
 returns c =

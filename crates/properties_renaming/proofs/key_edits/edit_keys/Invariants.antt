@@ -1,0 +1,10 @@
+use Rattle.std.proofs.Common.{◌-◌, length}
+use Rattle.properties_renaming.specs.KeyEdits.{key_edits_in}
+use Rattle.properties_renaming.specs.Private.KeyEdits.{AreMadeTo}
+use Rattle.properties_renaming.proofs.key_edits.edit_keys.Given as goal
+
+abbrev pub invariant-loop-done : goal.invariant-loop-done
+invariant-loop-done l = AreMadeTo l.options l.source (key_edits_in l.edits) l.done l.bytes.items
+
+abbrev pub decreases-loop-done : goal.decreases-loop-done
+decreases-loop-done l = length l.edits - l.done
