@@ -580,6 +580,92 @@ static void try_edits(void) {
     check("edit, Latin-1", request, TODRENVAL_OK, 0, T("a : 3\nc=\xe9\n"));
 }
 
+/* An edit of the list is refused: nothing is written, and the length is its index. */
+static void refuses_edit(char const *name, struct request request, int status, size_t index, size_t line) {
+    uint8_t out[50];
+    struct todrenval_result made;
+    size_t room;
+    for (room = 0; room <= sizeof out; room += sizeof out) {
+        size_t length = UNSET, its_line = UNSET;
+        int came;
+        memset(out, PATTERN, sizeof out);
+        blocks = 0;
+        came = make_call(&request, out, room, &length, &its_line);
+        count(came == status, "the status", name, (long)room);
+        count(length == index && its_line == line, "its index and line", name, (long)room);
+        count(is_untouched(out, sizeof out), "as it was", name, (long)room);
+        count(blocks == 0, "all memory freed", name, (long)room);
+    }
+    made = make_new(&request);
+    count(made.status == status && made.length == index && made.line == line, "the same", name, -2);
+    count(made.bytes[0] == 0, "an empty C string", name, -2);
+    free(made.bytes);
+    count(blocks == 0, "all memory freed", name, -2);
+}
+
+/* Edits of every kind in one list. */
+static void try_edit_kinds(void) {
+    struct packed list = {{0}, 0};
+    struct request request = request_of(EDIT, T("# of b\nb : 1\n\n! of c\nc=2\n"), TODRENVAL_UTF_8);
+    put_item(&list, TODRENVAL_EDIT_RENAME_KEY, 7, T("b"), T("\xc3\xa9"));
+    put_item(&list, TODRENVAL_EDIT_SET_COMMENT, 0, T("\xc3\xa9"), T("old"));
+    put_item(&list, TODRENVAL_EDIT_SET_COMMENT, 0, T("\xc3\xa9"), T("\xc3\xa8\nnew"));
+    put_item(&list, TODRENVAL_EDIT_SET_VALUE, 0, T("\xc3\xa9"), T("3"));
+    put_item(&list, TODRENVAL_EDIT_REMOVE_WITH_COMMENT, 0xffffffffffffffffULL, T("c"), T(""));
+    put_item(&list, TODRENVAL_EDIT_REMOVE_WITH_COMMENT, 0, T("none"), T(""));
+    request.list = text_of_list(&list);
+    check("edit of each kind", request, TODRENVAL_OK, 0, T("# \xc3\xa8\n# new\n\xc3\xa9 : 3\n\n"));
+    request.flags = TODRENVAL_ASCII_ONLY | TODRENVAL_READ_COMMENTS | TODRENVAL_STRICT;
+    check("edit of each kind, ASCII", request, TODRENVAL_OK, 0, T("# \\u00e8\n# new\n\\u00e9 : 3\n\n"));
+
+    /* Renames are made in turn, and the other way round the first one is refused, or the second. */
+    list.length = 0;
+    put_item(&list, TODRENVAL_EDIT_RENAME_KEY, 0, T("b"), T("a"));
+    put_item(&list, TODRENVAL_EDIT_RENAME_KEY, 0, T("a"), T("d"));
+    request.list = text_of_list(&list);
+    check("edit by renames", request, TODRENVAL_OK, 0, T("# of b\nd : 1\n\n! of c\nc=2\n"));
+    put_item(&list, TODRENVAL_EDIT_RENAME_KEY, 0, T("a"), T("c"));
+    request.list = text_of_list(&list);
+    refuses_edit("edit by a rename of none", request, TODRENVAL_NO_KEY, 2, 0);
+    list.length = 0;
+    put_item(&list, TODRENVAL_EDIT_RENAME_KEY, 0, T("b"), T("c"));
+    request.list = text_of_list(&list);
+    refuses_edit("edit by a rename to one that is there", request, TODRENVAL_KEY_TAKEN, 0, 5);
+
+    /* The index counts all edits, and the line is one of what those before gave. */
+    list.length = 0;
+    put_item(&list, TODRENVAL_EDIT_SET_VALUE, 0, T("a"), T("1"));
+    put_item(&list, TODRENVAL_EDIT_SET_COMMENT, 0, T("a"), T("one\ntwo"));
+    put_item(&list, TODRENVAL_EDIT_REMOVE_KEY, 0, T("none"), T(""));
+    put_item(&list, TODRENVAL_EDIT_RENAME_KEY, 0, T("b"), T("b"));
+    put_item(&list, TODRENVAL_EDIT_RENAME_KEY, 0, T("b"), T("a"));
+    request.list = text_of_list(&list);
+    refuses_edit("edit by a rename to a new one", request, TODRENVAL_KEY_TAKEN, 4, 8);
+    list.length = 0;
+    put_item(&list, TODRENVAL_EDIT_SET_COMMENT, 0, T("c"), T(""));
+    put_item(&list, TODRENVAL_EDIT_SET_COMMENT, 0, T("none"), T(""));
+    request.list = text_of_list(&list);
+    refuses_edit("edit by a comment of none", request, TODRENVAL_NO_KEY, 1, 0);
+    request.source = T("b\n\\u1");
+    refuses("edit by a comment of none before an escape", request, TODRENVAL_NOT_ENOUGH_DIGITS, 2);
+}
+
+/* A malformed escape that an edit puts into a comment is an error of the next one, if comments are read. */
+static void try_edited_escapes(void) {
+    struct packed list = {{0}, 0};
+    struct request request = request_of(EDIT, T("a=1\na=1\n\nb=2\n"), TODRENVAL_UTF_8);
+    struct todrenval_result made;
+    put_item(&list, TODRENVAL_EDIT_SET_COMMENT, 0, T("b"), T("c\nC:\\users"));
+    put_item(&list, TODRENVAL_EDIT_REMOVE_KEY, 0, T("none"), T(""));
+    request.list = text_of_list(&list);
+    check("edit by a comment", request, TODRENVAL_OK, 0, T("a=1\na=1\n\n# c\n# C:\\users\nb=2\n"));
+    request.flags = TODRENVAL_READ_COMMENTS;
+    refuses("edit after a malformed escape", request, TODRENVAL_NOT_HEX, 5);
+    made = make_new(&request);
+    count(made.in_comment, "in a comment", "edit", -2);
+    free(made.bytes);
+}
+
 static void try_renaming(void) {
     struct request request = request_of(RENAME_KEY, T("# k\n  k\t= 1\\\n  k\n\\u006b: 2"), TODRENVAL_UTF_8);
     check("rename_key", request, TODRENVAL_OK, 0, T("# k\n  v\t= 1\\\n  k\nv: 2"));
@@ -1488,6 +1574,9 @@ static void try_texts(void) {
     static enum call const calls[] = {
         SET_VALUE, SET_KEY, RENAME_KEY, SET_COMMENT, GET, REMOVE_KEY, REMOVE_WITH_COMMENT, COMMENT,
     };
+    static unsigned long long const edits[] = {
+        TODRENVAL_EDIT_SET_VALUE, TODRENVAL_EDIT_RENAME_KEY, TODRENVAL_EDIT_SET_COMMENT, TODRENVAL_EDIT_SET_KEY,
+    };
     size_t place, number;
     texts[0] = T("\xff");
     texts[1] = T("a\x80");
@@ -1508,11 +1597,18 @@ static void try_texts(void) {
                 refuses(names[calls[number]], request, TODRENVAL_NOT_UTF_8, 0);
             }
         }
+        {
+            struct packed list = {{0}, 0};
+            struct request request = request_of(EDIT, T("k=\\u1\n"), TODRENVAL_UTF_16LE);
+            put_item(&list, TODRENVAL_EDIT_REMOVE_WITH_COMMENT, 0, texts[place], T(""));
+            request.list = text_of_list(&list);
+            refuses("edit by a removal", request, TODRENVAL_NOT_UTF_8, 0);
+        }
         for (number = 0; number < 4; number++) {
             struct packed list = {{0}, 0};
             struct request request = request_of(number < 2 ? EDIT : WRITE, T("k=\\u1\n"), TODRENVAL_UTF_16LE);
             put_item(&list, number < 2 ? 3 : 1, 1, T("k"), number < 2 ? T("") : T("v"));
-            put_item(&list, number < 2 ? 4 : 1, 1, number % 2 ? texts[place] : T("k"),
+            put_item(&list, number < 2 ? edits[place % 4] : 1, 1, number % 2 ? texts[place] : T("k"),
                      number % 2 ? T("v") : texts[place]);
             request.list = text_of_list(&list);
             refuses(names[request.call], request, TODRENVAL_NOT_UTF_8, 0);
@@ -1529,7 +1625,7 @@ static void refuses_list(enum call call, struct packed const *list) {
 static void try_lists(void) {
     static enum call const calls[] = {EDIT, WRITE};
     static unsigned long long const numbers[] = {
-        5, 6, 256, 0x100000000ULL, 0x8000000000000000ULL, 0xffffffffffffffffULL,
+        5, 6, 10, 256, 0x100000000ULL, 0x8000000000000000ULL, 0xffffffffffffffffULL,
     };
     unsigned long long kind;
     size_t place, end;
@@ -1553,10 +1649,10 @@ static void try_lists(void) {
             refuses_list(calls[number], &other);
         }
         /* Edits are no lines to write, nor the other way round, alone and after a record that is one. */
-        for (kind = number == 0 ? 0 : 2; kind <= (number == 0 ? 1u : 4u); kind++) {
+        for (kind = number == 0 ? 0 : 2; kind <= (number == 0 ? 1u : 9u); kind += kind == 4 ? 3 : 1) {
             struct packed other = {{0}, 0};
             struct packed after = list;
-            put_item(&other, kind, 0, kind == 0 ? T("") : T("k"), kind == 3 ? T("") : T("v"));
+            put_item(&other, kind, 0, kind == 0 ? T("") : T("k"), kind == 3 || kind == 9 ? T("") : T("v"));
             refuses_list(calls[number], &other);
             put_text(&after, text_of_list(&other));
             refuses_list(calls[number], &after);
@@ -1577,6 +1673,9 @@ static void try_lists(void) {
     {
         struct packed list = {{0}, 0};
         put_item(&list, TODRENVAL_EDIT_REMOVE_KEY, 0, T("k"), T("v"));
+        refuses_list(EDIT, &list);
+        list.length = 0;
+        put_item(&list, TODRENVAL_EDIT_REMOVE_WITH_COMMENT, 0, T("k"), T("v"));
         refuses_list(EDIT, &list);
         list.length = 0;
         put_item(&list, TODRENVAL_COMMENT, 0, T("k"), T("v"));
@@ -1730,7 +1829,7 @@ static void try_memory(void) {
 
             /* Lists that are refused after their first records. */
             if (call == EDIT || call == WRITE) {
-                put_item(&list, 9, 0, T(""), T(""));
+                put_item(&list, 10, 0, T(""), T(""));
                 request.list = text_of_list(&list);
                 refuse_each(names[call], request, TODRENVAL_BAD_LIST, 0, T(""));
                 list.length -= 32;
@@ -1751,12 +1850,22 @@ static void try_memory_converting(void) {
     refuse_each("convert of what isn't UTF-8", request, TODRENVAL_OK, 0, T("\\ufeffk=\xef\xbf\xbd"));
 }
 
-/* The same of a comment of some lines, and of a key that is taken. */
+/* The same of a comment of some lines, of a key that is taken, and of edits of every kind. */
 static void try_memory_keys(void) {
+    struct packed list = {{0}, 0};
     struct request request = request_of(COMMENT, T("# c\n# d\nk\n"), TODRENVAL_UTF_8);
     refuse_each("comment", request, TODRENVAL_OK, 0, T("c\nd\n"));
     request = request_of(RENAME_KEY, T("k\nv\n"), TODRENVAL_UTF_8);
     refuse_each("rename_key", request, TODRENVAL_KEY_TAKEN, 2, T(""));
+    put_item(&list, TODRENVAL_EDIT_RENAME_KEY, 0, T("k"), T("a"));
+    put_item(&list, TODRENVAL_EDIT_SET_COMMENT, 0, T("a"), T("c\nd"));
+    put_item(&list, TODRENVAL_EDIT_SET_KEY, 0, T("b"), T("1"));
+    put_item(&list, TODRENVAL_EDIT_REMOVE_WITH_COMMENT, 0, T("v"), T(""));
+    request = request_of(EDIT, request.source, TODRENVAL_UTF_8);
+    request.list = text_of_list(&list);
+    refuse_each("edit of each kind", request, TODRENVAL_OK, 0, T("# c\n# d\na\nb=1\n"));
+    request.source = T("k\na");
+    refuse_each("edit that is refused", request, TODRENVAL_KEY_TAKEN, 2, T(""));
 }
 
 static void try_memory_parts(void) {
@@ -1834,6 +1943,8 @@ int main(void) {
     try_find();
     try_findings();
     try_edits();
+    try_edit_kinds();
+    try_edited_escapes();
     try_renaming();
     try_key_comments();
     try_setting_comments();

@@ -17,8 +17,8 @@
  *   the number of the line that an error is in, or to 0 if there is no error or no line. Lines are numbered from 1.
  * - The call returns one of enum todrenval_status. If the room is too small, it returns TODRENVAL_NO_ROOM, *length is
  *   the room that is needed, and `out` is as it was. With any other status but TODRENVAL_OK, *length is 0 and `out` is
- *   as it was; but at a malformed escape todrenval_items gives the items before it. Past *length, `out` always is as it
- *   was.
+ *   as it was; but at a malformed escape todrenval_items gives the items before it, and if todrenval_edit refuses an
+ *   edit, *length is the index of that edit. Past its result, `out` always is as it was.
  * - If there are several errors, it reports the first of these: the encoding, the target, the flags, a key, a text, a
  *   prefix or a separator that isn't UTF-8, the packed list, from its front on, bytes that aren't text, and then the
  *   rest.
@@ -66,7 +66,7 @@ extern "C" {
 enum todrenval_status {
     TODRENVAL_OK = 0,
     TODRENVAL_NO_ROOM = 1,           /* *length bytes are needed in `out` */
-    TODRENVAL_NO_KEY = 2,            /* todrenval_get, _rename_key, _comment, _set_comment: no pair has the key */
+    TODRENVAL_NO_KEY = 2,            /* _get, _edit, _rename_key, _comment, _set_comment: no pair has the key */
     TODRENVAL_NO_MEMORY = 3,         /* malloc or realloc returned null */
     TODRENVAL_UNKNOWN_ENCODING = 4,  /* no number of enum todrenval_encoding or todrenval_target */
     TODRENVAL_NOT_UTF_8 = 5,         /* a key, a text, a prefix, a separator or a text of a list isn't UTF-8 */
@@ -81,7 +81,7 @@ enum todrenval_status {
     TODRENVAL_EMPTY_KEY = 14,        /* todrenval_write: an empty key, and blanks alone as the separator */
     TODRENVAL_UNKNOWN_FLAGS = 15,    /* flags that the call doesn't take, or not together */
     TODRENVAL_NOT_TEXT = 16,         /* with TODRENVAL_STRICT: the bytes of a line aren't text of the encoding */
-    TODRENVAL_KEY_TAKEN = 17         /* todrenval_rename_key: a pair has the new key, the first one in *line */
+    TODRENVAL_KEY_TAKEN = 17         /* todrenval_rename_key, _edit: a pair has the new key, the first one in *line */
 };
 
 /* How the bytes of a source are read, and an edit or a list is written. A byte order mark at the front of a source
@@ -150,9 +150,12 @@ enum todrenval_item_kind {
 /* What an edit does. None of these numbers is that of a kind of item, so a list of items isn't taken for a list of
  * edits. */
 enum todrenval_edit_kind {
-    TODRENVAL_EDIT_SET_KEY = 2,    /* the whole pair becomes `key=value` */
-    TODRENVAL_EDIT_REMOVE_KEY = 3, /* all pairs with the key go; no value */
-    TODRENVAL_EDIT_SET_VALUE = 4   /* the value is set, and the layout of its line kept */
+    TODRENVAL_EDIT_SET_KEY = 2,            /* the whole pair becomes `key=value` */
+    TODRENVAL_EDIT_REMOVE_KEY = 3,         /* all pairs with the key go; no value */
+    TODRENVAL_EDIT_SET_VALUE = 4,          /* the value is set, and the layout of its line kept */
+    TODRENVAL_EDIT_RENAME_KEY = 7,         /* the key is renamed where it stands; the value is the new key */
+    TODRENVAL_EDIT_SET_COMMENT = 8,        /* the comment of the key is set; the value is its text */
+    TODRENVAL_EDIT_REMOVE_WITH_COMMENT = 9 /* all pairs with the key go, with the comment lines above; no value */
 };
 
 /* What is wrong in a line. */
@@ -302,7 +305,7 @@ int todrenval_items(uint8_t const *source, size_t source_length, uint32_t encodi
 int todrenval_findings(uint8_t const *source, size_t source_length, uint32_t encoding, uint8_t *out, size_t room,
                        size_t *length, size_t *line);
 
-/* Writes the source after a packed list of edits, in order: each edit is made to what the one before it gave.
+/* Writes the source after a packed list of edits, in order: each edit is made to what those before it gave.
  * todrenval_push makes such a list, and todrenval_set_value_new, _set_key_new and _remove_key_new make one edit.
  *
  * TODRENVAL_EDIT_SET_VALUE: the last pair with the key gets the value, and keeps its indent, the spelling of its key,
@@ -315,6 +318,9 @@ int todrenval_findings(uint8_t const *source, size_t source_length, uint32_t enc
  * TODRENVAL_EDIT_REMOVE_KEY: the pairs with the key go, of which there may be none. If what is left would begin like a
  * byte order mark, a line feed comes first.
  *
+ * TODRENVAL_EDIT_RENAME_KEY, _SET_COMMENT, _REMOVE_WITH_COMMENT: these do what todrenval_rename_key, _set_comment and
+ * _remove_with_comment do.
+ *
  * Every other line stays as it is, but for a line ending that a new pair needs before it.
  *
  * With TODRENVAL_ASCII_ONLY, what is new is written in ASCII only, with an escape for each other character. With
@@ -324,12 +330,18 @@ int todrenval_findings(uint8_t const *source, size_t source_length, uint32_t enc
  *
  * A malformed escape of any pair is an error, and with TODRENVAL_READ_COMMENTS one in a comment is too.
  *
- * A list takes little more time than one edit: the edits are made together.
+ * Edits of one kind that follow each other are made together, and the first three kinds count as one: a list of them
+ * takes little more time than one edit. Whenever the kind changes, what the earlier edits produced is read again. Of
+ * several texts for a key that are set together, the last one counts.
  *
  * Returns TODRENVAL_OK, _NO_ROOM, _NO_MEMORY, _UNKNOWN_ENCODING, _UNKNOWN_FLAGS, _NOT_UTF_8 (of a key or a value of
- * the list), _BAD_LIST, _NOT_TEXT, _NOT_ENOUGH_DIGITS, _NOT_HEX, _INVALID_CHARACTER (of these the first in the source
- * that counts) or _UNSUPPORTED. A list is bad if a record is cut short, has a kind that no edit has, such as that of an
- * item, or removes a key and has a value. */
+ * the list), _BAD_LIST, _NOT_TEXT, _NOT_ENOUGH_DIGITS, _NOT_HEX, _INVALID_CHARACTER (of these the first that counts in
+ * the source, or in what earlier edits produced) or _UNSUPPORTED. A list is bad if a record is cut short, has a kind that no edit has, such as that of an
+ * item, or removes a key and has a value.
+ *
+ * If an edit is refused, it returns _NO_KEY (no pair has the key that is to be renamed, or whose comment is to be set)
+ * or _KEY_TAKEN, and *length is the index of that edit in the list, from 0. The line of an error, and that of the first
+ * pair with the new key, is a line of what the earlier edits produced. */
 int todrenval_edit(uint8_t const *source, size_t source_length, uint32_t encoding, uint32_t flags, uint8_t const *edits,
                    size_t edits_length, uint8_t *out, size_t room, size_t *length, size_t *line);
 
@@ -338,8 +350,8 @@ int todrenval_edit(uint8_t const *source, size_t source_length, uint32_t encodin
  * and the line endings. If the new key is empty, and blanks alone or nothing follow it, `=` comes in its place. If the
  * new key is the old one, nothing changes.
  *
- * Returns what todrenval_edit returns, but for _BAD_LIST. If that would be TODRENVAL_OK, it returns _NO_KEY if no pair
- * has the old key; and then _KEY_TAKEN if a pair has the new key, and *line is where the first such pair begins. */
+ * Returns what todrenval_edit returns, but for _BAD_LIST. If all else is well, it returns _NO_KEY if no pair has the
+ * old key; and then _KEY_TAKEN if a pair has the new key, and *line is where the first such pair begins. */
 int todrenval_rename_key(uint8_t const *source, size_t source_length, uint32_t encoding, uint32_t flags,
                          uint8_t const *old_key, size_t old_length, uint8_t const *new_key, size_t new_length,
                          uint8_t *out, size_t room, size_t *length, size_t *line);
@@ -348,7 +360,7 @@ int todrenval_rename_key(uint8_t const *source, size_t source_length, uint32_t e
  * blank line and no other pair is between. Every other byte stays. If no pair has the key, nothing changes. If what is
  * left would begin like a byte order mark, a line feed comes first.
  *
- * Returns what todrenval_edit returns, but for _BAD_LIST. */
+ * Returns what todrenval_edit returns, but for _BAD_LIST, _NO_KEY and _KEY_TAKEN. */
 int todrenval_remove_with_comment(uint8_t const *source, size_t source_length, uint32_t encoding, uint32_t flags,
                                   uint8_t const *key, size_t key_length, uint8_t *out, size_t room, size_t *length,
                                   size_t *line);
@@ -373,8 +385,8 @@ int todrenval_comment(uint8_t const *source, size_t source_length, uint32_t enco
  * none before an empty one. Characters are escapes as in todrenval_edit with these flags; a backslash stays. If the
  * result would begin like a byte order mark, a line feed comes first.
  *
- * Returns what todrenval_edit returns, but for _BAD_LIST. If that would be TODRENVAL_OK, it returns _NO_KEY if no pair
- * has the key. */
+ * Returns what todrenval_edit returns, but for _BAD_LIST and _KEY_TAKEN. If all else is well, it returns _NO_KEY if no
+ * pair has the key. */
 int todrenval_set_comment(uint8_t const *source, size_t source_length, uint32_t encoding, uint32_t flags,
                           uint8_t const *key, size_t key_length, uint8_t const *text, size_t text_length, uint8_t *out,
                           size_t room, size_t *length, size_t *line);
@@ -656,7 +668,7 @@ static inline bool todrenval_push(struct todrenval_list *list, uint64_t kind, vo
 struct todrenval_result {
     int status;      /* enum todrenval_status, but never TODRENVAL_NO_ROOM */
     char *bytes;     /* the result; it may be null if there is no memory */
-    size_t length;   /* how long the result is */
+    size_t length;   /* how long the result is, or the index of an edit that is refused */
     size_t line;     /* the line of the error, or 0 */
     bool in_comment; /* whether the error is a malformed escape in a comment, which Java passes over */
 };
@@ -709,7 +721,7 @@ static inline struct todrenval_result todrenval_findings_new(void const *source,
     return result;
 }
 
-/* Sets in_comment of the result of a call that reads comments: the error is the first finding. */
+/* Sets in_comment of the result of a call that reads comments: the error is the first finding, or an edit put it in. */
 static inline void todrenval_see_comment(struct todrenval_result *result, void const *source, size_t source_length,
                                          uint32_t encoding) {
     struct todrenval_result findings;
@@ -725,8 +737,10 @@ static inline void todrenval_see_comment(struct todrenval_result *result, void c
         result->bytes[0] = 0;
         result->length = 0;
         result->line = 0;
-    } else if (todrenval_next_finding(&cursor, &finding)) {
-        result->in_comment = finding.in_comment;
+    } else {
+        /* If the source has no malformed escape, an edit set a comment that has one. */
+        result->in_comment = !todrenval_next_finding(&cursor, &finding) ||
+                             finding.kind == TODRENVAL_FOUND_REPEATED_KEY || finding.in_comment;
     }
     free(findings.bytes);
 }
@@ -770,6 +784,10 @@ static inline struct todrenval_result todrenval_edit_new(void const *source, siz
     while (todrenval_make_room(&result, &room)) {
         result.status = todrenval_edit(todrenval_in(source), source_length, encoding, flags, todrenval_in(edits),
                                        edits_length, todrenval_out(&result), room, &result.length, &result.line);
+        if (result.status == TODRENVAL_NO_KEY || result.status == TODRENVAL_KEY_TAKEN) {
+            /* The length is an index, and there is no result. A record takes 32 bytes of the room, so there is room. */
+            memset(result.bytes, 0, result.length + 1);
+        }
     }
     if (flags & TODRENVAL_READ_COMMENTS) {
         todrenval_see_comment(&result, source, source_length, encoding);

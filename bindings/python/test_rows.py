@@ -1052,7 +1052,8 @@ def try_errors(count):
 def try_lists(count):
     """A list of items is no list of edits, nor the other way round."""
     item = todrenval._record(1, "a", "b")
-    edits = [todrenval._edit_record(each) for each in (SetKey("a", "b"), SetValue("a", "b"), RemoveKey("a"))]
+    kinds = SetKey("a", "b"), SetValue("a", "b"), RemoveKey("a"), RenameKey("a", "b"), SetComment("a", "b"), RemoveWithComment("a")
+    edits = [todrenval._edit_record(each) for each in kinds]
     calls = [("todrenval_write", [0, 0, b"", b""], packed) for packed in edits + [item + edits[0]]]
     calls += [("todrenval_edit", [b"a=1", 0, 0], packed) for packed in (item, edits[0] + item)]
     spanned = todrenval._result("todrenval_items", 100, b"a=1", 0, todrenval._SPANS)
@@ -1260,17 +1261,25 @@ def try_keys(count):
 
 
 def by_calls(source, edits, named):
-    """The source after these edits, by a call for each."""
+    """The source after these edits, by a call for each. Of the comments that are set together, each call sets the last one for
+    its key, and none of them reads what those before it set."""
     reading = {name: named[name] for name in named if name != "ascii_only"}
-    for each in edits:
-        if isinstance(each, RenameKey):
-            source = todrenval.rename_key(source, *each, **named)
-        elif isinstance(each, SetComment):
-            source = todrenval.set_comment(source, *each, **named)
-        elif isinstance(each, RemoveWithComment):
-            source = todrenval.remove_with_comment(source, *each, **reading)
-        else:
-            source = todrenval.edit(source, [each], **named)
+    for kind, run in itertools.groupby(edits, type):
+        run = list(run)
+        if kind is SetComment:
+            # Keys that aren't there.
+            for each in run:
+                todrenval.set_comment(source, *each, **named)
+            for key, text in dict(run).items():
+                source = todrenval.set_comment(source, key, text, **{**named, "comments": "skip"})
+            continue
+        for each in run:
+            if kind is RenameKey:
+                source = todrenval.rename_key(source, *each, **named)
+            elif kind is RemoveWithComment:
+                source = todrenval.remove_with_comment(source, *each, **reading)
+            else:
+                source = todrenval.edit(source, [each], **named)
     return source
 
 
@@ -1290,7 +1299,7 @@ def on_document(document, each):
 
 
 def try_lists_of_edits(count):
-    """Lists of edits of each kind give what the calls give one after another, and so does a document, or the same error."""
+    """Lists of edits of every kind give what the calls give one after another, and so does a document, or the same error."""
     numbers = random.Random(6)
     lines = [b"a = 1\n", b"b : 2\\\n 3\r\n", b"# c\n", b" ! C:\\users\r", b"\n", b"\\u0061 4\n", b"#\xe9\n", b"c\xff 5\n", b"#\n"]
     texts = ["", "\n", "one", " two\n\nthree", "caf\xe9", "\\u0062", "C:\\u"]
@@ -1323,6 +1332,10 @@ def try_lists_of_edits(count):
     count.check(len(outcomes) == 4 and min(outcomes.values()) > 100, f"outcomes: {outcomes}")
     error = raised(todrenval.edit, b"a=1\nb=2", [("c", "3"), RenameKey("a", "d"), RenameKey("b", "c")])
     count.check(str(error) == "line 3: A pair has the new key 'c' already.", f"a list with a key that is taken: {error!r}")
+    error = raised(todrenval.edit, b"a=1\na=2", [SetComment("a", "C:\\u"), ("b", "1")], comments="read")
+    count.check((came_error(error), error.in_comment) == (("error", "NotEnoughDigits", 2), True), f"an escape that is set: {error!r}")
+    error = raised(todrenval.edit, b"a=1", [*[("a", "2")] * 100, SetComment("b", "c"), SetComment("d", "e")])
+    count.check(type(error) is KeyError and error.args == ("b",), f"a list with a comment of none: {error!r}")
     for wrong in (RenameKey("a", 3), SetComment("a", None), RemoveWithComment(3), RenameKey(None, "a")):
         count.check(type(raised(todrenval.edit, b"a", [wrong])) is TypeError, f"edit by {wrong!r}")
 
@@ -1608,8 +1621,9 @@ def try_header(count):
     for kind in todrenval.FindingKind:
         count.check(numbers["FOUND_" + kind.name] == kind, kind.name)
     count.check(f"TODRENVAL_VERSION {todrenval.VERSION}\n" in header, "the version")
-    for each, name in ((SetKey("", ""), "SET_KEY"), (RemoveKey(""), "REMOVE_KEY"), (SetValue("", ""), "SET_VALUE")):
-        count.check(numbers["EDIT_" + name] == todrenval._edit_record(each)[0], name)
+    for each in (SetKey("", ""), RemoveKey(""), SetValue("", ""), RenameKey("", ""), SetComment("", ""), RemoveWithComment("")):
+        name = "EDIT" + re.sub("([A-Z])", r"_\1", type(each).__name__).upper()
+        count.check(numbers[name] == todrenval._edit_record(each)[0], name)
     for label, name in (("cp1252", "WINDOWS_1252"), ("utf-8", "UTF_8"), ("ascii", "ASCII"), ("iso8859-1", "LATIN_1")):
         count.check(numbers["TO_" + name] == todrenval._TARGETS[label], name)
     count.check(not set(todrenval._TARGETS.values()) & set(todrenval._ENCODINGS.values()), "numbers of targets of their own")

@@ -229,10 +229,8 @@ class SetComment(NamedTuple):
     text: str
 
 
-_EditTogether = Union[SetValue, SetKey, RemoveKey, Tuple[str, Optional[str]]]
-_EditAlone = Union[RenameKey, RemoveWithComment, SetComment]
 #: A tuple of a key and a value sets the value, and one of a key and None removes the key.
-Edit = Union[_EditTogether, _EditAlone]
+Edit = Union[SetValue, SetKey, RemoveKey, RenameKey, RemoveWithComment, SetComment, Tuple[str, Optional[str]]]
 
 
 class FindingKind(enum.IntEnum):
@@ -391,8 +389,8 @@ def _named(numbers: Type[enum.IntEnum], number: int) -> int:
         return number
 
 
-def _answer(name: str, room: int, *inputs: Union[bytes, int]) -> Tuple[int, bytes, Optional[int]]:
-    """Makes a call, again if the room is too small, and returns its status, what it wrote, and a line."""
+def _call(name: str, room: int, *inputs: Union[bytes, int]) -> Tuple[int, memoryview, int, Optional[int]]:
+    """Makes a call, again if the room is too small, and returns its status, its room, a length and a line."""
     arguments: List[Union[bytes, int]] = []
     for given in inputs:
         arguments += [given, len(given)] if isinstance(given, bytes) else [given]
@@ -402,8 +400,14 @@ def _answer(name: str, room: int, *inputs: Union[bytes, int]) -> Tuple[int, byte
         status = getattr(_LIBRARY, name)(*arguments, out, room, ctypes.byref(length), ctypes.byref(line))
         if status != Status.NO_ROOM:
             # string_at takes its length as a C int in older Pythons.
-            return _named(Status, status), bytes(memoryview(out)[: length.value]), line.value or None
+            return _named(Status, status), memoryview(out), length.value, line.value or None
         room = length.value
+
+
+def _answer(name: str, room: int, *inputs: Union[bytes, int]) -> Tuple[int, bytes, Optional[int]]:
+    """Makes a call, and returns its status, what it wrote, and a line."""
+    status, out, length, line = _call(name, room, *inputs)
+    return status, bytes(out[:length]), line
 
 
 def _reason(status: int) -> str:
@@ -430,8 +434,9 @@ def _error_in(source: bytes, number: int, flags: int, status: int, line: Optiona
         return PropertiesError(status, line, reason)
     error = _error(status, line)
     if isinstance(error, MalformedEscape) and flags & _READ_COMMENTS:
-        # It is the first one of all, then.
-        error.in_comment = _findings(source, number)[0].in_comment
+        # It is the first one of all, then. If the file has none, an edit put it into a comment.
+        found = [finding for finding in _findings(source, number) if finding.kind != FindingKind.REPEATED_KEY]
+        error.in_comment = not found or found[0].in_comment
     return error
 
 
@@ -515,14 +520,24 @@ def _flags(comments: str, ascii_only: bool = False) -> int:
     return bool(ascii_only) * _ASCII_ONLY + _comments(comments, "skip", "read")
 
 
-def _edited(data: Bytes, edits: bytes, encoding: str, errors: str, comments: str, ascii_only: bool = False) -> bytes:
-    """Returns a file after a packed list of edits."""
+def _edited(data: Bytes, edits: List[Edit], encoding: str, errors: str, comments: str, ascii_only: bool = False) -> bytes:
+    """Returns a file after a list of edits."""
+    packed = b"".join(_edit_record(each) for each in edits)
     source, number, flags = _source(data, encoding, errors)
     flags += _flags(comments, ascii_only) + _is_latin_1(encoding) * _LATIN_1
-    status, result, line = _answer("todrenval_edit", len(source) + len(edits), source, number, flags, edits)
+    status, out, length, line = _call("todrenval_edit", len(source) + len(packed), source, number, flags, packed)
+    if status in (Status.NO_KEY, Status.KEY_TAKEN):
+        raise _refused(status, line, edits[length][0], edits[length][-1])
     if status != Status.OK:
         raise _error_in(source, number, flags, status, line)
-    return result
+    return bytes(out[:length])
+
+
+def _refused(status: int, line: Optional[int], key: str, new_key: Optional[str]) -> Exception:
+    """Returns the error for a key that no pair has, or for a new key that a pair has already."""
+    if status == Status.NO_KEY:
+        return KeyError(key)
+    return PropertiesError(status, line, f"A pair has the new key {new_key!r} already.")
 
 
 def _edited_at(
@@ -533,18 +548,19 @@ def _edited_at(
     flags += _flags(comments, ascii_only) + _is_latin_1(encoding) * _LATIN_1
     texts = _utf_8(key), _utf_8(text, what)
     status, result, line = _answer(name, len(source) + len(texts[1]) + 256, source, number, flags, *texts)
-    if status == Status.NO_KEY:
-        raise KeyError(key)
-    if status == Status.KEY_TAKEN:
-        raise PropertiesError(status, line, f"A pair has {what} {text!r} already.")
+    if status in (Status.NO_KEY, Status.KEY_TAKEN):
+        raise _refused(status, line, key, text)
     if status != Status.OK:
         raise _error_in(source, number, flags, status, line)
     return result
 
 
 def _record(kind: int, key: str, value: str) -> bytes:
-    key_bytes, value_bytes = _utf_8(key), _utf_8(value, "the value of", key)
-    return struct.pack("<4Q", kind, 0, len(key_bytes), len(value_bytes)) + key_bytes + value_bytes
+    return _packed(kind, _utf_8(key), _utf_8(value, "the value of", key))
+
+
+def _packed(kind: int, key: bytes, value: bytes) -> bytes:
+    return struct.pack("<4Q", kind, 0, len(key), len(value)) + key + value
 
 
 def _records(packed: bytes) -> Iterator[Tuple[int, int, str, str, Tuple[int, ...]]]:
@@ -711,7 +727,7 @@ def set_value(
     >>> set_value(b"drink : tea\n", "food", "crêpe")
     b'drink : tea\nfood : cr\\u00eape\n'
     """
-    return _edited(data, _record(4, key, value), encoding, errors, comments, ascii_only)
+    return _edited(data, [SetValue(key, value)], encoding, errors, comments, ascii_only)
 
 
 def set_key(
@@ -729,7 +745,7 @@ def set_key(
     >>> set_key(b"port    = 80\n", "port", "8080")
     b'port=8080\n'
     """
-    return _edited(data, _record(2, key, value), encoding, errors, comments, ascii_only)
+    return _edited(data, [SetKey(key, value)], encoding, errors, comments, ascii_only)
 
 
 def remove_key(
@@ -740,7 +756,7 @@ def remove_key(
     >>> remove_key(b"# one\na = 1\nb = 2\n", "a")
     b'# one\nb = 2\n'
     """
-    return _edited(data, _record(3, key, ""), encoding, errors, comments)
+    return _edited(data, [RemoveKey(key)], encoding, errors, comments)
 
 
 def rename_key(
@@ -839,12 +855,14 @@ def edit(
     ascii_only: bool = True,
     comments: str = "skip",
 ) -> bytes:
-    r"""Returns the file after several edits, each made to what the one before it gave. A mapping has the value that each key
-    is to have, or None if the key is to be removed. So do tuples.
+    r"""Returns the file after several edits, each made to what the earlier ones produced. A mapping has the value that each key is
+    to have, or None if the key is to be removed. So do tuples.
 
-    20,000 edits of 20,000 pairs take a tenth of a second. But each RenameKey, RemoveWithComment and SetComment is a pass of its
-    own over the file, and raises what its call raises: KeyError, or a PropertiesError that names the key, with its line in what
-    the edits before it gave.
+    Edits of one kind that follow each other are made together, and all but RenameKey, RemoveWithComment and SetComment are of
+    one kind: 20,000 edits of 20,000 pairs take a tenth of a second. Whenever the kind changes, the file is read again. Of
+    several texts for a key that are set together, the last one counts.
+
+    Raises what the calls raise: KeyError, or a PropertiesError that names the key, with its line in what the earlier edits produced.
 
     >>> edit(b"a = 1\nb = 2\n", {"a": "3", "b": None})
     b'a = 3\n'
@@ -853,38 +871,23 @@ def edit(
     >>> edit(b"a = 1\n", [RenameKey("a", "b"), SetComment("b", "one"), ("b", "2")])
     b'# one\nb = 2\n'
     """
-    pairs: Iterable[Edit] = edits.items() if isinstance(edits, Mapping) else edits
-    named = {"encoding": encoding, "errors": errors, "comments": comments}
-    source = edited = _bytes(data)
-    together: List[bytes] = []
-    for each in pairs:
-        if not isinstance(each, (RenameKey, RemoveWithComment, SetComment)):
-            together.append(_edit_record(each))
-            continue
-        if together:
-            edited = _edited(edited, b"".join(together), encoding, errors, comments, ascii_only)
-            together = []
-        edited = _edited_alone(edited, each, ascii_only, named)
-    if together or edited is source:
-        edited = _edited(edited, b"".join(together), encoding, errors, comments, ascii_only)
-    return edited
+    each: Iterable[Edit] = edits.items() if isinstance(edits, Mapping) else edits
+    return _edited(data, list(each), encoding, errors, comments, ascii_only)
 
 
-def _edited_alone(data: bytes, each: _EditAlone, ascii_only: bool, named: Dict[str, str]) -> bytes:
-    if isinstance(each, RenameKey):
-        return rename_key(data, each.key, each.new_key, ascii_only=ascii_only, **named)
-    if isinstance(each, SetComment):
-        return set_comment(data, each.key, each.text, ascii_only=ascii_only, **named)
-    return remove_with_comment(data, each.key, **named)
-
-
-def _edit_record(each: _EditTogether) -> bytes:
+def _edit_record(each: Edit) -> bytes:
     if isinstance(each, SetKey):
         return _record(2, each.key, each.value)
     if isinstance(each, RemoveKey):
         return _record(3, each.key, "")
     if isinstance(each, SetValue):
         return _record(4, each.key, each.value)
+    if isinstance(each, RenameKey):
+        return _packed(7, _utf_8(each.key), _utf_8(each.new_key, "the new key"))
+    if isinstance(each, SetComment):
+        return _packed(8, _utf_8(each.key), _utf_8(each.text, "a comment"))
+    if isinstance(each, RemoveWithComment):
+        return _record(9, each.key, "")
     if type(each) is tuple and len(each) == 2:
         key, value = each
         return _record(3, key, "") if value is None else _record(4, key, value)
@@ -973,8 +976,7 @@ def dumps(
 
 def _line_record(line: Line) -> bytes:
     if isinstance(line, Comment):
-        text = _utf_8(line.text, "a comment")
-        return struct.pack("<4Q", 0, 0, 0, len(text)) + text
+        return _packed(0, b"", _utf_8(line.text, "a comment"))
     if isinstance(line, Pair) or (type(line) is tuple and len(line) == 2):
         return _record(1, line[0], line[1])
     raise TypeError(f"a line is a Comment, a Pair or a tuple of a key and a value, not {line!r}")

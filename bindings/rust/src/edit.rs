@@ -4,6 +4,7 @@ use crate::sys;
 
 /// A change of a file.
 #[derive(Clone, Copy, Debug, PartialEq, Eq, Hash)]
+#[non_exhaustive]
 pub enum Edit<'a> {
     /// The last pair with the key gets the value, and keeps its indent, the spelling of its key, its separator and its line
     /// ending. If no pair has the key, one is added at the end, with the separator of the last pair and the last line
@@ -13,9 +14,18 @@ pub enum Edit<'a> {
     SetKey(&'a str, &'a str),
     /// The pairs with the key are removed, if there are any.
     RemoveKey(&'a str),
+    /// The first key becomes the second one, as by [`rename_key`].
+    RenameKey(&'a str, &'a str),
+    /// The comment of the key gets the text, as by [`set_comment`].
+    SetComment(&'a str, &'a str),
+    /// The pairs with the key are removed with their comments, as by [`remove_with_comment`].
+    RemoveWithComment(&'a str),
 }
 
 /// Makes changes to the bytes of a file, one after another, and keeps every other byte.
+///
+/// Edits of one kind that follow each other are made together, and `SetValue`, `SetKey` and `RemoveKey` are of one kind. Whenever
+/// the kind changes, the file is read again. Of several texts for a key that are set together, the last one counts.
 ///
 /// ```
 /// use todrenval::{edit, Edit, UTF_8};
@@ -23,27 +33,41 @@ pub enum Edit<'a> {
 /// let file = b"# C:\\users\r\nport    : 80\r\nhost = a\r\n";
 /// let edits = [Edit::SetValue("port", "8080"), Edit::RemoveKey("host"), Edit::SetValue("user", "Jane Doe")];
 /// assert_eq!(edit(file, UTF_8, &edits)?, b"# C:\\users\r\nport    : 8080\r\nuser : Jane Doe\r\n");
+///
+/// let edits = [Edit::RenameKey("host", "server"), Edit::SetComment("server", "where it is"), Edit::RenameKey("port", "server")];
+/// assert_eq!(edit(file, UTF_8, &edits[..2])?, b"# C:\\users\r\nport    : 80\r\n# where it is\r\nserver = a\r\n");
+/// let taken = edit(file, UTF_8, &edits).unwrap_err();
+/// assert_eq!((taken.edit_index(), taken.line_number()), (Some(2), Some(4)));
 /// # Ok::<(), todrenval::PropertiesError>(())
 /// ```
 ///
 /// # Errors
 ///
 /// A malformed escape in a pair, or in a comment if the options read these; a file in UTF-16; and bytes that aren't text, if
-/// the options are strict.
+/// the options are strict. An edit that is refused: [`NoKey`](crate::ErrorKind::NoKey) if no pair has the key that is to be
+/// renamed, or whose comment is to be set, or [`KeyTaken`](crate::ErrorKind::KeyTaken) if a pair has the new key and it is
+/// another one. [`edit_index`](PropertiesError::edit_index) is its index. Lines are those of what the earlier edits produced.
 pub fn edit(source: &[u8], options: impl Into<Options>, edits: &[Edit<'_>]) -> Result<Vec<u8>, PropertiesError> {
     let options = options.into();
     let mut list = Vec::new();
     for edit in edits {
-        match *edit {
-            Edit::SetValue(key, value) => sys::push_record(&mut list, sys::SET_VALUE, key, value),
-            Edit::SetKey(key, value) => sys::push_record(&mut list, sys::SET_KEY, key, value),
-            Edit::RemoveKey(key) => sys::push_record(&mut list, sys::REMOVE_KEY, key, ""),
-        }
+        let (kind, key, value) = match *edit {
+            Edit::SetValue(key, value) => (sys::SET_VALUE, key, value),
+            Edit::SetKey(key, value) => (sys::SET_KEY, key, value),
+            Edit::RemoveKey(key) => (sys::REMOVE_KEY, key, ""),
+            Edit::RenameKey(old_key, new_key) => (sys::RENAME_KEY, old_key, new_key),
+            Edit::SetComment(key, text) => (sys::SET_COMMENT, key, text),
+            Edit::RemoveWithComment(key) => (sys::REMOVE_WITH_COMMENT, key, ""),
+        };
+        sys::push_record(&mut list, kind, key, value);
     }
     let flags = options.strict_flag() | options.comments_flag() | options.putting_flags();
     let mut edited = Vec::new();
-    given(sys::edit(&mut edited, source, options.encoding.number(), flags, &list))?;
-    Ok(edited)
+    let answer = sys::edit(&mut edited, source, options.encoding.number(), flags, &list);
+    match answer.status {
+        sys::OK => Ok(edited),
+        _ => Err(PropertiesError::of_edits(answer)),
+    }
 }
 
 /// Renames a key where it stands in the bytes of a file: in each pair with the key, only the bytes of the key change. If the
@@ -97,7 +121,7 @@ pub fn rename_key(
 ///
 /// # Errors
 ///
-/// Those of [`edit`].
+/// Those of [`edit`], but no refused edit.
 pub fn remove_with_comment(source: &[u8], options: impl Into<Options>, key: &str) -> Result<Vec<u8>, PropertiesError> {
     let options = options.into();
     let flags = options.strict_flag() | options.comments_flag();
@@ -169,7 +193,7 @@ pub fn comment_of(
 ///
 /// # Errors
 ///
-/// Those of [`edit`], and then [`NoKey`](crate::ErrorKind::NoKey) if no pair has the key.
+/// Those of [`edit`], but of refused edits only [`NoKey`](crate::ErrorKind::NoKey), if no pair has the key.
 pub fn set_comment(
     source: &[u8],
     options: impl Into<Options>,

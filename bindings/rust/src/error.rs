@@ -95,6 +95,8 @@ impl Display for ErrorKind {
 pub struct PropertiesError {
     kind: ErrorKind,
     line: Option<usize>,
+    // The index of the edit that was refused.
+    edit: Option<usize>,
     // The text that was refused.
     refused: Option<String>,
     fault: Option<io::Error>,
@@ -114,10 +116,17 @@ impl PropertiesError {
         self.line
     }
 
+    /// Returns the index of the edit that [`edit`](crate::edit) refused, counted from 0, or `None` for any other error.
+    #[must_use]
+    pub fn edit_index(&self) -> Option<usize> {
+        self.edit
+    }
+
     pub(crate) fn new(kind: ErrorKind) -> Self {
         PropertiesError {
             kind,
             line: None,
+            edit: None,
             refused: None,
             fault: None,
         }
@@ -127,6 +136,14 @@ impl PropertiesError {
         PropertiesError {
             line: Some(answer.line).filter(|line| *line > 0),
             ..PropertiesError::new(ErrorKind::of(answer.status))
+        }
+    }
+
+    pub(crate) fn of_edits(answer: Answer) -> Self {
+        let is_refused = matches!(answer.status, sys::NO_KEY | sys::KEY_TAKEN);
+        PropertiesError {
+            edit: Some(answer.length).filter(|_| is_refused),
+            ..PropertiesError::of(answer)
         }
     }
 

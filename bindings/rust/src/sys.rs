@@ -39,6 +39,9 @@ pub const PAIR: u64 = 1;
 pub const SET_KEY: u64 = 2;
 pub const REMOVE_KEY: u64 = 3;
 pub const SET_VALUE: u64 = 4;
+pub const RENAME_KEY: u64 = 7;
+pub const SET_COMMENT: u64 = 8;
+pub const REMOVE_WITH_COMMENT: u64 = 9;
 const END: u64 = 6;
 
 /// The version of the interface that this file is written for.
@@ -170,11 +173,12 @@ mod exports {
     }
 }
 
-/// What a call returned: its status, and the line of an error or 0.
+/// What a call returned: its status, the line of an error or 0, and a length, which for an edit that is refused is its index.
 #[derive(Clone, Copy)]
 pub struct Answer {
     pub status: i32,
     pub line: usize,
+    pub length: usize,
 }
 
 impl Answer {
@@ -230,13 +234,17 @@ fn call(out: &mut Vec<u8>, room: usize, made: impl Fn(Out<'_>) -> i32) -> Answer
             line: &mut line,
         });
         if status != NO_ROOM {
+            let written = match status {
+                NO_KEY | KEY_TAKEN => 0,
+                _ => length,
+            };
             assert!(
-                length <= given,
+                written <= given,
                 "the library says that it wrote more than there was room for"
             );
-            // SAFETY: the call wrote the first `length` bytes, and there is capacity for them.
-            unsafe { out.set_len(out.len() + length) };
-            return Answer { status, line };
+            // SAFETY: the call wrote the first `written` bytes, and there is capacity for them.
+            unsafe { out.set_len(out.len() + written) };
+            return Answer { status, line, length };
         }
         room = length;
     }

@@ -375,7 +375,41 @@ fn edits_keep_all_else() {
     assert_eq!(get(b"a=\n\nb=\\u1", UTF_8, "a").unwrap_err().line_number(), Some(3));
     let error = edit(b"\xff\xfea\0", UTF_8, &edits).unwrap_err();
     assert_eq!((error.kind(), error.line_number()), (ErrorKind::Unsupported, None));
+    assert_eq!(error.edit_index(), None);
     assert_eq!(edit(file, UTF_8, &[]).unwrap(), file);
+}
+
+/// Edits of every kind in one list, and of an edit that is refused the index, and the line in what those before gave.
+#[test]
+fn lists_have_edits_of_every_kind() {
+    let file = b"# of b\nb : 1\n\n! of c\nc=2\n";
+    let edits = [
+        Edit::RenameKey("b", "é"),
+        Edit::SetComment("é", "old"),
+        Edit::SetComment("é", "one\ntwo"),
+        Edit::SetValue("é", "3"),
+        Edit::RemoveWithComment("c"),
+        Edit::RemoveWithComment("c"),
+    ];
+    assert_eq!(edit(file, UTF_8, &edits).unwrap(), "# one\n# two\né : 3\n\n".as_bytes());
+    let ascii = Options::new(UTF_8).ascii_only(true);
+    assert_eq!(edit(file, ascii, &edits).unwrap(), b"# one\n# two\n\\u00e9 : 3\n\n");
+    for (refused, kind, line) in [
+        (Edit::RenameKey("b", "a"), ErrorKind::NoKey, None),
+        (Edit::SetComment("c", ""), ErrorKind::NoKey, None),
+        (Edit::RenameKey("a", "é"), ErrorKind::KeyTaken, Some(3)),
+    ] {
+        let mut edits = edits.to_vec();
+        edits.extend([Edit::SetKey("a", "1"), refused, Edit::RenameKey("none", "d")]);
+        let error = edit(file, UTF_8, &edits).unwrap_err();
+        assert_eq!((error.kind(), error.line_number()), (kind, line), "{refused:?}");
+        assert_eq!(error.edit_index(), Some(7), "{refused:?}");
+    }
+    let escape = [Edit::SetComment("c", "C:\\users"), Edit::RemoveKey("b")];
+    assert_eq!(edit(file, UTF_8, &escape).unwrap(), b"# of b\n\n! C:\\users\nc=2\n");
+    let error = edit(file, Options::new(UTF_8).comments(Comments::Resolve), &escape).unwrap_err();
+    assert_eq!((error.kind(), error.line_number()), (ErrorKind::NotHex, Some(4)));
+    assert_eq!(error.edit_index(), None);
 }
 
 #[test]
