@@ -177,8 +177,12 @@ def with_value(parts, key, text, *options):
 
 def made_in_turn(parts, edits, options):
     """The parts after a list of edits."""
-    ascii_only, known = [it for it in options if it == "-a"], keys_of(parts)
+    ascii_only, with_comment, run = [it for it in options if it == "-a"], "--with-comment" in options, None
     for what, key, *text in edits:
+        # Edits that are made together ask which keys were there before the first of them.
+        together = "rename" if what == "rename" else "removal" if what == "remove" and with_comment else "edit"
+        if together != run:
+            run, known = together, keys_of(parts)
         if what != "rename" and "-x" in options and key not in known:
             raise Refused(f": no pair has the key {quoted(key)}")
         if what == "rename":
@@ -186,9 +190,7 @@ def made_in_turn(parts, edits, options):
         elif what == "set":
             parts = with_value(parts, key, *text, *ascii_only)
         else:
-            parts = removed(parts, key, "--with-comment" in options)
-        if what == "rename" or what == "remove" and "--with-comment" in options:
-            known = keys_of(parts)
+            parts = removed(parts, key, with_comment)
         # What would begin like a byte order mark gets a line feed, which a later edit may make needless.
         if parts and parts[0][1] != "\ufeff" and whole(parts).startswith(MARK):
             return None
