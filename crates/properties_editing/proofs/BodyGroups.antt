@@ -5,7 +5,7 @@ use Rattle.std.proofs.lemmas.Bool.{cases_Bool}
 use Rattle.std.proofs.Math.Seq.{drop-append_seam, take-append_seam}
 use Rattle.std.proofs.lemmas.List.{length-take-le, drop-drop}
 use Rattle.properties_format.specs.Text as text
-use Rattle.properties_format.specs.Encoding.{Encoding, windows_1252, utf_8, utf_16le, utf_16be}
+use Rattle.properties_format.specs.Encoding.{Encoding, windows_1252, utf_8, utf_16le, utf_16be, output_encoding}
 use Rattle.properties_format.specs.Lines.{Line, is_comment_line, is_open, joined, addition}
 use Rattle.properties_format.specs.Text.{is_empty}
 use Rattle.std.proofs.lemmas.Bool.Decides.{nat_tests}
@@ -18,7 +18,7 @@ use Rattle.properties_format.proofs.Cut.Only.{ending-windows_1252, ending-utf_8}
 use Rattle.properties_format.proofs.Edited.Steps.{is_left_open-push, is_empty_line-push}
 use Rattle.properties_format.proofs.Groups.Joined.{joined-push, joined-one, joined-closed, joined-comment_line}
 use Rattle.properties_format.proofs.Edited.Parts.{unended-kept}
-use Rattle.properties_text.specs.Encoding.{encoding_of}
+use Rattle.properties_text.specs.Encoding.{encoding_of, line_of}
 use Rattle.properties_lines.specs.LineSearch.{unit_size}
 use Rattle.properties_lines.specs.Private.HeldLines.{held_line, held_lines_left}
 use Rattle.properties_lines.specs.LogicalLine.{IsNotContinued, OpensJoin, BeginsLine, AddsLine, HasText, IsUnfinishedLine, IsTextOf, IsSoundLogicalLine, TellsLine, unfinished_text, bytes_with}
@@ -26,9 +26,11 @@ use Rattle.properties_lines.specs.Scanner as scanner
 use Rattle.properties_lines.specs.Scanner.{raw_line_bytes, GivesScannedLine, HasRightFlags}
 use Rattle.properties_lines.specs.declared.scanner.RawLine.{RawLine}
 use Rattle.properties_lines.specs.declared.logical.LogicalLine.{LogicalLine}
+use Rattle.properties_lines.specs.declared.logical.Place.TheVariants.{Natural}
 use Rattle.properties_lines.specs.declared.scanner.Scanner.{Scanner}
 use Rattle.properties_lines.proofs.TestedBytes.{ascii-line}
-use Rattle.properties_text.specs.Escaping.{text_in}
+use Rattle.properties_lines.proofs.LineTexts.{line-in, joins-alike, ascii-text}
+use Rattle.properties_text.specs.Escaping.{text_in, IsWell}
 use Rattle.properties_lines.proofs.HeldLines.{body-next, body-after, body-lines_left}
 use Rattle.properties_editing.specs.Private.BodyGroups.{IsWithin, groups_left, IsBegun, TakesHeldLine, IsSpanOf, TakesHeldGroup, groups_from, ReadsGroup, group_span_bytes}
 use Rattle.properties_editing.specs.declared.groups.Group.{Group}
@@ -326,3 +328,37 @@ group-whole body before group new line j ended begun made =
       held_text = record { ordered = begun.ordered; within = begun.within_body; text = made.utf8 };
       text = made.characters ∙ j.text.is;
     }
+
+-- ---- a group whose line is lent as it is
+
+-- An ASCII line that isn't open is a group by itself, and its bytes are its text.
+pub group-lent : (body : List ℕ) (old found : GroupReader) (line : LogicalLine) (group : Group) → TakesHeldLine body old found
+    → found.scanner.line.is_ascii ≡ true → is_open (raw_line_bytes body found.scanner.line) ≡ false
+    → line.place ≡ Natural → line_of line.encoding ≡ output_encoding (encoding_of found.scanner.encoding)
+    → group.number ≡ found.scanner.passed → group.start ≡ found.scanner.line.start → group.end ≡ found.scanner.line.end
+    → group.is_open ≡ false → group.is_empty ≡ (found.scanner.line.start == found.scanner.line.end)
+    → TakesHeldGroup body old group (record found { line = line })
+group-lent body old found line group k ascii closed place to number starts ends alone empty =
+    let e = encoding_of found.scanner.encoding in
+    let raw = found.scanner.line in
+    let bytes = raw_line_bytes body raw in
+    let b = line-in e line.encoding bytes to (tells-line e bytes raw k.flags ascii) in
+    let open_text : is_open (decoded_line e bytes) ≡ false = ap is_open (sym b.is) ∙ (joins-alike line.encoding bytes b.well).opens ∙ closed in
+    let same : group_span_bytes body group ≡ bytes = ap₂ (λ m n. take (m - n) (drop n body)) ends starts in
+    let here : (natural : List ℕ) → bytes_with line natural ≡ natural = λ natural. rw place refl in
+    let ordered = k.ordered in
+    let placed = k.placed in
+    let within = k.within.within_body.fits.within in
+    let text : HasText line bytes (decoded_line e bytes) =
+    record { well = subst (IsWell line.encoding) (sym (here bytes)) b.well; is = ap (text_in line.encoding) (here bytes) ∙ b.is } in
+    let read = group-first Unit body old found line group false k (inr open_text, text) number starts ends alone empty in
+    let span : bytes_with line (group_span_bytes body group) ≡ bytes = here _ ∙ same in
+    group-whole body old group (record found { line = line }) line read (inl alone) (record {
+      within = record { bytes = k.within.bytes; within_body = k.within.within_body };
+      ordered = omega arith;
+      placed = omega arith;
+      within_body = omega arith;
+      well = subst (IsWell line.encoding) (sym span) b.well;
+      unfinished = λ opened. absurd (cc);
+      sound = λ decoded. absurd (cc);
+    }) (subst (λ v. IsTextOf (text_in line.encoding v) v) (sym span) (ascii-text line.encoding bytes (k.flags.ascii.0 ascii).1))

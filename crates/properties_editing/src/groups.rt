@@ -10,6 +10,7 @@ ghost use Rattle.properties_editing.specs.Private.BodyGroups.{closing_of, IsWith
 ghost use Rattle.properties_editing.specs.Private.BodyParts.{span_of_group};
 
 use crate::bytes::BodySpan;
+use properties_lines::continuation::is_open;
 use properties_lines::logical::{LogicalLine, is_line_in};
 use properties_lines::scanner::{RawLine, Scan, Scanner};
 use properties_text::encoding::Encoding;
@@ -160,6 +161,7 @@ impl GroupReader {
     }
 
     /// Returns the next group, or `None` after the last one.
+    #[inline(always)]
     pub fn next(&mut self, body: &[u8]) -> Result<Option<Group>, AllocError>
         requires { IsWithin body.now self.old }
         ensures { GivesGroup body.now self.old result self.new }
@@ -168,18 +170,23 @@ impl GroupReader {
             return Ok(None);
         }
         let line = *self.scanner.line();
-        let encoding = self.scanner.encoding();
         let bytes = &body[line.start..line.end];
-        let is_line = is_line(encoding, line, bytes);
-        let is_open = self.line.begin(encoding, is_line, bytes)?;
+        let encoding = self.scanner.encoding();
         let group = Group {
             number: self.scanner.number(),
             start: line.start,
             end: line.end,
-            is_open,
+            is_open: false,
             is_empty: line.start == line.end,
         };
-        let joined = self.join(body, group)?;
+        if line.is_ascii && !is_open(bytes) {
+            // Its bytes are its text.
+            self.line.borrow(encoding);
+            return Ok(Some(group));
+        }
+        let is_line = is_line(encoding, line, bytes);
+        let is_open = self.line.begin(encoding, is_line, bytes)?;
+        let joined = self.join(body, Group { is_open, ..group })?;
         Ok(Some(joined))
     }
 
