@@ -265,6 +265,13 @@ if command -v cargo >/dev/null; then
     ! cargo clippy --version >/dev/null 2>&1 ||
         works 'the crate, by clippy' cargo clippy -q --offline --all-targets --manifest-path "$rust/Cargo.toml" -- -D warnings
     works 'the pages of the crate' env RUSTDOCFLAGS='-D warnings' cargo doc -q --offline --manifest-path "$rust/Cargo.toml"
+    # Without the library it can be checked and documented, and what is linked says what is missing.
+    alone() { env TODRENVAL_LIB_DIR="$work/none" CARGO_TARGET_DIR="$work/alone" cargo "$@" --offline --manifest-path "$rust/Cargo.toml"; }
+    works 'cargo check without the library' alone check
+    works 'cargo doc without the library' alone doc -q
+    alone build >printed 2>&1
+    [ $? != 0 ] && grep -q "there is no libtodrenval\.a in $work/none" printed && grep -q 'could not find native static library' printed
+    result $? 'cargo build without the library'
     if command -v valgrind >/dev/null; then
         # The runner of tests itself leaves memory that is still reachable, or may be.
         for test in reading writing; do
