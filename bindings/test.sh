@@ -16,6 +16,7 @@ else
     built=$work/built
     "$top/bindings/build.sh" "$built" || exit 1
 fi
+version=$(sed -n 's/^const VERSION: &str = "\(.*\)";$/\1/p' "$top/crates/propedit_arguments/src/command_line.rt")
 passed=0
 failed=0
 warnings='-Wall -Wextra -pedantic -Werror'
@@ -86,15 +87,55 @@ for standard in c++98 c++11 c++17 c++20; do
     works "the header in $standard" c++ -x c++ -std=$standard $warnings $casts -I"$built" -c "$work/header.c" -o "$work/header.o"
 done
 
-# Whether this processor will do.
-printf '#include "todrenval.h"\nint main(void) { return todrenval_runs_here() ? 0 : 1; }\n' >"$work/runs.c"
-works 'todrenval_runs_here, compiled' cc -std=c99 $warnings -I"$built" "$work/runs.c" -o "$work/runs"
-works 'todrenval_runs_here' "$work/runs"
+# Whether this processor will do, and the release of the library and of the header.
+cat >"$work/about.c" <<'END'
+#include "todrenval.h"
+#include <stdio.h>
+int main(void) {
+    unsigned number = todrenval_release();
+    printf("%u.%u.%u %s\n", number / 10000, number / 100 % 100, number % 100, TODRENVAL_RELEASE);
+    return number == TODRENVAL_RELEASE_NUMBER && todrenval_runs_here() ? 0 : 1;
+}
+END
+works 'the release and the processor, compiled' cc -std=c99 $warnings -I"$built" "$work/about.c" "$built/libtodrenval.a" -o "$work/about"
+gives 0 "$version $version\n" '' "$work/about"
 
-# The shared object gives the functions that the header declares, and no others.
+# Both forms of the library give the functions that the header declares, and no others, and it begins with a line for each.
 grep -oE '^(int|uint32_t) todrenval_[a-z_]+' "$built/todrenval.h" | sed 's/.* //' | sort >"$work/declared"
-nm -D --defined-only "$built/libtodrenval.so" | sed 's/.* //' | sort | diff "$work/declared" - >"$work/log"
-result $? 'the names in the shared object'
+for form in 'so -D' 'a -g'; do
+    nm ${form#* } --defined-only "$built/libtodrenval.${form% *}" | sed -n 's/.* //p' | sort | diff "$work/declared" - >"$work/log"
+    result $? "the names in libtodrenval.${form% *}"
+done
+sed -n '1,/^ \*\//s/^ \*     \(todrenval_[a-z_]*\)  .*/\1/p' "$built/todrenval.h" | sort >"$work/listed"
+sed -n 's/^static inline [^(]*\(todrenval_[a-z_]*\)(.*/\1/p' "$built/todrenval.h" | sort - "$work/declared" >"$work/defined"
+{ comm -13 "$work/listed" "$work/declared" && comm -23 "$work/listed" "$work/defined" && uniq -d "$work/listed"; } >"$work/log"
+[ ! -s "$work/log" ]
+result $? 'the list at the front of the header'
+
+# Two such libraries in one program, which has a function by a name of the toolchain's runtime.
+sed 's/.*/& other_&/' "$work/declared" >"$work/names"
+cat >"$work/part.c" <<'END'
+#include "todrenval.h"
+int PART(void);
+int PART(void) {
+    struct todrenval_result it = todrenval_get_new("a=1", 3, TODRENVAL_UTF_8, 0, "a", 1);
+    free(it.bytes);
+    return it.status;
+}
+END
+cat >"$work/main.c" <<'END'
+int one(void), two(void);
+void *rattle_alloc(void) { return 0; }
+int main(void) { return one() + two(); }
+END
+for part in one two; do
+    works "part $part" cc -I"$built" -DPART=$part -c "$work/part.c" -o "$work/$part.o"
+done
+works 'another library, its calls' objcopy --redefine-syms="$work/names" "$work/two.o"
+works 'another library' objcopy --redefine-syms="$work/names" "$built/libtodrenval.a" "$work/other.a"
+works 'two libraries, linked' cc "$work/main.c" "$work/one.o" "$work/two.o" -Wl,--whole-archive "$built/libtodrenval.a" "$work/other.a" \
+    -Wl,--no-whole-archive -o "$work/two"
+works 'two libraries' "$work/two"
 
 # Every call, in C and in C++.
 wraps=-Wl,--wrap=malloc,--wrap=realloc,--wrap=free
@@ -145,7 +186,6 @@ done
 unset TODRENVAL_LIBRARY
 use='import todrenval; print(todrenval.loads(b"a=1"))'
 gives 0 "{'a': '1'}\n" '' env PYTHONPATH="$built" PYTHONDONTWRITEBYTECODE=1 python3 -c "$use"
-version=$(sed -n 's/^const VERSION: &str = "\(.*\)";$/\1/p' "$top/crates/propedit_arguments/src/command_line.rt")
 gives 0 "$version\n" '' env PYTHONPATH="$built" PYTHONDONTWRITEBYTECODE=1 \
     python3 -c 'import todrenval; print(todrenval.__version__)'
 mkdir -p alone/todrenval
@@ -225,6 +265,13 @@ if command -v cargo >/dev/null; then
     ! cargo clippy --version >/dev/null 2>&1 ||
         works 'the crate, by clippy' cargo clippy -q --offline --all-targets --manifest-path "$rust/Cargo.toml" -- -D warnings
     works 'the pages of the crate' env RUSTDOCFLAGS='-D warnings' cargo doc -q --offline --manifest-path "$rust/Cargo.toml"
+    # Without the library it can be checked and documented, and what is linked says what is missing.
+    alone() { env TODRENVAL_LIB_DIR="$work/none" CARGO_TARGET_DIR="$work/alone" cargo "$@" --offline --manifest-path "$rust/Cargo.toml"; }
+    works 'cargo check without the library' alone check
+    works 'cargo doc without the library' alone doc -q
+    alone build >printed 2>&1
+    [ $? != 0 ] && grep -q "there is no libtodrenval\.a in $work/none" printed && grep -q 'could not find native static library' printed
+    result $? 'cargo build without the library'
     if command -v valgrind >/dev/null; then
         # The runner of tests itself leaves memory that is still reachable, or may be.
         for test in reading writing; do

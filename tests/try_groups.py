@@ -247,9 +247,13 @@ def of_findings(todrenval, source, groups):
     for group in groups:
         if group.flaw:
             in_comment = isinstance(group.item, todrenval.Comment)
-            wanted.append((group.line, todrenval.FindingKind[group.flaw.status.name], None, None, in_comment))
+            column = group.flaw.column if group.flaw.line == group.line else None
+            wanted.append((group.line, todrenval.FindingKind[group.flaw.status.name], None, None, in_comment, column))
         elif isinstance(group.item, todrenval.Pair) and first.setdefault(group.item.key, group.line) != group.line:
-            wanted.append((group.line, todrenval.FindingKind.REPEATED_KEY, group.item.key, first[group.item.key], False))
+            column = group.spans.key_start - group.spans.start + 1
+            wanted.append((group.line, todrenval.FindingKind.REPEATED_KEY, group.item.key, first[group.item.key], False, column))
+    if source.is_wide:
+        wanted = [(*each[:-1], None) for each in wanted]
     found = todrenval.findings(source.data, **source.named)
     if found != wanted:
         yield f"findings {found} in place of {wanted}"

@@ -1,5 +1,35 @@
 /* Reads, checks, edits, converts and writes Java .properties files, in memory.
  *
+ *     todrenval_get                    the value of a key
+ *     todrenval_items                  all pairs with their lines; comments, places and parts of a source, by flags
+ *     todrenval_findings               malformed escapes and repeated keys
+ *     todrenval_edit                   the source after a list of edits
+ *     todrenval_set_value_new          the source with a value set, and the layout of its line kept
+ *     todrenval_set_key_new            the source with a pair set, and its line rewritten
+ *     todrenval_remove_key_new         the source without the pairs of a key
+ *     todrenval_rename_key             the source with a key renamed in place
+ *     todrenval_remove_with_comment    the source without a key and the comment lines directly above it
+ *     todrenval_comment                the comment of a key, a line for each of those lines
+ *     todrenval_set_comment            the source with the comment of a key set
+ *     todrenval_convert                the source in another encoding
+ *     todrenval_write                  the bytes of comments and pairs
+ *     todrenval_walk                   a cursor at the front of a packed list
+ *     todrenval_next_item              the next item of a list
+ *     todrenval_next_spanned           the next item and its places
+ *     todrenval_next_finding           the next finding of a list
+ *     todrenval_find                   the last pair with a key in a list of items
+ *     todrenval_end_of                 where the items of a part end
+ *     todrenval_append                 adds an edit, or a line to write, to a list
+ *     todrenval_push                   the same, in memory that grows
+ *     todrenval_encoding               the number of the encoding that a label means
+ *     todrenval_status_text            a status in words
+ *     todrenval_reason                 the same, as a C string
+ *     todrenval_version                the version of the interface
+ *     todrenval_release                the release of the library, as a number
+ *     todrenval_runs_here              whether this processor has what the library needs
+ *
+ * This prints a value, or why there is none:
+ *
  *     struct todrenval_result port = todrenval_get_new(file, length, TODRENVAL_UTF_8, 0, "port", 4);
  *     char reason[TODRENVAL_REASON_ROOM];
  *     puts(port.status == TODRENVAL_OK ? port.bytes : todrenval_reason(port.status, reason));
@@ -59,8 +89,10 @@ extern "C" {
 /* The interface that this header describes. todrenval_version returns that of the library. */
 #define TODRENVAL_VERSION 4
 
-/* The release that this header came with. It is that of the programs and of the Python package. build.sh sets it. */
+/* The release that this header came with, as the programs and the Python package have it, and the same as a number to
+ * compare: 1.25.0 is 12500. todrenval_release returns the number of the library. build.sh sets both. */
 #define TODRENVAL_RELEASE "0"
+#define TODRENVAL_RELEASE_NUMBER 0
 
 /* What a call returns. */
 enum todrenval_status {
@@ -445,6 +477,10 @@ uint32_t todrenval_encoding(uint8_t const *label, size_t label_length);
 
 /* Returns the version of the interface that the library has: TODRENVAL_VERSION, if the header fits. */
 uint32_t todrenval_version(void);
+
+/* Returns the release of the library as a number. If it is less than TODRENVAL_RELEASE_NUMBER, the library is older than the
+ * header, and may refuse flags and kinds of edits that the header has. */
+uint32_t todrenval_release(void);
 
 /* Returns whether this processor has the features of x86-64-v2, which the library was built for. On one without them
  * the calls above may end the program by an illegal instruction. This one runs everywhere. */

@@ -600,7 +600,9 @@ def try_arguments(count):
         (todrenval.dumps, [[Comment(3)]], "a comment has to be a str, not int"),
         (todrenval.remove_key, [b"", None], "the key None has to be a str, not NoneType"),
         (todrenval.rename_key, [b"", "a", None], "the new key None has to be a str, not NoneType"),
-        (todrenval.set_comment, [b"", "a", None], "a comment has to be a str, not NoneType"),
+        (todrenval.set_comment, [b"", "a", None], "a comment has to be a str or lines, not NoneType"),
+        (todrenval.set_comment, [b"", "a", b"c"], "a comment has to be a str or lines, not bytes"),
+        (todrenval.set_comment, [b"", "a", ["b", 3]], "a comment has to be a str, not int"),
         (todrenval.edit, [b"", {"port": 8080}], "the value of 'port' has to be a str, not int"),
         (todrenval.set_value, [b"", "port", 8080], "the value of 'port' has to be a str, not int"),
         (todrenval.set_key, [b"", "port", 8080], "the value of 'port' has to be a str, not int"),
@@ -1075,7 +1077,7 @@ class Newer:
         self.given = bytes_given
 
     def todrenval_items(self, source, source_length, encoding, flags, *out):
-        return self.todrenval_findings(source, source_length, encoding, *out)
+        return self.todrenval_findings(source, source_length, encoding, *out) if source else Status.OK
 
     def todrenval_findings(self, source, source_length, encoding, out, room, length, line):
         length._obj.value = len(self.given)
@@ -1091,9 +1093,11 @@ def try_newer(count):
         error = raised(todrenval.findings, b"")
         count.check((type(error), str(error)) == (PropertiesError, "line 3: Unknown status."), repr(error))
         count.check(error.status == 99 and str(pickle.loads(pickle.dumps(error))) == str(error), repr(error))
+        count.check(repr(error.status) == "<Status.UNKNOWN_99: 99>", repr(error.status))
         todrenval._LIBRARY = Newer(0, struct.pack("<4Q", 4, 3, 1, 1) + b"a")
         found = todrenval.findings(b"")
-        count.check(found == [(3, 4, None, None, False)] and found[0].reason == "Unknown kind of finding.", repr(found))
+        count.check(found == [(3, 4, None, None, False, None)] and found[0].reason == "Unknown kind of finding.", repr(found))
+        count.check(isinstance(found[0].kind, todrenval.FindingKind), repr(found))
         todrenval._LIBRARY = Newer(0, struct.pack("<16Q", 17, 1, 1, 1, 0, 0, 1, 2, 3, 3, 3, 99, 2, 1, 3, 0) + b"ab")
         found = todrenval.groups(b"a" * 99)
         count.check(found == [(Pair("a", "b", 1), 1, (0, 0, 1, 2, 3, 3, 3), (99, 2, 1, 3), None)], repr(found))
@@ -1138,12 +1142,45 @@ def try_findings(count):
     in_comments = [finding.line for finding in todrenval.findings(source) if finding.in_comment]
     count.check(in_comments == [4], f"findings in comments: {in_comments}")
     count.check(todrenval.findings(b"") == [], "findings of nothing")
+    # The column of a key, of an escape, and none of an escape in a later line or in UTF-16.
+    source = "\ufeff a\\u1\n\ta=1\n # \\u12\n\u20ac a=\\u12\n \\u0061:2\nb=\\\n\\u12\n"
+    for encoding, wanted in (("utf-8", [3, 4, 7, 2, None]), ("utf-16-le", [None] * 5)):
+        found = todrenval.findings(source.encode(encoding), encoding=encoding)
+        count.check([each.line for each in found] == [1, 3, 4, 5, 6], f"lines of findings: {found}")
+        count.check([each.column for each in found] == wanted, f"columns of findings: {found}")
     mixed = b"\xe4=1\n\xf6=2\n"
     found = [(finding.line, finding.key, finding.first) for finding in todrenval.findings(mixed, errors="replace")]
     count.check(found == [(2, "\ufffd", 1)], f"findings in what isn't UTF-8: {found}")
     count.check(todrenval.findings(mixed, encoding="iso-8859-1") == [], "findings in iso-8859-1")
     many = b"".join(b"%d=1\n" % (number % 100) for number in range(2000))
     count.check(len(todrenval.findings(many)) == 1900, "many findings")
+
+
+MATCHES = r"""
+match todrenval.findings(b"a=1\n a=2\nb=\\u12"):
+    case [Finding(2, FindingKind.REPEATED_KEY, "a", first=1, column=2), Finding(3, FindingKind.NOT_ENOUGH_DIGITS, column=3)]:
+        came.append("findings")
+match todrenval.groups(b"# c\na=\\u12"):
+    case [Group(Comment("c", 1), 1), Group(Pair("a", value), 2, Spans(4, 4), Flaw(Status.NOT_ENOUGH_DIGITS, 6, 2, 3))]:
+        came.append(value)
+for call in (lambda: todrenval.items(b"a=1\nb=\\u12"), lambda: todrenval.rename_key(b"a=1\nb=2", "a", "b")):
+    try:
+        call()
+    except PropertiesError as error:
+        match error:
+            case MalformedEscape(Status.NOT_ENOUGH_DIGITS, 2) | PropertiesError(Status.KEY_TAKEN, 2):
+                came.append(error.line)
+"""
+
+
+def try_types_of_results(count):
+    """What calls return has only members of enums in the place of numbers, and can be taken apart by `match`."""
+    for of, name, wanted in ((todrenval.Finding, "kind", todrenval.FindingKind), (todrenval.Flaw, "status", Status)):
+        count.check(typing.get_type_hints(of)[name] is wanted, f"the type of {name}")
+    if sys.version_info >= (3, 10):
+        came = []
+        exec(MATCHES, {**vars(todrenval), "todrenval": todrenval, "came": came})
+        count.check(came == ["findings", "\\u12", 2, 2], f"what is taken apart: {came}")
 
 
 def try_comments(count):
@@ -1241,6 +1278,13 @@ def try_keys(count):
     count.check(came == b"\t# \xe9\\u20ac\r\ta=\x80\r", f"a comment that is set in iso-8859-1: {came}")
     for text, wanted in (("host", source), ("host\n", source), ("", source.replace(b"! host\n", b""))):
         count.check(todrenval.set_comment(source, "port", text) == wanted, f"a comment that is set to {text!r}")
+    for lines in ([], [""], ["host"], ["", "a", ""], ["C:\\u", "  \xe9"], ("a", "b\nc"), todrenval.comment(source, "port")):
+        wanted = todrenval.set_comment(source, "port", "".join(f"{line}\n" for line in lines))
+        document = todrenval.Document(source)
+        document.set_comment("port", lines)
+        for came in (todrenval.set_comment(source, "port", lines), todrenval.edit(source, [SetComment("port", lines)]), bytes(document)):
+            count.check(came == wanted, f"a comment that is set to {lines!r}: {came}")
+    count.check(todrenval.set_comment(source, "port", iter(["a"])) == todrenval.set_comment(source, "port", "a"), "an iterator of lines")
     long_text = "".join(f"{line}\n" for line in long)
     made = todrenval.set_comment(b"a", "a", long_text)
     count.check(todrenval.comment(made, "a") == long and made.endswith(b"# 4999\na"), "a long comment that is set")
@@ -1671,8 +1715,8 @@ def main():
     run_tables(count)
     for test in (
         try_arguments, try_files, try_special_files, try_file_errors, try_documents, try_operators, try_created, try_shared_documents,
-        try_zeros, try_types, try_errors, try_lists, try_newer, try_room, try_findings, try_comments, try_keys, try_lists_of_edits,
-        try_groups, try_short_files,
+        try_zeros, try_types, try_errors, try_lists, try_newer, try_room, try_findings, try_types_of_results, try_comments, try_keys,
+        try_lists_of_edits, try_groups, try_short_files,
         try_round_trips, try_random, try_conversions, try_latin_1, try_threads, try_header, try_examples, try_pages,
     ):
         try:

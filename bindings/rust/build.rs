@@ -1,4 +1,5 @@
-//! Finds the library: in the folder that `TODRENVAL_LIB_DIR` names, in the crate's folder `native`, or by pkg-config.
+//! Finds the library: in the folder that `TODRENVAL_LIB_DIR` names, in the crate's folder `native`, or by pkg-config. Where it
+//! isn't, `cargo check` and `cargo doc` work, and what is linked says that it isn't there.
 use std::env;
 use std::path::{Path, PathBuf};
 use std::process::Command;
@@ -10,30 +11,30 @@ fn main() {
     println!("cargo:rerun-if-env-changed=PKG_CONFIG_PATH");
     println!("cargo:rerun-if-changed=build.rs");
     println!("cargo:rerun-if-changed=native");
-    let target = env::var("TARGET").unwrap_or_default();
-    assert!(
-        target.starts_with("x86_64-") && target.contains("-linux-"),
-        "todrenval is for Linux on x86-64, and not for {target}"
-    );
-    let Some(folder) = named().or_else(packed).or_else(installed) else {
-        panic!(
-            "there is no {ARCHIVE}: name its folder in TODRENVAL_LIB_DIR, put it into the folder native of this crate, \
-             or install the package libtodrenval-dev"
-        );
-    };
-    println!("cargo:rerun-if-changed={}", folder.join(ARCHIVE).display());
-    println!("cargo:rustc-link-search=native={}", folder.display());
+    match found() {
+        Ok(folder) => {
+            println!("cargo:rerun-if-changed={}", folder.join(ARCHIVE).display());
+            println!("cargo:rustc-link-search=native={}", folder.display());
+        }
+        Err(why) => println!("cargo:warning=todrenval can't be linked: {why}"),
+    }
     println!("cargo:rustc-link-lib=static=todrenval");
 }
 
-fn named() -> Option<PathBuf> {
-    let folder = PathBuf::from(env::var_os("TODRENVAL_LIB_DIR")?);
-    assert!(
-        has_archive(&folder),
-        "TODRENVAL_LIB_DIR: there is no {ARCHIVE} in {}",
-        folder.display()
-    );
-    Some(folder)
+fn found() -> Result<PathBuf, String> {
+    let target = env::var("TARGET").unwrap_or_default();
+    if !(target.starts_with("x86_64-") && target.contains("-linux-")) {
+        return Err(format!("it is for Linux on x86-64, and not for {target}"));
+    }
+    if let Some(named) = env::var_os("TODRENVAL_LIB_DIR") {
+        let folder = PathBuf::from(named);
+        let why = format!("TODRENVAL_LIB_DIR: there is no {ARCHIVE} in {}", folder.display());
+        return Some(folder).filter(|folder| has_archive(folder)).ok_or(why);
+    }
+    packed().or_else(installed).ok_or(format!(
+        "there is no {ARCHIVE}: name its folder in TODRENVAL_LIB_DIR, put it into the folder native of this crate, or install \
+         the package libtodrenval-dev"
+    ))
 }
 
 fn packed() -> Option<PathBuf> {

@@ -105,7 +105,19 @@ Bytes = Union[bytes, bytearray, memoryview, mmap.mmap]
 Path = Union[str, "os.PathLike[str]"]
 
 
-class Status(enum.IntEnum):
+class _Number(enum.IntEnum):
+    """A number of the library. One that only a newer library has is a member too, by a name such as UNKNOWN_99."""
+
+    @classmethod
+    def _missing_(cls, value: object) -> Any:
+        if not isinstance(value, int):
+            return None
+        member = int.__new__(cls, value)
+        member._name_, member._value_ = f"UNKNOWN_{value}", value
+        return member
+
+
+class Status(_Number):
     """Why a call failed, as in todrenval.h."""
 
     OK = 0
@@ -162,10 +174,9 @@ class Spans(NamedTuple):
 
 class Flaw(NamedTuple):
     """A malformed escape: why it is one, where its backslash is in the file, and in which line. The column says which byte of
-    that line the backslash is, counted from 1. A `status` that is no Status comes only from a library that is newer than this
-    module."""
+    that line the backslash is, counted from 1."""
 
-    status: Union[Status, int]
+    status: Status
     start: int
     line: int
     column: int
@@ -226,14 +237,14 @@ class SetComment(NamedTuple):
     """The edit that `set_comment` makes."""
 
     key: str
-    text: str
+    text: Union[str, Iterable[str]]
 
 
 #: A tuple of a key and a value sets the value, and one of a key and None removes the key.
 Edit = Union[SetValue, SetKey, RemoveKey, RenameKey, RemoveWithComment, SetComment, Tuple[str, Optional[str]]]
 
 
-class FindingKind(enum.IntEnum):
+class FindingKind(_Number):
     """What is wrong in a line."""
 
     REPEATED_KEY = 0
@@ -243,15 +254,18 @@ class FindingKind(enum.IntEnum):
 
 
 class Finding(NamedTuple):
-    """What is wrong in a line. Repeated keys alone have a `key`, and as `first` the line of the first pair with it.
-    Malformed escapes alone may be in a comment. A `kind` that is no FindingKind comes only from a library that is newer
-    than this module."""
+    """What is wrong in the pair or comment that begins in a line. Repeated keys alone have a `key`, and as `first` the line of
+    the first pair with it. Malformed escapes alone may be in a comment.
+
+    The column says which byte of the line the key or the backslash is, counted from 1. There is none in UTF-16, nor for a
+    backslash in a later line, which `groups` tells."""
 
     line: int
-    kind: Union[FindingKind, int]
+    kind: FindingKind
     key: Optional[str] = None
     first: Optional[int] = None
     in_comment: bool = False
+    column: Optional[int] = None
 
     @property
     def reason(self) -> str:
@@ -262,15 +276,16 @@ class Finding(NamedTuple):
         """
         if self.kind == FindingKind.REPEATED_KEY:
             return f"repeats the key of line {self.first}"
-        if not isinstance(self.kind, FindingKind):
+        status = Status.__members__.get(self.kind.name)
+        if status is None:
             return "Unknown kind of finding."
-        return _reason(Status[self.kind.name]) + (" (in a comment)" if self.in_comment else "")
+        return _reason(status) + (" (in a comment)" if self.in_comment else "")
 
 
 class PropertiesError(ValueError):
     r"""Why a call failed: a status, the reason in words, and the number of a line, or None. The status is NOT_TEXT if bytes
     aren't text of the encoding, and NOT_UTF_8 if a key or a value has a surrogate; it is None if a file has changed since
-    `open` read it. A status that is no Status comes only from a library that is newer than this module.
+    `open` read it.
 
     >>> try:
     ...     loads(b"a=1\nb=caf\xe9")
@@ -279,10 +294,12 @@ class PropertiesError(ValueError):
     2 Not text of utf-8.
     """
 
+    __match_args__ = ("status", "line", "reason")
+
     #: The file, if `load`, `open` or `save` raised the error and knows its path.
     path: Optional[str] = None
 
-    def __init__(self, status: Optional[int], line: Optional[int] = None, reason: Optional[str] = None) -> None:
+    def __init__(self, status: Optional[Status], line: Optional[int] = None, reason: Optional[str] = None) -> None:
         self.status = status
         self.line = line
         self.reason = reason or ("Unknown status." if status is None else _reason(status))
@@ -312,7 +329,7 @@ class MalformedEscape(PropertiesError):
     #: Whether it is in a comment, which Java passes over.
     in_comment = False
 
-    def __init__(self, status: Optional[int], line: Optional[int] = None, reason: Optional[str] = None) -> None:
+    def __init__(self, status: Optional[Status], line: Optional[int] = None, reason: Optional[str] = None) -> None:
         super().__init__(status, line, reason)
         #: If `items` raised the error, the items before the line.
         self.items: List[Item] = []
@@ -344,10 +361,7 @@ _ARGUMENTS: Dict[str, List[Any]] = {
     "todrenval_items": [*_IN, _NUMBER, _NUMBER, *_OUT],
     "todrenval_findings": [*_IN, _NUMBER, *_OUT],
     "todrenval_edit": [*_IN, _NUMBER, _NUMBER, *_IN, *_OUT],
-    "todrenval_rename_key": [*_IN, _NUMBER, _NUMBER, *_IN, *_IN, *_OUT],
-    "todrenval_remove_with_comment": [*_IN, _NUMBER, _NUMBER, *_IN, *_OUT],
     "todrenval_comment": [*_IN, _NUMBER, _NUMBER, *_IN, *_OUT],
-    "todrenval_set_comment": [*_IN, _NUMBER, _NUMBER, *_IN, *_IN, *_OUT],
     "todrenval_convert": [*_IN, _NUMBER, _NUMBER, _NUMBER, *_OUT],
     "todrenval_write": [*_IN, _NUMBER, _NUMBER, *_IN, *_IN, *_OUT],
     "todrenval_status_text": [ctypes.c_int, *_OUT],
@@ -381,15 +395,7 @@ if not os.environ.get("TODRENVAL_LIBRARY"):
 _LIBRARY = _library()
 
 
-def _named(numbers: Type[enum.IntEnum], number: int) -> int:
-    """Returns the member of an enum, or a number that it doesn't have as it is."""
-    try:
-        return numbers(number)
-    except ValueError:
-        return number
-
-
-def _call(name: str, room: int, *inputs: Union[bytes, int]) -> Tuple[int, memoryview, int, Optional[int]]:
+def _call(name: str, room: int, *inputs: Union[bytes, int]) -> Tuple[Status, memoryview, int, Optional[int]]:
     """Makes a call, again if the room is too small, and returns its status, its room, a length and a line."""
     arguments: List[Union[bytes, int]] = []
     for given in inputs:
@@ -400,22 +406,22 @@ def _call(name: str, room: int, *inputs: Union[bytes, int]) -> Tuple[int, memory
         status = getattr(_LIBRARY, name)(*arguments, out, room, ctypes.byref(length), ctypes.byref(line))
         if status != Status.NO_ROOM:
             # string_at takes its length as a C int in older Pythons.
-            return _named(Status, status), memoryview(out), length.value, line.value or None
+            return Status(status), memoryview(out), length.value, line.value or None
         room = length.value
 
 
-def _answer(name: str, room: int, *inputs: Union[bytes, int]) -> Tuple[int, bytes, Optional[int]]:
+def _answer(name: str, room: int, *inputs: Union[bytes, int]) -> Tuple[Status, bytes, Optional[int]]:
     """Makes a call, and returns its status, what it wrote, and a line."""
     status, out, length, line = _call(name, room, *inputs)
     return status, bytes(out[:length]), line
 
 
-def _reason(status: int) -> str:
+def _reason(status: Status) -> str:
     """Returns a status in words."""
     return _answer("todrenval_status_text", 64, status)[1].decode()
 
 
-def _error(status: int, line: Optional[int]) -> Exception:
+def _error(status: Status, line: Optional[int]) -> Exception:
     if status == Status.NO_MEMORY:
         return MemoryError()
     if status in (Status.NOT_ENOUGH_DIGITS, Status.NOT_HEX, Status.INVALID_CHARACTER):
@@ -423,7 +429,7 @@ def _error(status: int, line: Optional[int]) -> Exception:
     return PropertiesError(status, line)
 
 
-def _error_in(source: bytes, number: int, flags: int, status: int, line: Optional[int]) -> Exception:
+def _error_in(source: bytes, number: int, flags: int, status: Status, line: Optional[int]) -> Exception:
     """Returns the error of a call that read a file with these flags."""
     if status == Status.NOT_TEXT:
         in_force = _in_force(source, number)
@@ -525,34 +531,14 @@ def _edited(data: Bytes, edits: List[Edit], encoding: str, errors: str, comments
     packed = b"".join(_edit_record(each) for each in edits)
     source, number, flags = _source(data, encoding, errors)
     flags += _flags(comments, ascii_only) + _is_latin_1(encoding) * _LATIN_1
-    status, out, length, line = _call("todrenval_edit", len(source) + len(packed), source, number, flags, packed)
-    if status in (Status.NO_KEY, Status.KEY_TAKEN):
-        raise _refused(status, line, edits[length][0], edits[length][-1])
+    status, out, length, line = _call("todrenval_edit", len(source) + len(packed) + 256, source, number, flags, packed)
+    if status == Status.NO_KEY:
+        raise KeyError(edits[length][0])
+    if status == Status.KEY_TAKEN:
+        raise PropertiesError(status, line, f"A pair has the new key {edits[length][-1]!r} already.")
     if status != Status.OK:
         raise _error_in(source, number, flags, status, line)
     return bytes(out[:length])
-
-
-def _refused(status: int, line: Optional[int], key: str, new_key: Optional[str]) -> Exception:
-    """Returns the error for a key that no pair has, or for a new key that a pair has already."""
-    if status == Status.NO_KEY:
-        return KeyError(key)
-    return PropertiesError(status, line, f"A pair has the new key {new_key!r} already.")
-
-
-def _edited_at(
-    name: str, data: Bytes, key: str, text: str, what: str, encoding: str, errors: str, comments: str, ascii_only: bool
-) -> bytes:
-    """Returns a file after a call that takes a key that has to be there, and a text, which is a new key or a comment."""
-    source, number, flags = _source(data, encoding, errors)
-    flags += _flags(comments, ascii_only) + _is_latin_1(encoding) * _LATIN_1
-    texts = _utf_8(key), _utf_8(text, what)
-    status, result, line = _answer(name, len(source) + len(texts[1]) + 256, source, number, flags, *texts)
-    if status in (Status.NO_KEY, Status.KEY_TAKEN):
-        raise _refused(status, line, key, text)
-    if status != Status.OK:
-        raise _error_in(source, number, flags, status, line)
-    return result
 
 
 def _record(kind: int, key: str, value: str) -> bytes:
@@ -632,7 +618,7 @@ def groups(
 
 def _group(kind: int, line: int, key: str, value: str, spans: Tuple[int, ...]) -> Group:
     item = None if kind == 5 else _item(kind, line, key, value)
-    flaw = Flaw(_named(Status, spans[7]), *spans[8:11]) if spans[7] else None
+    flaw = Flaw(Status(spans[7]), *spans[8:11]) if spans[7] else None
     return Group(item, line, Spans(*spans[:7]), flaw, spans[11] or None)
 
 
@@ -782,7 +768,7 @@ def rename_key(
     ...
     todrenval.PropertiesError: line 2: A pair has the new key 'host' already.
     """
-    return _edited_at("todrenval_rename_key", data, key, new_key, "the new key", encoding, errors, comments, ascii_only)
+    return _edited(data, [RenameKey(key, new_key)], encoding, errors, comments, ascii_only)
 
 
 def remove_with_comment(
@@ -794,12 +780,7 @@ def remove_with_comment(
     >>> remove_with_comment(b"# one\na = 1\n\n# two\nb = 2\n", "a")
     b'\n# two\nb = 2\n'
     """
-    source, number, flags = _source(data, encoding, errors)
-    flags += _flags(comments)
-    status, result, line = _answer("todrenval_remove_with_comment", len(source) + 1, source, number, flags, _utf_8(key))
-    if status != Status.OK:
-        raise _error_in(source, number, flags, status, line)
-    return result
+    return _edited(data, [RemoveWithComment(key)], encoding, errors, comments)
 
 
 def comment(data: Bytes, key: str, *, encoding: str = "utf-8", errors: str = "strict") -> List[str]:
@@ -823,16 +804,17 @@ def comment(data: Bytes, key: str, *, encoding: str = "utf-8", errors: str = "st
 def set_comment(
     data: Bytes,
     key: str,
-    text: str,
+    text: Union[str, Iterable[str]],
     *,
     encoding: str = "utf-8",
     errors: str = "strict",
     ascii_only: bool = True,
     comments: str = "skip",
 ) -> bytes:
-    r"""Returns the file with the comment of a key set: the comment lines directly above the last pair with it. The text is
-    divided at "\n", "\r" and "\r\n", and a last empty line doesn't count, so "" removes the comment. If the comment has these
-    lines already, nothing changes. Otherwise new lines replace the old ones, and every other line stays as it is.
+    r"""Returns the file with the comment of a key set: the comment lines directly above the last pair with it. The text is a
+    list of lines, as `comment` returns it, or a str, which is divided at "\n", "\r" and "\r\n", and whose last empty line
+    doesn't count. So [] and "" remove the comment. If the comment has these lines already, nothing changes. Otherwise new lines
+    replace the old ones, and every other line stays as it is.
 
     New lines look like the first old one that has a text: its indent, its sign, the blank after it or none, and its line
     ending. If there is none, they have the indent of the pair, "# ", and the line ending of the pair. If the pair has none,
@@ -842,8 +824,10 @@ def set_comment(
 
     >>> set_comment(b"  ! old\n  port = 80\n", "port", "the web server\n\non C:\\users")
     b'  ! the web server\n  !\n  ! on C:\\users\n  port = 80\n'
+    >>> set_comment(b"host = a\n", "host", comment(b"# one\n#\nport = 80\n", "port"))
+    b'# one\n#\nhost = a\n'
     """
-    return _edited_at("todrenval_set_comment", data, key, text, "a comment", encoding, errors, comments, ascii_only)
+    return _edited(data, [SetComment(key, text)], encoding, errors, comments, ascii_only)
 
 
 def edit(
@@ -885,7 +869,7 @@ def _edit_record(each: Edit) -> bytes:
     if isinstance(each, RenameKey):
         return _packed(7, _utf_8(each.key), _utf_8(each.new_key, "the new key"))
     if isinstance(each, SetComment):
-        return _packed(8, _utf_8(each.key), _utf_8(each.text, "a comment"))
+        return _packed(8, _utf_8(each.key), _comment_text(each.text))
     if isinstance(each, RemoveWithComment):
         return _record(9, each.key, "")
     if type(each) is tuple and len(each) == 2:
@@ -893,6 +877,14 @@ def _edit_record(each: Edit) -> bytes:
         return _record(3, key, "") if value is None else _record(4, key, value)
     kinds = "a SetValue, a SetKey, a RemoveKey, a RenameKey, a RemoveWithComment, a SetComment"
     raise TypeError(f"an edit is {kinds} or a tuple of a key and a value, not {each!r}")
+
+
+def _comment_text(text: Union[str, Iterable[str]]) -> bytes:
+    if isinstance(text, str):
+        return _utf_8(text, "a comment")
+    if isinstance(text, (bytes, bytearray)) or not hasattr(text, "__iter__"):
+        raise TypeError(f"a comment has to be a str or lines, not {type(text).__name__}")
+    return b"".join(_utf_8(line, "a comment") + b"\n" for line in text)
 
 
 def convert(
@@ -1023,10 +1015,10 @@ def findings(data: Bytes, *, encoding: str = "utf-8", errors: str = "strict") ->
 
     With errors="replace", keys that differ in bytes that aren't text may read as one key, which then counts as repeated.
 
-    >>> for finding in findings(b"a = 1\nb = \\u12\na = 2\n"):
-    ...     print(finding.line, finding.reason)
-    2 Malformed \uxxxx encoding: not enough digits.
-    3 repeats the key of line 1
+    >>> for finding in findings(b"a = 1\nb = \\u12\n a = 2\n"):
+    ...     print(finding.line, finding.column, finding.reason)
+    2 5 Malformed \uxxxx encoding: not enough digits.
+    3 2 repeats the key of line 1
     """
     source, number, flags = _source(data, encoding, errors)
     if flags:
@@ -1034,7 +1026,22 @@ def findings(data: Bytes, *, encoding: str = "utf-8", errors: str = "strict") ->
         status, _, line = _answer("todrenval_get", 4096, source, number, flags, b"")
         if status == Status.NOT_TEXT:
             raise _error_in(source, number, flags, status, line)
-    return sorted(_findings(source, number), key=lambda finding: finding.line)
+    found = sorted(_findings(source, number), key=lambda finding: finding.line)
+    columns = _columns(source, number) if found else {}
+    return [finding._replace(column=columns.get(finding.line)) for finding in found]
+
+
+def _columns(source: bytes, number: int) -> Dict[int, int]:
+    """Returns for the line in which a pair or comment begins which of its bytes the first malformed escape is, or else the key."""
+    columns: Dict[int, int] = {}
+    if _in_force(source, number) < 2:
+        packed = _result("todrenval_items", 8 * len(source), source, number, _SPANS)
+        for _, line, _, _, spans in _records(packed):
+            if not spans[7]:
+                columns[line] = spans[1] - spans[0] + 1
+            elif spans[9] == line:
+                columns[line] = spans[10]
+    return columns
 
 
 def _findings(source: bytes, number: int) -> List[Finding]:
@@ -1047,11 +1054,11 @@ def _findings(source: bytes, number: int) -> List[Finding]:
         place += 32
         key = packed[place : place + key_length].decode("utf-8")
         place += key_length
-        named = _named(FindingKind, kind)
+        named = FindingKind(kind)
         if named == FindingKind.REPEATED_KEY:
             found.append(Finding(line, named, key, first))
         else:
-            found.append(Finding(line, named, in_comment=isinstance(named, FindingKind) and first == 1))
+            found.append(Finding(line, named, in_comment=named.name in Status.__members__ and first == 1))
     return found
 
 
@@ -1207,7 +1214,7 @@ class Document(MutableMapping[str, str]):
         """Returns the comment of a key, as the function `comment` does: a list with the text of each comment line."""
         return comment(bytes(self), key, encoding=self._read["encoding"], errors=self._read["errors"])
 
-    def set_comment(self, key: str, text: str) -> None:
+    def set_comment(self, key: str, text: Union[str, Iterable[str]]) -> None:
         """Sets the comment of a key, as the function `set_comment` does. If the document reads comments, a malformed escape in
         the text is a MalformedEscape, and nothing changes."""
         with self._lock:

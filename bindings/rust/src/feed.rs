@@ -54,6 +54,10 @@ impl<R: Read> Feed<R> {
         }
     }
 
+    pub fn into_reader(self) -> R {
+        self.reader
+    }
+
     /// Returns the next item, or the error after the last one, or `None` from then on.
     #[inline]
     pub fn next(&mut self) -> Option<Result<LineRef<'_>, PropertiesError>> {

@@ -183,16 +183,18 @@
 //! | no memory | ends the program | ends the program; [`ErrorKind::Memory`] if the library ran out |
 //!
 //! Beyond it are [`PropertiesIter::comments`], [`strict`](PropertiesIter::strict) and
-//! [`next_ref`](PropertiesIter::next_ref), [`PropertiesWriter::set_ascii_only`] and [`set_readable`](PropertiesWriter::set_readable), [`get`], [`edit`],
-//! [`rename_key`], [`remove_with_comment`], [`comment_of`], [`set_comment`], [`convert`] and [`groups`] with their
-//! [`Options`], and [`runs_here`].
+//! [`next_ref`](PropertiesIter::next_ref), [`PropertiesWriter::set_ascii_only`] and
+//! [`set_readable`](PropertiesWriter::set_readable), `into_inner` of [readers](PropertiesIter::into_inner) and
+//! [writers](PropertiesWriter::into_inner), [`get`], [`edit`], [`rename_key`], [`remove_with_comment`], [`comment_of`],
+//! [`set_comment`], [`convert`] and [`groups`] with their [`Options`], and [`runs_here`].
 //!
 //! # Where it runs
 //!
 //! On Linux on x86-64, on processors with the features of x86-64-v2, as nearly all since 2009 have. On others the first call
 //! panics; [`runs_here`] says so before. The crate has no dependencies, and needs the archive `libtodrenval.a`, which a
 //! released package has in its folder `native`. `build.rs` looks for it in the folder that the environment variable
-//! `TODRENVAL_LIB_DIR` names, then there, and then where `pkg-config` finds the package libtodrenval-dev.
+//! `TODRENVAL_LIB_DIR` names, then there, and then where `pkg-config` finds the package libtodrenval-dev. Without it,
+//! `cargo check` and `cargo doc` work, and `cargo build` says that there is none.
 
 mod edit;
 mod encoding;

@@ -128,6 +128,20 @@ impl<R: Read> PropertiesIter<R> {
         self.feed.next()
     }
 
+    /// Returns the reader. What was read ahead of the last item is lost: the rest of a part, which is up to 64 KiB or the
+    /// lines of the longest item, and items of it that weren't taken. After `None` the reader was read to its end.
+    ///
+    /// ```
+    /// use todrenval::PropertiesIter;
+    ///
+    /// let mut items = PropertiesIter::new(&b"a = 1\nb = 2\n"[..]);
+    /// assert!(items.next().is_some());
+    /// assert_eq!(items.into_inner(), b"");
+    /// ```
+    pub fn into_inner(self) -> R {
+        self.feed.into_reader()
+    }
+
     /// Calls a function with the key and the value of each pair, in order.
     ///
     /// # Errors

@@ -35,7 +35,8 @@ const MOST: usize = 1 << 13;
 /// # Ok::<(), todrenval::PropertiesError>(())
 /// ```
 pub struct PropertiesWriter<W: Write> {
-    writer: W,
+    // None once `into_inner` has returned it.
+    writer: Option<W>,
     encoding: Encoding,
     flags: u32,
     prefix: String,
@@ -60,7 +61,7 @@ impl<W: Write> PropertiesWriter<W> {
     /// Writes this encoding, or UTF-8 in the place of UTF-16.
     pub fn new_with_encoding(writer: W, encoding: Encoding) -> Self {
         PropertiesWriter {
-            writer,
+            writer: Some(writer),
             encoding,
             flags: 0,
             prefix: "# ".to_owned(),
@@ -105,7 +106,7 @@ impl<W: Write> PropertiesWriter<W> {
     /// A failed write or flush of the stream. After a failed flush the writer can go on.
     pub fn flush(&mut self) -> Result<(), PropertiesError> {
         self.send()?;
-        Ok(self.writer.flush()?)
+        Ok(self.writer.as_mut().map_or(Ok(()), Write::flush)?)
     }
 
     /// Sends the lines that are gathered, and flushes the stream, as [`flush`](Self::flush) does. More may be written after
@@ -116,6 +117,28 @@ impl<W: Write> PropertiesWriter<W> {
     /// A failed write or flush of the stream.
     pub fn finish(&mut self) -> Result<(), PropertiesError> {
         self.flush()
+    }
+
+    /// Sends the lines that are gathered, and returns the stream. It isn't flushed. If you need the stream after an error,
+    /// make the writer with a reference to it.
+    ///
+    /// ```
+    /// use todrenval::PropertiesWriter;
+    ///
+    /// let mut writer = PropertiesWriter::new(Vec::new());
+    /// writer.write("port", "80")?;
+    /// assert_eq!(writer.into_inner()?, b"port=80\n");
+    /// # Ok::<(), todrenval::PropertiesError>(())
+    /// ```
+    ///
+    /// # Errors
+    ///
+    /// A failed write of the stream, now or earlier. The stream is dropped then.
+    pub fn into_inner(mut self) -> Result<W, PropertiesError> {
+        self.send()?;
+        self.writer
+            .take()
+            .ok_or_else(|| PropertiesError::new(ErrorKind::Failed))
     }
 
     /// Says what stands before the text of a comment: blanks, `#` or `!`, and any text in one line. If nothing is said, it is
@@ -253,11 +276,14 @@ impl<W: Write> PropertiesWriter<W> {
             return Err(PropertiesError::new(ErrorKind::Failed));
         }
         self.make_packed()?;
+        let Some(writer) = &mut self.writer else {
+            return Ok(());
+        };
         // Until all is sent, and if the stream panics.
         self.has_failed = true;
         let mut at = 0;
         while at < self.made.len() {
-            match self.writer.write(&self.made[at..]) {
+            match writer.write(&self.made[at..]) {
                 Ok(0) => return Err(self.failed_at(at, io::ErrorKind::WriteZero.into())),
                 Ok(count) => at += count,
                 Err(fault) if fault.kind() == io::ErrorKind::Interrupted => {}

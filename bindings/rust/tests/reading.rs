@@ -332,6 +332,23 @@ fn interrupted_reads_are_made_again() {
 }
 
 #[test]
+fn a_reader_comes_back_as_far_as_it_was_read() {
+    let pieces = [&b"a=1\n"[..], b"b=2\nc=3\nd", b"=4\n"].map(<[u8]>::to_vec).to_vec();
+    for (items, left) in [(0, 3), (1, 2), (2, 1), (3, 1), (4, 0)] {
+        let mut iter = PropertiesIter::new(Pieces::new(pieces.clone(), Some(gone())));
+        assert_eq!(iter.by_ref().take(items).flatten().count(), items);
+        let reader = iter.into_inner();
+        let unread = reader.pieces.iter().filter(|piece| !piece.is_empty()).count();
+        assert_eq!((unread, reader.fault.is_some()), (left, true), "after {items} items");
+    }
+    // A part is no longer than 64 KiB, however much the reader has.
+    let long = b"a=1\n".repeat(1 << 15);
+    let mut iter = PropertiesIter::new(&long[..]);
+    assert!(iter.next().unwrap().is_ok());
+    assert_eq!(iter.into_inner().len(), long.len() - (1 << 16));
+}
+
+#[test]
 fn after_the_end_nothing_is_read() {
     struct Once(usize);
     impl io::Read for Once {

@@ -1,5 +1,5 @@
-//! Runs the rows of the tables of `crates/*_vectors`, as far as this crate has calls for them, and says how many it
-//! leaves out. docs/TABLES.md has the notation.
+//! Runs the rows of the tables of examples, as far as this crate has calls for them, and says how many it leaves out. A package
+//! has the tables in `tests/tables`, and the repository in `crates/*_vectors`; its docs/TABLES.md has the notation.
 #![allow(clippy::format_push_string, clippy::unnecessary_wraps)]
 mod streams;
 
@@ -499,8 +499,10 @@ fn counts(stdout: &str) -> Vec<usize> {
 
 #[test]
 fn rows_hold() {
-    let crates = Path::new(env!("CARGO_MANIFEST_DIR")).join("../../crates");
-    let programs = PROGRAMS.map(|name| crates.join(name));
+    let here = Path::new(env!("CARGO_MANIFEST_DIR"));
+    let folders = ["tests/tables", "../../crates"].map(|folder| here.join(folder));
+    let tables = folders.iter().find(|folder| folder.is_dir()).unwrap();
+    let programs = PROGRAMS.map(|name| tables.join(name));
     let mut tables: Vec<_> = programs
         .iter()
         .flat_map(|program| fs::read_dir(program.join("data")).unwrap())

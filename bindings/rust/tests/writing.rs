@@ -165,6 +165,31 @@ fn a_failed_write_names_its_line() {
 }
 
 #[test]
+fn a_stream_comes_back_with_all_lines() {
+    let mut bytes = Vec::new();
+    let mut writer = PropertiesWriter::new(&mut bytes);
+    writer.set_line_ending(LineEnding::CRLF);
+    writer.write("a", "1").unwrap();
+    writer.set_line_ending(LineEnding::LF);
+    writer.write_comment("b").unwrap();
+    writer.into_inner().unwrap().extend(b"c");
+    assert_eq!(bytes, b"a=1\r\n# b\nc");
+
+    let mut sink = Sink::new(1);
+    (sink.fails_at, sink.fault, sink.flush_fault) = (3, Some("gone".to_owned()), Some("never flushed".to_owned()));
+    assert!(PropertiesWriter::new(sink.clone()).into_inner().is_ok());
+    let mut writer = PropertiesWriter::new(sink.clone());
+    writer.write("a", "1").unwrap();
+    let error = writer.into_inner().map(drop).unwrap_err();
+    assert_eq!((error.kind(), error.line_number()), (ErrorKind::Io, Some(1)));
+    assert_eq!(
+        (&sink.bytes.borrow()[..], sink.calls.get()),
+        (&b"a="[..], 3),
+        "it is dropped and sends no more"
+    );
+}
+
+#[test]
 fn a_failed_write_is_counted_over_parts() {
     let mut sink = Sink::new(usize::MAX);
     (sink.fails_at, sink.fault) = (3, Some("gone".to_owned()));

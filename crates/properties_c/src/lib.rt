@@ -1,7 +1,7 @@
 //! The library for programs in C, and through them for other languages.
 //!
 //! Each export returns what the function of `java_properties` for its task gives. A slice is a pointer and a length,
-//! which for `out` is the room there. Texts are UTF-8. Each call but [`todrenval_version`] and
+//! which for `out` is the room there. Texts are UTF-8. Each call but [`todrenval_version`], [`todrenval_release`] and
 //! [`todrenval_encoding`] sets `length` and `line` and returns a status:
 //!
 //! - at 0, `length` bytes were written to `out`;

@@ -1,4 +1,4 @@
-// The version of the interface.
+// The version of the interface, and the release.
 
 ghost use Rattle.std.specs.Prelude.{◌≡◌};
 
@@ -8,4 +8,12 @@ pub extern "C" fn todrenval_version() -> u32
     ensures { result ≡ 4 }
 {
     4
+}
+
+/// Returns the release as a number: 1.25.0 is 12500.
+#[unsafe(no_mangle)]
+pub extern "C" fn todrenval_release() -> u32
+    ensures { result ≡ 12500 }
+{
+    12500
 }
