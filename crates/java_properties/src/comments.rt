@@ -12,6 +12,7 @@ use properties_editing::{Document, GroupKind, View, ViewedGroup};
 use properties_items::error::PropertiesError;
 use properties_items::found::{find_item, pair_texts};
 use properties_renaming::comment_lines::{comment_text, is_comment_line};
+use properties_renaming::separators::LastRun;
 use properties_text::encoding::Encoding;
 use std::alloc::{AllocError, Global};
 use std::mem;
@@ -43,6 +44,7 @@ pub fn comment_of(
     let mut view = View::open(alloc, source, encoding)?;
     let mut passed = Passed {
         above: Vec::new(alloc),
+        last: LastRun::new(),
         comment: None,
     };
     while let Some(group) = view.next()? {
@@ -73,8 +75,9 @@ pub fn comment_in(
 // What is known of a key after some groups.
 #[derive(Drop)]
 struct Passed {
-    // The texts of the comment lines that came last, with no other group behind them.
+    // The texts of the comment lines that came last, with no other group and no separator behind them.
     above: Vec<String>,
+    last: LastRun,
     // The comment of the last pair with the key.
     comment: Option<Vec<String>>,
 }
@@ -92,6 +95,9 @@ impl Passed {
         ensures { PassesGroup (is_line_of_comment group) group.line_number (chars line.now) (chars key.now)
             (passed_texts self.old) result (passed_texts self.new) }
     {
+        if self.last.pass(group, line) {
+            self.above.clear();
+        }
         if is_comment_line(group) {
             return Ok(self.add_line(alloc, line)?);
         }

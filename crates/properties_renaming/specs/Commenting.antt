@@ -16,7 +16,7 @@ use Rattle.properties_items.specs.Errors.{IsBareError}
 use Rattle.properties_items.specs.declared.error.ErrorKind.TheVariants as kind
 use Rattle.properties_editing.specs.Editing.{EditsWith, asked_for}
 use Rattle.properties_editing.specs.declared.source.SourceOptions.{SourceOptions}
-use Rattle.properties_renaming.specs.CommentLines.{AreCommentTexts, IsCommentLine}
+use Rattle.properties_renaming.specs.CommentLines.{AreCommentTexts, IsCommentIn, IsCommentLine}
 use Rattle.properties_renaming.specs.Renaming.{AreIn, IsEditable, LacksKey}
 use Rattle.properties_renaming.specs.Sections.{AreDivided, AreMadeOf, Section}
 use Rattle.properties_renaming.specs.declared.commenting.NewComment.{NewComment}
@@ -131,16 +131,19 @@ pub record IsLastFor (texts : List NewText) (s : Section) (after : List (List He
   pub no_later : NoneHasKey key after
   pub is_text : text_for texts key ≡ Some text
 
--- The comment lines above a section's group have this text: they are its own, if those have it already, or else new ones.
+-- The comment of a section's group has this text: it is its own, if that has it already, or else new lines.
 pub record HasLines (r : Repertoire) (other : List ℕ) (s : Section) (text head : List ℕ) : Type 0 where
+  pub above : List (List HeldLine)
+  pub comment : List (List HeldLine)
+  pub is_comment : IsCommentIn s.run above comment
   pub texts : List (List ℕ)
-  pub are_texts : AreCommentTexts s.run texts
+  pub are_texts : AreCommentTexts comment texts
   pub lines : List (List ℕ)
   pub are_lines : AreCommentLines text lines
   pub set :
       (texts ≡ lines) × (head ≡ groups_bytes s.run)
       ⊎ (texts ≢ lines)
-      × ((style : LineStyle) × IsStyleFor other s.run s.group style × (head ≡ flat_map (comment_line r style) lines))
+      × ((style : LineStyle) × IsStyleFor other comment s.group style × (head ≡ groups_bytes above ++ flat_map (comment_line r style) lines))
 
 -- The last pair with a key gets the text for that key as its comment, if there is one; any other section stays.
 abbrev pub IsCommented : Repertoire → List ℕ → List NewText → Section → List (List HeldLine) → List ℕ → Type 0

@@ -8,3 +8,4 @@ pub mod Private
 pub mod Renames
 pub mod Renaming
 pub mod Sections
+pub mod Separators

@@ -6,3 +6,4 @@ pub mod CommentTexts
 pub mod Commenting
 pub mod KeyEdits
 pub mod Keyed
+pub mod Separators

@@ -22,6 +22,7 @@ use crate::copied::Copied;
 use crate::keyed::{give_value, value_at, value_of};
 use crate::renames::RenamesError;
 use crate::renaming::{RenameError, repertoire_for};
+use crate::separators::LastRun;
 use properties_editing::{SourceOptions, View, ViewedGroup, edit_with};
 use properties_items::error::PropertiesError;
 use properties_text::encoding::Encoding;
@@ -251,7 +252,7 @@ struct Look<'a> {
     ending: &'a [u8],
 }
 
-// A group that isn't a comment line, with the comment lines directly above it.
+// A group that isn't a comment line, with its comment.
 #[derive(Drop)]
 struct Comment {
     headed: Headed,
@@ -261,8 +262,7 @@ struct Comment {
     model: Option<ViewedGroup>,
 }
 
-// Returns the next group that isn't a comment line, with the comment lines directly above it, or `None` if comment lines
-// alone are to come.
+// Returns the next group that isn't a comment line, with its comment, or `None` if comment lines alone are to come.
 fn next_comment(alloc: Global, view: &mut View<'_>) -> Result<Option<Comment>, AllocError>
     ensures gives { IfOk result (λ comment. GivesComment view.old comment view.new) }
     ensures nearer { IfOk result (λ comment. OnSome comment (length view.new.to_come < length view.old.to_come)) }
@@ -270,7 +270,13 @@ fn next_comment(alloc: Global, view: &mut View<'_>) -> Result<Option<Comment>, A
     let mut texts = Vec::new(alloc);
     let mut model: Option<ViewedGroup> = None;
     let mut above: Option<usize> = None;
+    let mut last = LastRun::new();
     while let Some(group) = view.next()? {
+        if last.pass(group, view.line()) {
+            texts.clear();
+            model = None;
+            above = None;
+        }
         let start = above.unwrap_or(group.start);
         if !is_comment_line(group) {
             return Ok(Some(Comment {
