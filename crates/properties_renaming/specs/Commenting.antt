@@ -131,27 +131,31 @@ pub record IsLastFor (texts : List NewText) (s : Section) (after : List (List He
   pub no_later : NoneHasKey key after
   pub is_text : text_for texts key ≡ Some text
 
--- The comment of a section's group has this text: it is its own, if that has it already, or else new lines.
-pub record HasLines (r : Repertoire) (other : List ℕ) (s : Section) (text head : List ℕ) : Type 0 where
-  pub above : List (List HeldLine)
-  pub comment : List (List HeldLine)
-  pub is_comment : IsCommentIn s.run above comment
+-- The comment of a group has this text: it is its own, if that has it already, or else new lines.
+pub record HasLines (r : Repertoire) (other : List ℕ) (comment : List (List HeldLine)) (group : List HeldLine) (text head : List ℕ) : Type 0 where
   pub texts : List (List ℕ)
   pub are_texts : AreCommentTexts comment texts
   pub lines : List (List ℕ)
   pub are_lines : AreCommentLines text lines
   pub set :
-      (texts ≡ lines) × (head ≡ groups_bytes s.run)
+      (texts ≡ lines) × (head ≡ groups_bytes comment)
       ⊎ (texts ≢ lines)
-      × ((style : LineStyle) × IsStyleFor other comment s.group style × (head ≡ groups_bytes above ++ flat_map (comment_line r style) lines))
+      × ((style : LineStyle) × IsStyleFor other comment group style × (head ≡ flat_map (comment_line r style) lines))
+
+-- What is made of a section whose group gets this text as its comment. Lines above the comment stay.
+pub record IsTextSet (r : Repertoire) (other : List ℕ) (s : Section) (text made : List ℕ) : Type 0 where
+  pub above : List (List HeldLine)
+  pub comment : List (List HeldLine)
+  pub is_comment : IsCommentIn s.run above comment
+  pub head : List ℕ
+  pub lines : HasLines r other comment s.group text head
+  pub made_is : made ≡ groups_bytes above ++ (head ++ group_bytes s.group)
 
 -- The last pair with a key gets the text for that key as its comment, if there is one; any other section stays.
 abbrev pub IsCommented : Repertoire → List ℕ → List NewText → Section → List (List HeldLine) → List ℕ → Type 0
 IsCommented r other texts s after made =
-    (head : List ℕ)
-    × (((text : List ℕ) × IsLastFor texts s after text × HasLines r other s text head)
-    ⊎ ((text : List ℕ) → ¬ (IsLastFor texts s after text)) × (head ≡ groups_bytes s.run))
-    × (made ≡ head ++ group_bytes s.group)
+    ((text : List ℕ) × IsLastFor texts s after text × IsTextSet r other s text made)
+    ⊎ ((text : List ℕ) → ¬ (IsLastFor texts s after text)) × (made ≡ groups_bytes s.run ++ group_bytes s.group)
 
 -- A pair has each of the keys.
 abbrev pub HaveKeys : List NewText → List (List HeldLine) → Type 0

@@ -63,10 +63,10 @@ TellsModel start run (Some model) = IsModel start run model
 abbrev pub texts_above : Comment → List (List ℕ)
 texts_above comment = map characters comment.texts.items
 
--- The next group that isn't a comment line was given, with the comment lines directly above it, and their texts;
+-- The next group that isn't a comment line was given, with its comment, and the texts of that;
 abbrev pub TakesComment : OpenView → Comment → OpenView → Type 0
 TakesComment old comment new =
-    (h : TakesHeaded old comment.headed new) × AreCommentTexts h.run (texts_above comment) × TellsModel (past_group old).start h.run comment.model
+    (h : TakesHeaded old comment.headed new) × AreCommentTexts h.comment (texts_above comment) × TellsModel comment.headed.start h.comment comment.model
 
 -- or comment lines alone were to come.
 abbrev pub GivesComment : OpenView → Option Comment → OpenView → Type 0
@@ -170,7 +170,7 @@ abbrev pub AreCommentBytes : List (List HeldLine) → Type 0
 AreCommentBytes [] = Unit {0}
 AreCommentBytes (g ∷ gs) = (is_comment_line (group_bytes g) ≡ true) × AreCommentBytes gs
 
--- The source has the section at its place.
+-- The source has the section at its place, whose lines are the comment alone.
 pub record IsSectionAt (source : List ℕ) (comment : Comment) (s : Section) : Type 0 where
   pub front : List ℕ
   pub rest : List ℕ
@@ -200,10 +200,10 @@ line_feed_after front = line_ending_text (if ends_in_cr front then crlf else lf)
 abbrev pub comment_line_bytes : code.Repertoire → Style → List ℕ → List ℕ
 comment_line_bytes r style x = style.indent.now ++ (style.sign ∷ (gap_before style.blank.now x ++ (text_bytes r Prefix x ++ style.ending.now)))
 
--- The comment lines of a section are copied, or others are put in their place.
+-- The lines of a comment are copied, or others are put in their place.
 pub record IsHeadSet (t : Repertoire) (other : List ℕ) (s : Section) (old : Copied) (comment : Comment) (text : List ℕ) (new : Copied) : Type 0 where
   pub head : List ℕ
-  pub lines : HasLines t other s text head
+  pub lines : HasLines t other s.run s.group text head
   pub copied : copied_to new comment.headed.group.start ≡ copied_to old comment.headed.start ++ head
   pub done : new.done ≤ comment.headed.group.start
   pub source_is : new.source.now ≡ old.source.now

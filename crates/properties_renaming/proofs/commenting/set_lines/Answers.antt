@@ -33,7 +33,7 @@ returns c = on_ok_weaker c.replace.result (λ r t s prints h.
     ∙ ap (λ w. w ++ flat_map (comment_line_bytes look.repertoire style) (map characters c.deref.result.now)) c.new-new.ensures
     ∙ ap (λ w. flat_map (comment_line_bytes look.repertoire style) (map characters w)) c.deref.ensures.value
     ∙ lines-printed t look.repertoire style (map characters lines) prints in
-    head-replaced c.args.copied.now c.replace.new.self c.args.comment.now _ head (record {
+    head-replaced s c.args.copied.now c.replace.new.self c.args.comment.now _ head (record {
       texts = map characters texts;
       are_texts = h.are_texts;
       lines = map characters lines;

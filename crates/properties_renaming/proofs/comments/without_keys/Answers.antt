@@ -24,7 +24,8 @@ loop-copied-preserved-in_ok-replace c =
     let is = ap (λ w. is_some (value_of listed (outcome_of w))) (sym c.line.ensures) ∙ ap is_some (sym c.in_ok-value_of.ensures)
     ∙ sym c.is_some.ensures ∙ c.if-is_some.true in
     let has = listed-one (map characters c.args.keys.now) listed c.next_headed.new.view.group c.in_ok-listed.ensures is in
-    section-left_out c.in-Some.headed c.loop-copied.invariant takes c.in_ok-replace.ensures (inl (has, refl))
+    section-left_out c.in-Some.headed c.loop-copied.invariant takes c.in_ok-replace.ensures
+    (inl (has, (takes.above, takes.comment, takes.is_comment, refl)))
 
 pub loop-copied-preserved : goal.loop-copied-preserved
 loop-copied-preserved c =
