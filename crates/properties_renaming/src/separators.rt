@@ -9,7 +9,7 @@ ghost use Rattle.properties_renaming.specs.Private.Separators.{HasNoLines, Passe
 
 use crate::comment_lines::is_comment_line;
 use properties_editing::ViewedGroup;
-use properties_text::parse::leading_blanks;
+use properties_text::parse::{are_blanks, leading_blanks};
 
 /// The run in which the groups so far end: comment lines with one sign that directly follow each other.
 #[derive(Clone, Copy)]
@@ -44,13 +44,13 @@ impl LastRun {
         }
         let sign = sign_of(line);
         if sign == self.sign {
-            self.separates = self.separates && has_shape(line);
+            self.separates = self.separates && has_shape(line, sign);
             return false;
         }
         let separates = self.separates;
         *self = LastRun {
             sign,
-            separates: has_shape(line),
+            separates: has_shape(line, sign),
         };
         separates
     }
@@ -65,13 +65,15 @@ fn sign_of(line: &str) -> u8
     bytes[leading_blanks(bytes)]
 }
 
-// Returns whether a line has the shape of a separator.
-fn has_shape(line: &str) -> bool
+// Returns whether a comment line, which has this sign, has the shape of a separator.
+fn has_shape(line: &str, sign: u8) -> bool
+    requires line { is_comment_line (chars line.now) ≡ true }
+    requires sign { sign ≡ sign_of (chars line.now) }
     ensures { result ≡ has_shape (chars line.now) }
 {
-    let bytes = line.as_bytes();
-    if !bytes.starts_with(b"#---") && !bytes.starts_with(b"!---") {
+    let marker = [sign, b'-', b'-', b'-'];
+    if !line.as_bytes().starts_with(&marker) {
         return false;
     }
-    leading_blanks(&bytes[4..]) == bytes.len() - 4
+    are_blanks(&line[4..])
 }

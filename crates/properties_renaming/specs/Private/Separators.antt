@@ -1,6 +1,5 @@
 -- How separators among comment lines are found, as one group after another is passed.
 use Rattle.std.specs.Prelude.{◌≡◌, ◌⊎◌, ℕ, Bool, true, false, List, [], ◌∷◌, ◌++◌}
-use Rattle.properties_format.specs.Lines.{is_comment_line}
 use Rattle.properties_renaming.specs.Separators.{AreRuns, AreSeparated, EndSeparated, NoneSeparates, Run, are_separators, runs_lines}
 use Rattle.properties_renaming.specs.declared.separators.LastRun.{LastRun}
 
@@ -26,11 +25,11 @@ abbrev pub EndIn : List (List ℕ) → List (List ℕ) → LastRun → Type 0
 EndIn above below last = (above ≡ []) × (below ≡ []) × HasNoLines last ⊎ EndsInRun above below last
 
 -- the lines above and below, given whether a separator was found directly below them all
-abbrev pub above_if : Bool → List (List ℕ) → List (List ℕ) → List (List ℕ)
+abbrev pub above_if : {A : Type 0} → Bool → List A → List A → List A
 above_if true above below = above ++ below
 above_if false above below = above
 
-abbrev pub below_if : Bool → List (List ℕ) → List (List ℕ)
+abbrev pub below_if : {A : Type 0} → Bool → List A → List A
 below_if true below = []
 below_if false below = below
 
