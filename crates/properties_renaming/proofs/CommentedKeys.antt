@@ -270,6 +270,20 @@ given_section {next = next} t = record { run = t.run; group = next.group }
 abbrev pub given_comment : {now next : OpenView} {headed : Headed} → TakesHeaded now headed next → Section
 given_comment {next = next} t = record { run = t.comment; group = next.group }
 
+pub run-size : {now next : OpenView} {headed : Headed} (t : TakesHeaded now headed next)
+    → length (groups_bytes t.run) ≡ length (groups_bytes t.above) + length (groups_bytes t.comment)
+run-size t =
+    ap (λ gs. length (groups_bytes gs)) t.is_comment.division ∙ ap length (groups_bytes-append t.above t.comment)
+    ∙ length-append (groups_bytes t.above) (groups_bytes t.comment)
+
+pub start-ordered : {now next : OpenView} {headed : Headed} → TakesHeaded now headed next → headed.start ≤ headed.group.next
+start-ordered t =
+    let size = run-size t in
+    let start = t.start in
+    let group_start = t.group_start in
+    let next = t.is_group.next in
+    omega arith
+
 held-append : (gs hs : List (List HeldLine)) → length (held_in (gs ++ hs)) ≡ length (held_in gs) + length (held_in hs)
 held-append [] hs = omega arith
 held-append (f ∷ gs) hs =

@@ -49,7 +49,7 @@ use Rattle.properties_renaming.specs.declared.commenting.Comment.{Comment}
 use Rattle.properties_renaming.specs.declared.commenting.Style.{Style}
 use Rattle.properties_renaming.specs.declared.copied.Copied.{Copied}
 use Rattle.properties_renaming.proofs.CommentGroups.{comments-parts}
-use Rattle.properties_renaming.proofs.CommentedKeys.{IsMadeUpTo, given_comment}
+use Rattle.properties_renaming.proofs.CommentedKeys.{IsMadeUpTo, given_comment, run-size}
 use Rattle.properties_renaming.proofs.KeyPlaces.{ascii-front}
 use Rattle.properties_renaming.proofs.RenamedKeys.{bytes-front, copied-more, same-key}
 use Rattle.properties_renaming.proofs.SectionedGroups.{groups-append}
@@ -357,8 +357,7 @@ section-at {source = source} {v = v} {now} {next} comment o h (t, texts, model) 
     let rest = groups_bytes next.to_come in
     let began = t.start in
     let place = t.group_start in
-    let both : length (groups_bytes t.run) ≡ length above + length lines =
-    ap (λ gs. length (groups_bytes gs)) t.is_comment.division ∙ ap length (groups_bytes-append t.above t.comment) ∙ length-append above lines in
+    let both = run-size t in
     let group_start : next.start ≡ comment.headed.start + length lines = omega arith in
     let held = t.is_group in
     let size : length (take n source ++ above) ≡ n + length above =

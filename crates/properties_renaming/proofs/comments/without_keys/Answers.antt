@@ -3,11 +3,14 @@ use Rattle.std.specs.Prelude.{is_some, map}
 use Rattle.properties_format.specs.Computed.Items.{outcome_of}
 use Rattle.properties_items.specs.Texts.{characters}
 use Rattle.properties_renaming.specs.Private.Keyed.{value_of}
-use Rattle.properties_renaming.proofs.CommentedKeys.{all-made, headed-none, listed-none, listed-one, next-run, none-made, removed-all, section-kept, section-left_out}
+use Rattle.properties_renaming.proofs.CommentedKeys.{all-made, headed-none, listed-none, listed-one, next-run, none-made, removed-all, section-kept, section-left_out, start-ordered}
 use Rattle.properties_renaming.proofs.comments.without_keys.Goals as goal
 
 pub loop-copied-init : goal.loop-copied-init
 loop-copied-init c = none-made c.in_ok-view.ensures c.in_ok-copied.ensures
+
+pub replace-requires-clause-ordered : goal.replace-requires-clause-ordered
+replace-requires-clause-ordered c = start-ordered (rw c.in-Some.is at c.in_ok-headed.ensures.gives)
 
 pub replace-requires-clause-within : goal.replace-requires-clause-within
 replace-requires-clause-within c =
