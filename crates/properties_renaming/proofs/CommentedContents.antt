@@ -57,9 +57,10 @@ use Rattle.properties_format.proofs.Split.Blanks.{without_leading_blanks-only}
 use Rattle.properties_format.proofs.Split.Unique.{sign-full, split_of-meets}
 use Rattle.properties_format.proofs.Valued.Heads.{ascii-among}
 use Rattle.properties_format.proofs.Valued.Revalued.{text-own}
-use Rattle.properties_renaming.specs.CommentLines.{AreCommentGroups, IsCommentGroup}
+use Rattle.properties_renaming.specs.CommentLines.{AreCommentGroups, IsCommentGroup, lines_in_text}
 use Rattle.properties_renaming.specs.Sections.{AreMadeOf, AreSections, Section, groups_of, is_among}
-use Rattle.properties_renaming.specs.Commenting.{AreCommentsSet, HasLines, HaveKeys, IsCommented, IsStyleFor, LineStyle, NewText, comment_line, ending_or, gap_before, text_for, texts_of}
+use Rattle.properties_renaming.specs.Commenting.{AreCommentsSet, HasLines, HaveKeys, IsCommented, IsStyleFor, LineStyle, NewText, comment_line, ending_or, gap_before, other_sign, style_below, text_for, texts_of}
+use Rattle.properties_renaming.specs.Separators.{last_sign}
 use Rattle.properties_renaming.specs.Commented.{HasOneOf, IsLeftOf}
 use Rattle.properties_renaming.specs.Laws.{AreAmong, AreLastPairs, AreOthersIn, ChangedComment, OfTexts, RemovingWithCommentsKeepsTheRest, RemovingWithCommentsTakesTheValues, SettingCommentsKeepsTheMap, SettingCommentsKeepsTheRest, SettingPlainCommentsBreaksNothing, changed_keys, keys_of, with_new_comments, with_old_comments}
 use Rattle.properties_renaming.proofs.CommentGroups.{comment-no_key, comments-join, comments-parts, line-blank, line-pair}
@@ -94,6 +95,15 @@ record IsStyle (style : LineStyle) (by : LineEnding) : Type 0 where
   is_sign : is_comment_sign style.sign ≡ true
   blank : AreBlanks style.blank
   ending : style.ending ≡ line_ending_text by
+
+style-below : (separator : ℕ) (style : LineStyle) (by : LineEnding) → IsStyle style by → IsStyle (style_below separator style) by
+style-below separator style by look = record {
+  indent = look.indent;
+  is_sign = cond_both (style.sign == separator) (other_sign separator) style.sign (λ s. is_comment_sign s ≡ true)
+      (λ k. cond_both (separator == 35) 33 35 (λ s. is_comment_sign s ≡ true) (λ l. refl) (λ l. refl)) (λ k. look.is_sign);
+  blank = look.blank;
+  ending = look.ending;
+}
 
 -- ---- a new comment line is a group
 
@@ -438,12 +448,12 @@ sound-run : (run old more : List (List HeldLine)) → are_sound (run ++ old) →
 sound-run run old more sound k = sound-behind run old more (λ s. k) sound
 
 module _ (r : Repertoire) (ok : is_editable r.encoding ≡ true) (other : List ℕ) (o : (by : LineEnding) × (other ≡ line_ending_text by)) where
-  new-run : (run : List (List HeldLine)) (group : List HeldLine) (text head : List ℕ) → All scalar text → AreCommentGroups run → HasLines r other run group text head
+  new-run : (separator : ℕ) (run : List (List HeldLine)) (group : List HeldLine) (text head : List ℕ) → All scalar text → AreCommentGroups run → HasLines r other separator run group text head
       → IsNewRun r.encoding run text head
-  new-run run group text head scalars c h = by h.set
+  new-run separator run group text head scalars c h = by h.set
     where
       by : (h.texts ≡ h.lines) × (head ≡ groups_bytes run)
-          ⊎ (h.texts ≢ h.lines) × ((style : LineStyle) × IsStyleFor other run group style × (head ≡ flat_map (comment_line r style) h.lines))
+          ⊎ (h.texts ≢ h.lines) × ((style : LineStyle) × IsStyleFor other run group style × (head ≡ flat_map (comment_line r (style_below separator style)) h.lines))
           → IsNewRun r.encoding run text head
       by (inl (same, is)) = record {
         new = run;
@@ -452,8 +462,10 @@ module _ (r : Repertoire) (ok : is_editable r.encoding ≡ true) (other : List �
         bytes = sym is;
         clean = λ n old more sound k. sound-run run old more sound k;
       }
-      by (inr (apart, (style, is_style, is))) =
-          let look = style-is other run group style o is_style in
+      by (inr (apart, (plain, is_style, is))) =
+          let plain_look = style-is other run group plain o is_style in
+          let style = style_below separator plain in
+          let look : (by : LineEnding) × IsStyle style by = (plain_look.0, style-below separator plain plain_look.0 plain_look.1) in
           let lines = subst AreScalarLines (sym h.are_lines.texts_are)
           (scalar-lines h.are_lines.lines.ended h.are_lines.lines.last h.are_lines.are_lines.are_lines
           (subst (AllByRecursion scalar) h.are_lines.are_lines.text (recursion_from_All scalar text scalars))) in
@@ -655,7 +667,7 @@ module _ (r : Repertoire) (ok : is_editable r.encoding ≡ true) (other : List �
       let holds = text-of (All scalar) texts l.key text scalars l.is_text in
       let above = groups_bytes set.above in
       let parts = comments-parts set.above set.comment (subst AreCommentGroups set.is_comment.division a.0) in
-      let run = run-behind set.above set.comment parts.0 set.is_comment.division (new-run r ok other o set.comment s.group text set.head holds.0 parts.1 set.lines) in
+      let run = run-behind set.above set.comment parts.0 set.is_comment.division (new-run r ok other o (last_sign (lines_in_text set.above)) set.comment s.group text set.head holds.0 parts.1 set.lines) in
       run-changed s l.key a.0 l.has_key (none-rest l.key ss last tail (λ k. none l.key) l.no_later) holds.1
       (λ c. (text-of HoldsNoBackslash texts l.key text c l.is_text).0) m run
       (whole ∙ ap (λ w. w ++ more) (set.made_is ∙ sym (append_assoc above set.head (group_bytes s.group))))

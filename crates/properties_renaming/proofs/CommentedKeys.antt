@@ -180,6 +180,12 @@ module _ {v now next : OpenView} {above comment : List (List HeldLine)} {begun b
   unfolding headed-next
   headed-next-comment new h t p is at other = refl
 
+  pub headed-next-above : (new : LastRun) (h : ArePassed v now above comment begun old) (t : TakesNext now group next)
+      (p : PassesGroup (is_line_of_comment group) (viewed_line next) old found new) (is : begun' ≡ (if found then None else begun))
+      (at : start ≡ unwrap_or begun' group.start) (other : is_line_of_comment group ≡ false) → (headed-next new h t p is at other).above ≡ above_if found above comment
+  unfolding headed-next
+  headed-next-above new h t p is at other = refl
+
 pub headed-nearer : {v now next : OpenView} {above comment : List (List HeldLine)} {begun : Option ℕ} {last : LastRun} {group : ViewedGroup}
     → ArePassed v now above comment begun last → TakesNext now group next → length next.to_come < length v.to_come
 headed-nearer {now = now} {next} h t =

@@ -11,15 +11,18 @@ use Rattle.properties_format.proofs.Body.Groups.{groups_bytes-append}
 use Rattle.properties_items.specs.Texts.{characters}
 use Rattle.properties_editing.specs.Views.{OpenView, TakesNext, viewed_line, past_group}
 use Rattle.properties_editing.specs.declared.group.ViewedGroup.{ViewedGroup}
-use Rattle.properties_renaming.specs.CommentLines.{AreCommentGroups, AreCommentTexts, IsCommentLine, is_line_of_comment}
+use Rattle.properties_renaming.specs.CommentLines.{AreCommentGroups, AreCommentTexts, IsCommentLine, is_line_of_comment, lines_in_text}
 use Rattle.properties_renaming.specs.Commenting.{HaveNoText}
+use Rattle.properties_renaming.specs.Separators.{last_sign}
 use Rattle.properties_renaming.specs.Private.Commented.{TakesHeaded}
 use Rattle.properties_renaming.specs.Private.Commenting.{GivesComment, IsGroupAt, IsModel, TakesComment, TellsModel, first_model, texts_above}
-use Rattle.properties_renaming.specs.Private.Separators.{HasNoLines, PassesGroup, above_if, below_if}
+use Rattle.properties_renaming.specs.Private.Separators.{EndIn, HasNoLines, PassesGroup, above_if, below_if}
 use Rattle.properties_renaming.specs.declared.comments.Headed.{Headed}
 use Rattle.properties_renaming.specs.declared.commenting.Comment.{Comment}
 use Rattle.properties_renaming.specs.declared.separators.LastRun.{LastRun}
-use Rattle.properties_renaming.proofs.CommentedKeys.{ArePassed, headed-next, headed-next-comment, is-begun, moved, none-passed, one-passed, same-start}
+use Rattle.properties_renaming.proofs.CommentGroups.{texts-append}
+use Rattle.properties_renaming.proofs.SeparatedRuns.{end-sign}
+use Rattle.properties_renaming.proofs.CommentedKeys.{ArePassed, headed-next, headed-next-above, headed-next-comment, is-begun, moved, none-passed, one-passed, same-start}
 
 -- ---- one comment line more
 
@@ -67,16 +70,17 @@ model-more start gs g (c ∷ cs) None line h is at = record {
 -- ---- the comment lines above a group
 
 -- Comment lines alone were passed, and these are the texts of the comment so far.
-pub record AreGathered {Z : Type 0} (v now : OpenView) (begun : Option ℕ) (last : LastRun) (texts : List (String Z)) (model : Option ViewedGroup) : Type 0 where
+pub record AreGathered {Z : Type 0} (v now : OpenView) (begun : Option ℕ) (last : LastRun) (texts : List (String Z)) (model : Option ViewedGroup) (separator : ℕ) : Type 0 where
   pub above : List (List HeldLine)
   pub comment : List (List HeldLine)
   pub passed : ArePassed v now above comment begun last
   pub are_texts : AreCommentTexts comment (map characters texts)
   pub tells_model : TellsModel ((past_group v).start + length (groups_bytes above)) comment model
+  pub separator_is : separator ≡ last_sign (lines_in_text above)
 
-pub none-gathered : {Z : Type 0} (v : OpenView) (last : LastRun) (texts : List (String Z)) → HasNoLines last → texts ≡ [] → AreGathered v v None last texts None
+pub none-gathered : {Z : Type 0} (v : OpenView) (last : LastRun) (texts : List (String Z)) → HasNoLines last → texts ≡ [] → AreGathered v v None last texts None 0
 none-gathered v last texts no_lines none =
-    record { above = []; comment = []; passed = none-passed v last no_lines; are_texts = ap (map characters) none; tells_model = tt }
+    record { above = []; comment = []; passed = none-passed v last no_lines; are_texts = ap (map characters) none; tells_model = tt; separator_is = refl }
 
 at-group : {now next : OpenView} (group : ViewedGroup) → TakesNext now group next → IsGroupAt (past_group now).start next.group group
 at-group {now} {next} group t =
@@ -100,13 +104,20 @@ model-begun : (found : Bool) (n : ℕ) (above comment : List (List HeldLine)) (m
 model-begun true n above comment model model' h is = subst (TellsModel (n + length (groups_bytes (above ++ comment))) []) (sym is) tt
 model-begun false n above comment model model' h is = subst (TellsModel (n + length (groups_bytes above)) comment) (sym is) h
 
+separator-begun : (found : Bool) (above comment : List (List HeldLine)) (old : LastRun) (separator separator' : ℕ) → EndIn (lines_in_text above) (lines_in_text comment) old
+    → separator ≡ last_sign (lines_in_text above) → separator' ≡ (if found then old.sign else separator)
+    → separator' ≡ last_sign (lines_in_text (above_if found above comment))
+separator-begun true above comment old separator separator' e h is =
+    is ∙ sym (end-sign (lines_in_text above) (lines_in_text comment) old e) ∙ ap last_sign (sym (texts-append above comment))
+separator-begun false above comment old separator separator' e h is = is ∙ h
+
 module _ {v now next : OpenView} {begun begun' : Option ℕ} {old : LastRun} (group : ViewedGroup) (start : ℕ) (found : Bool) where
-  pub one-gathered : {Z : Type 0} {last : LastRun} {texts : List (String Z)} {model : Option ViewedGroup} (texts' new : List (String Z)) (model' : Option ViewedGroup) (made : String Z) (text : List ℕ)
-      → AreGathered v now begun old texts model → TakesNext now group next → PassesGroup (is_line_of_comment group) (viewed_line next) old found last
+  pub one-gathered : {Z : Type 0} {last : LastRun} {texts : List (String Z)} {model : Option ViewedGroup} (texts' new : List (String Z)) (model' : Option ViewedGroup) {separator : ℕ} (separator' : ℕ)
+      (made : String Z) (text : List ℕ) → AreGathered v now begun old texts model separator → TakesNext now group next → PassesGroup (is_line_of_comment group) (viewed_line next) old found last
       → begun' ≡ (if found then None else begun) → texts' ≡ below_if found texts → model' ≡ (if found then None else model)
-      → start ≡ unwrap_or begun' group.start → is_line_of_comment group ≡ true → IsCommentLine (viewed_line next) text
-      → characters made ≡ text → new ≡ texts' ++ made ∷ [] → AreGathered v next (Some start) last new (first_model model' group text)
-  one-gathered {texts = texts} {model} texts' new model' made text h t p begun_is texts_is model_is at line says copied pushed =
+      → separator' ≡ (if found then old.sign else separator) → start ≡ unwrap_or begun' group.start → is_line_of_comment group ≡ true → IsCommentLine (viewed_line next) text
+      → characters made ≡ text → new ≡ texts' ++ made ∷ [] → AreGathered v next (Some start) last new (first_model model' group text) separator'
+  one-gathered {texts = texts} {model} texts' new model' {separator} separator' made text h t p begun_is texts_is model_is separator_is at line says copied pushed =
       let g = next.group in
       let n = (past_group v).start in
       let up = above_if found h.above h.comment in
@@ -126,23 +137,29 @@ module _ {v now next : OpenView} {begun begun' : Option ℕ} {old : LastRun} (gr
         tells_model = model-more (n + length (groups_bytes up)) low g text model' group
             (model-begun found n h.above h.comment model model' h.tells_model model_is) says
             (subst (λ k. IsGroupAt k g group) (sym place) (at-group group t));
+        separator_is = separator-begun found h.above h.comment old separator separator' h.passed.ends h.separator_is separator_is;
       }
 
   -- Another group comes after them.
-  pub comment-next : (last : LastRun) {texts : List (String Global)} {model : Option ViewedGroup} (comment : Comment) → AreGathered v now begun old texts model
+  pub comment-next : (last : LastRun) {texts : List (String Global)} {model : Option ViewedGroup} {separator : ℕ} (comment : Comment) → AreGathered v now begun old texts model separator
       → TakesNext now group next → PassesGroup (is_line_of_comment group) (viewed_line next) old found last → begun' ≡ (if found then None else begun)
-      → comment.texts.items ≡ below_if found texts → comment.model ≡ (if found then None else model) → comment.headed ≡ record { start = start; group = group }
+      → comment.texts.items ≡ below_if found texts → comment.model ≡ (if found then None else model) → comment.separator ≡ (if found then old.sign else separator)
+      → comment.headed ≡ record { start = start; group = group }
       → start ≡ unwrap_or begun' group.start → is_line_of_comment group ≡ false → TakesComment v comment next
-  comment-next last {texts} {model} comment h t p begun_is texts_is model_is same at other =
+  comment-next last {texts} {model} {separator} comment h t p begun_is texts_is model_is separator_is same at other =
       let k = headed-next group start found last h.passed t p begun_is at other in
       let lines : k.comment ≡ below_if found h.comment = headed-next-comment group start found last h.passed t p begun_is at other in
+      let up : k.above ≡ above_if found h.above h.comment = headed-next-above group start found last h.passed t p begun_is at other in
       let above = same-start group start found h.passed t begun_is at in
-      let Such : Headed → Type 0 = λ headed. (f : TakesHeaded v headed next) × AreCommentTexts f.comment (texts_above comment) × TellsModel headed.start f.comment comment.model in
+      let Such : Headed → Type 0 = λ headed. (f : TakesHeaded v headed next) × AreCommentTexts f.comment (texts_above comment) × TellsModel headed.start f.comment comment.model
+      × (comment.separator ≡ last_sign (lines_in_text f.above)) in
       let made : Such (record { start = start; group = group }) = (
         k,
         subst (λ r. AreCommentTexts r (texts_above comment)) (sym lines) (texts-begun found h.comment texts comment.texts.items h.are_texts texts_is),
         subst (λ r. TellsModel start r comment.model) (sym lines) (subst (λ n. TellsModel n (below_if found h.comment) comment.model) (sym above)
         (model-begun found (past_group v).start h.above h.comment model comment.model h.tells_model model_is)),
+        subst (λ r. comment.separator ≡ last_sign (lines_in_text r)) (sym up)
+            (separator-begun found h.above h.comment old separator comment.separator h.passed.ends h.separator_is separator_is),
       ) in
       subst Such (sym same) made
 

@@ -349,7 +349,7 @@ bytes-among (f ∷ before) g after h = bytes-among before g after h.1
 -- The next comment of a view, and its group, are at their place.
 pub section-at : {Makes : Section → List (List HeldLine) → List ℕ → Type 0} {e : Encoding} {source : List ℕ} {v now next : OpenView} {c : Copied} (comment : Comment)
     → IsViewOf e source v → IsMadeUpTo Makes source v now c → (t : TakesComment now comment next) → IsSectionAt source comment (given_comment t.0)
-section-at {source = source} {v = v} {now} {next} comment o h (t, texts, model) =
+section-at {source = source} {v = v} {now} {next} comment o h (t, texts, model, separator) =
     let n = (past_group now).start in
     let above = groups_bytes t.above in
     let lines = groups_bytes t.comment in
@@ -458,7 +458,7 @@ section-bytes {s = s} h = (
 
 -- They are copied,
 pub head-kept : {t : Repertoire} {other : List ℕ} {s : Section} (c : Copied) (comment : Comment) (text : List ℕ) → IsSectionAt c.source.now comment s
-    → c.done ≤ comment.headed.start → HasLines t other s.run s.group text (groups_bytes s.run) → IsHeadSet t other s c comment text c
+    → c.done ≤ comment.headed.start → HasLines t other comment.separator s.run s.group text (groups_bytes s.run) → IsHeadSet t other s c comment text c
 head-kept {s = s} c comment text h done lines =
     let (place, bytes) = section-bytes h in
     record {
@@ -472,7 +472,7 @@ head-kept {s = s} c comment text h done lines =
     }
 
 -- or replaced.
-pub head-replaced : {t : Repertoire} {other : List ℕ} (s : Section) (c c' : Copied) (comment : Comment) (text head : List ℕ) → HasLines t other s.run s.group text head
+pub head-replaced : {t : Repertoire} {other : List ℕ} (s : Section) (c c' : Copied) (comment : Comment) (text head : List ℕ) → HasLines t other comment.separator s.run s.group text head
     → IsReplacedIn c comment.headed.start comment.headed.group.start head c' → IsHeadSet t other s c comment text c'
 head-replaced s c c' comment text head lines r =
     let end = comment.headed.group.start in

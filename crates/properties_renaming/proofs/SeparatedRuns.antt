@@ -4,7 +4,7 @@ use Rattle.std.specs.Prelude.{◌&&◌, get_or}
 use Rattle.std.proofs.lemmas.Bool.{cases_Bool}
 use Rattle.properties_format.specs.Text.{begins, is_comment_sign, without_leading_blanks}
 use Rattle.properties_format.specs.Lines.{is_comment_line}
-use Rattle.properties_renaming.specs.Separators.{AreRuns, AreSeparated, BeginOtherwise, EndSeparated, HaveSign, NoneSeparates, Run, are_separators, has_shape, have_shape, run_lines, runs_lines, sign_of}
+use Rattle.properties_renaming.specs.Separators.{AreRuns, AreSeparated, BeginOtherwise, EndSeparated, HaveSign, NoneSeparates, Run, are_separators, has_shape, have_shape, last_sign, run_lines, runs_lines, sign_of}
 use Rattle.properties_renaming.specs.Private.Separators.{EndIn, EndsInRun, HasNoLines, PassesGroup, above_if, below_if}
 use Rattle.properties_renaming.specs.declared.separators.LastRun.{LastRun}
 
@@ -263,6 +263,27 @@ none-separated = record { runs_above = []; runs_below = []; are_runs = tt; are_a
 
 pub none-passed : (last : LastRun) → HasNoLines last → EndIn [] [] last
 none-passed last h = inl (refl, refl, h)
+
+run-signs : (rs : List Run) (r : Run) → AreRuns (rs ++ r ∷ []) → HaveSign r.sign (run_lines r)
+run-signs [] r h = h.0
+run-signs (s ∷ rs) r h = run-signs rs r h.2
+
+last-of : (sign : ℕ) (ys : List (List ℕ)) (x : List ℕ) (xs : List (List ℕ)) → HaveSign sign (x ∷ xs) → last_sign (ys ++ x ∷ xs) ≡ sign
+last-of sign [] x [] h = h.0
+last-of sign [] x (y ∷ xs) h = last-of sign [] y xs h.1
+last-of sign (y ∷ []) x xs h = last-of sign [] x xs h
+last-of sign (y ∷ z ∷ ys) x xs h = last-of sign (z ∷ ys) x xs h
+
+-- The last line has the sign of the last run.
+pub end-sign : (above below : List (List ℕ)) (last : LastRun) → EndIn above below last → last_sign (above ++ below) ≡ last.sign
+end-sign above below last (inl (a, b, n)) = rw (a, b) (sym n.0)
+end-sign above below last (inr h) =
+    let rs = h.runs_above ++ h.runs_below in
+    let runs = sym (append_assoc h.runs_above h.runs_below (h.run ∷ [])) in
+    let lines : above ++ below ≡ runs_lines rs ++ run_lines h.run =
+    ap₂ (λ a b. a ++ b) h.are_above h.are_below ∙ sym (runs-append h.runs_above (h.runs_below ++ h.run ∷ [])) ∙ ap runs_lines runs ∙ runs-append rs (h.run ∷ [])
+    ∙ ap (λ w. runs_lines rs ++ w) (append-nil (run_lines h.run)) in
+    ap last_sign lines ∙ last-of h.run.sign (runs_lines rs) h.run.first h.run.others (run-signs rs h.run (subst AreRuns runs h.are_runs)) ∙ sym h.sign
 
 -- What is known of the lines above another group,
 pub passes-other : (x : List ℕ) (old new : LastRun) → HasNoLines new → PassesGroup false x old old.separates new

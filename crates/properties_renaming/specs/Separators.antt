@@ -22,6 +22,12 @@ have_shape (x ∷ xs) = has_shape x && have_shape xs
 abbrev pub sign_of : List ℕ → ℕ
 sign_of line = get_or (without_leading_blanks line) 0 0
 
+-- the sign of the last of these comment lines; 0 if there is none
+abbrev pub last_sign : List (List ℕ) → ℕ
+last_sign [] = 0
+last_sign (x ∷ []) = sign_of x
+last_sign (x ∷ y ∷ ys) = last_sign (y ∷ ys)
+
 -- Each of the lines has this sign.
 abbrev pub HaveSign : ℕ → List (List ℕ) → Type 0
 HaveSign sign [] = Unit {0}

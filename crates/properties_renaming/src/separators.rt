@@ -15,7 +15,7 @@ use properties_text::parse::{are_blanks, leading_blanks};
 #[derive(Clone, Copy)]
 pub struct LastRun {
     // The sign, or 0 if there are no lines.
-    sign: u8,
+    pub(crate) sign: u8,
     // Whether there are lines, and each has the shape of a separator.
     separates: bool,
 }

@@ -18,10 +18,11 @@ use Rattle.properties_items.specs.Texts.{characters}
 use Rattle.properties_items.specs.declared.error.PropertiesError.{PropertiesError}
 use Rattle.properties_editing.specs.Views.{OpenView, past_group}
 use Rattle.properties_editing.specs.declared.group.ViewedGroup.{ViewedGroup}
-use Rattle.properties_renaming.specs.CommentLines.{AreCommentGroups, AreCommentTexts, IsCommentLine}
+use Rattle.properties_renaming.specs.CommentLines.{AreCommentGroups, AreCommentTexts, IsCommentLine, lines_in_text}
 use Rattle.properties_renaming.specs.Commenting.{AreCommentsSet, HasLines, HasNoPairFor, HaveNoText, IsCommented, IsStyleFor, LineStyle, NewText, gap_before, text_for, texts_of}
 use Rattle.properties_renaming.specs.Renaming.{AreIn}
 use Rattle.properties_renaming.specs.Sections.{AreDivided, AreMadeOf, Section}
+use Rattle.properties_renaming.specs.Separators.{last_sign}
 use Rattle.properties_renaming.specs.Private.Commented.{IsUnopened, TakesHeaded}
 use Rattle.properties_renaming.specs.Private.Copied.{copied_to}
 use Rattle.properties_renaming.specs.Private.Keyed.{value_at, value_of}
@@ -67,6 +68,7 @@ texts_above comment = map characters comment.texts.items
 abbrev pub TakesComment : OpenView → Comment → OpenView → Type 0
 TakesComment old comment new =
     (h : TakesHeaded old comment.headed new) × AreCommentTexts h.comment (texts_above comment) × TellsModel comment.headed.start h.comment comment.model
+    × (comment.separator ≡ last_sign (lines_in_text h.above))
 
 -- or comment lines alone were to come.
 abbrev pub GivesComment : OpenView → Option Comment → OpenView → Type 0
@@ -203,7 +205,7 @@ comment_line_bytes r style x = style.indent.now ++ (style.sign ∷ (gap_before s
 -- The lines of a comment are copied, or others are put in their place.
 pub record IsHeadSet (t : Repertoire) (other : List ℕ) (s : Section) (old : Copied) (comment : Comment) (text : List ℕ) (new : Copied) : Type 0 where
   pub head : List ℕ
-  pub lines : HasLines t other s.run s.group text head
+  pub lines : HasLines t other comment.separator s.run s.group text head
   pub copied : copied_to new comment.headed.group.start ≡ copied_to old comment.headed.start ++ head
   pub done : new.done ≤ comment.headed.group.start
   pub source_is : new.source.now ≡ old.source.now

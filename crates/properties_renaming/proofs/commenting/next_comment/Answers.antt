@@ -36,6 +36,10 @@ loop-texts-preserved c =
       | then-pass w ↦ rw w.if-pass.true w.model-is
       | else-pass w ↦ rw w.if-pass.false w.model-is
     ] in
+    let separator : c.if-pass.separator ≡ (if found then c.loop-texts.last.sign else c.loop-texts.separator) = elim c.if-pass.branch [
+      | then-pass w ↦ rw w.if-pass.true w.separator-is
+      | else-pass w ↦ rw w.if-pass.false w.separator-is
+    ] in
     let texts : c.if-pass.texts.items ≡ below_if found c.loop-texts.texts.items = elim c.if-pass.branch [
       | then-pass w ↦ rw (w.texts-is, w.clear.ensures.items, w.if-pass.true) refl
       | else-pass w ↦ rw (w.texts-is, w.if-pass.false) refl
@@ -43,9 +47,9 @@ loop-texts-preserved c =
     let passes = subst (λ x. PassesGroup (is_line_of_comment c.in-Some.group) x c.loop-texts.last found c.pass.new.self) c.line.ensures c.pass.ensures in
     let text = chars c.comment_text-text.result.now in
     let says = subst (λ x. IsCommentLine x text) c.line-in-Some.ensures c.comment_text-text.ensures in
-    subst (AreGathered c.args.view.now c.next.new.self (Some c.unwrap_or-start.result) c.pass.new.self c.push.new.self.items) (sym c.first_model-model.ensures)
-    (one-gathered c.in-Some.group c.unwrap_or-start.result found c.if-pass.texts.items c.push.new.self.items c.if-pass.model c.in_ok-from_str.field-0 text c.loop-texts.invariant takes
-    passes begun texts model c.unwrap_or-start.ensures (sym c.is_comment_line.ensures ∙ on) says (ap chars c.in_ok-from_str.ensures.ok) c.in_ok-push.ensures.items)
+    subst (λ m. AreGathered c.args.view.now c.next.new.self (Some c.unwrap_or-start.result) c.pass.new.self c.push.new.self.items m c.if-pass.separator) (sym c.first_model-model.ensures)
+    (one-gathered c.in-Some.group c.unwrap_or-start.result found c.if-pass.texts.items c.push.new.self.items c.if-pass.model c.if-pass.separator c.in_ok-from_str.field-0 text c.loop-texts.invariant takes
+    passes begun texts model separator c.unwrap_or-start.ensures (sym c.is_comment_line.ensures ∙ on) says (ap chars c.in_ok-from_str.ensures.ok) c.in_ok-push.ensures.items)
 
 pub returns-then-not-is_comment_line-clause-gives : goal.returns-then-not-is_comment_line-clause-gives
 returns-then-not-is_comment_line-clause-gives c =
@@ -60,14 +64,18 @@ returns-then-not-is_comment_line-clause-gives c =
       | then-pass w ↦ rw w.if-pass.true w.model-is
       | else-pass w ↦ rw w.if-pass.false w.model-is
     ] in
+    let separator : c.if-pass.separator ≡ (if found then c.loop-texts.last.sign else c.loop-texts.separator) = elim c.if-pass.branch [
+      | then-pass w ↦ rw w.if-pass.true w.separator-is
+      | else-pass w ↦ rw w.if-pass.false w.separator-is
+    ] in
     let texts : c.if-pass.texts.items ≡ below_if found c.loop-texts.texts.items = elim c.if-pass.branch [
       | then-pass w ↦ rw (w.texts-is, w.clear.ensures.items, w.if-pass.true) refl
       | else-pass w ↦ rw (w.texts-is, w.if-pass.false) refl
     ] in
     let passes = subst (λ x. PassesGroup (is_line_of_comment c.in-Some.group) x c.loop-texts.last found c.pass.new.self) c.line.ensures c.pass.ensures in
     comment-next c.in-Some.group c.unwrap_or-start.result found c.pass.new.self
-    (record { headed = record { start = c.unwrap_or-start.result; group = c.in-Some.group }; texts = c.if-pass.texts; model = c.if-pass.model })
-    c.loop-texts.invariant takes passes begun texts model refl c.unwrap_or-start.ensures (sym c.is_comment_line.ensures ∙ off)
+    (record { headed = record { start = c.unwrap_or-start.result; group = c.in-Some.group }; texts = c.if-pass.texts; model = c.if-pass.model; separator = c.if-pass.separator })
+    c.loop-texts.invariant takes passes begun texts model separator refl c.unwrap_or-start.ensures (sym c.is_comment_line.ensures ∙ off)
 
 pub returns-then-not-is_comment_line-clause-nearer : goal.returns-then-not-is_comment_line-clause-nearer
 returns-then-not-is_comment_line-clause-nearer c =

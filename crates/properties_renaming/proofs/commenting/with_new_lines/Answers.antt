@@ -9,9 +9,11 @@ use Rattle.properties_format.specs.Computed.Items.{outcome_of}
 use Rattle.properties_text.specs.Encoding.{encoding_of}
 use Rattle.properties_editing.specs.Editing.{asked_for}
 use Rattle.properties_editing.specs.Views.{AreGiven}
+use Rattle.properties_renaming.specs.CommentLines.{lines_in_text}
 use Rattle.properties_renaming.specs.Commenting.{HasLines, NewText, text_in, texts_in}
 use Rattle.properties_renaming.specs.Renaming.{AreIn}
 use Rattle.properties_renaming.specs.Sections.{groups_of}
+use Rattle.properties_renaming.specs.Separators.{last_sign}
 use Rattle.properties_renaming.specs.Private.Commenting.{IsSectionAt}
 use Rattle.properties_renaming.specs.Private.Keyed.{value_of}
 use Rattle.properties_renaming.specs.declared.commenting.NewComment.{NewComment}
@@ -80,8 +82,9 @@ loop-copied-preserved c =
           let body = take_all (length source - start) (drop start source) (let size = length-drop start source in omega arith)
           ∙ ap (λ x. let f : InForce = x in f.body) (sym c.encoding_in_force-encoding.ensures.in_force) in
           let ending = ending-viewed o _ c.last_ending.result.now body c.last_ending.ensures in
-          let made = subst (λ x. HasLines (repertoire_in_force r source) x t.comment s.group (get_or texts i any-text).text set.head) ending
-          (subst (λ x. HasLines (repertoire_in_force r source) c.last_ending.result.now t.comment s.group x set.head) own set.lines) in
+          let made = subst (λ x. HasLines (repertoire_in_force r source) x (last_sign (lines_in_text t.above)) t.comment s.group (get_or texts i any-text).text set.head) ending
+          (subst (λ x. HasLines (repertoire_in_force r source) c.last_ending.result.now x t.comment s.group (get_or texts i any-text).text set.head) takes.3
+          (subst (λ x. HasLines (repertoire_in_force r source) c.last_ending.result.now comment.separator t.comment s.group x set.head) own set.lines)) in
           rw w.copied-is
           (section-headed comment.headed set.head h t set.source_is set.done set.copied (inl (
             (get_or texts i any-text).text,
