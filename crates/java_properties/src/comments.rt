@@ -6,7 +6,7 @@ ghost use Rattle.properties_format.specs.Lines.{is_comment_line};
 ghost use Rattle.properties_text.specs.Encoding.{encoding_of};
 ghost use Rattle.properties_renaming.specs.CommentLines.{is_line_of_comment};
 ghost use Rattle.java_properties.specs.Commented.{TellsComment, TellsCommentIn};
-ghost use Rattle.java_properties.specs.Private.PassedGroups.{AddsPassedLine, IsKindOf, PassesGroup, TellsKey, after_other, passed_texts};
+ghost use Rattle.java_properties.specs.Private.PassedGroups.{AddsPassedLine, IsKindOf, LeavesOut, PassesGroup, TellsKey, after_other, passed_texts};
 
 use properties_editing::{Document, GroupKind, View, ViewedGroup};
 use properties_items::error::PropertiesError;
@@ -95,9 +95,7 @@ impl Passed {
         ensures { PassesGroup (is_line_of_comment group) group.line_number (chars line.now) (chars key.now)
             (passed_texts self.old) result (passed_texts self.new) }
     {
-        if self.last.pass(group, line) {
-            self.above.clear();
-        }
+        self.separate(group, line);
         if is_comment_line(group) {
             return Ok(self.add_line(alloc, line)?);
         }
@@ -107,6 +105,16 @@ impl Passed {
             self.above.clear();
         }
         Ok(())
+    }
+
+    // Leaves out the comment lines that came last if they end in a separator.
+    fn separate(&mut self, group: ViewedGroup, line: &str)
+        requires { is_line_of_comment group ≡ true → is_comment_line (chars line.now) ≡ true }
+        ensures { LeavesOut (is_line_of_comment group) (chars line.now) (passed_texts self.old) (passed_texts self.new) }
+    {
+        if self.last.pass(group, line) {
+            self.above.clear();
+        }
     }
 
     // Adds the text of a comment line.

@@ -1,6 +1,6 @@
 -- Which groups are comment lines.
-use Rattle.std.proofs.Common.{◌≡◌, ℕ, true, false, List, [], ◌∷◌, ◌++◌, length, refl, sym, ap, ap₂, ◌∙◌, inl, inr, arith}
-use Rattle.std.specs.Prelude.{◌==◌, ◌&&◌}
+use Rattle.std.proofs.Common.{◌≡◌, ℕ, true, false, List, [], ◌∷◌, ◌++◌, length, refl, sym, ap, ap₂, ◌∙◌, inl, inr, append-nil, arith}
+use Rattle.std.specs.Prelude.{Bool, ◌==◌, ◌&&◌}
 use Rattle.std.proofs.lemmas.Bool.{cases_Bool}
 use Rattle.properties_format.specs.Text.{is_blank, is_comment_sign, begins, without_leading_blanks}
 use Rattle.properties_format.specs.Lines.{is_comment_line, is_open, joined, without_last, without_open_backslash}
@@ -11,6 +11,7 @@ use Rattle.properties_format.proofs.Split.Blanks.{without_leading_blanks-blanks,
 use Rattle.properties_format.proofs.Split.Unique.{sign-full}
 use Rattle.properties_format.proofs.Valued.Parts.{comment_line-no_pair}
 use Rattle.properties_renaming.specs.CommentLines.{AreCommentGroups, IsCommentGroup, IsCommentIn, lines_in_text}
+use Rattle.properties_renaming.specs.Private.Separators.{above_if, below_if}
 use Rattle.properties_renaming.proofs.SeparatedRuns.{one-separated}
 
 -- ---- comment lines
@@ -85,6 +86,18 @@ comments-join (f ∷ fs) gs c k = (c.0, comments-join fs gs c.1 k)
 pub texts-append : (fs gs : List (List HeldLine)) → lines_in_text (fs ++ gs) ≡ lines_in_text fs ++ lines_in_text gs
 texts-append [] gs = refl
 texts-append (f ∷ fs) gs = ap (λ w. joined (as_lines f) ∷ w) (texts-append fs gs)
+
+pub above-texts : (found : Bool) (fs gs : List (List HeldLine)) → above_if found (lines_in_text fs) (lines_in_text gs) ≡ lines_in_text (above_if found fs gs)
+above-texts true fs gs = sym (texts-append fs gs)
+above-texts false fs gs = refl
+
+pub below-texts : (found : Bool) (gs : List (List HeldLine)) → below_if found (lines_in_text gs) ≡ lines_in_text (below_if found gs)
+below-texts true gs = refl
+below-texts false gs = refl
+
+pub whole-if : (found : Bool) (fs gs : List (List HeldLine)) → fs ++ gs ≡ above_if found fs gs ++ below_if found gs
+whole-if true fs gs = sym (append-nil (fs ++ gs))
+whole-if false fs gs = refl
 
 texts-length : (gs : List (List HeldLine)) → length (lines_in_text gs) ≡ length gs
 texts-length [] = refl

@@ -1,13 +1,14 @@
 use Rattle.std.proofs.Common.{◌≡◌, ◌∙◌, refl, sym, true, false, rules}
 use Rattle.std.specs.Prelude.{◌&&◌}
 use Rattle.std.specs.Str.{chars}
+use Rattle.properties_renaming.specs.CommentLines.{is_line_of_comment}
 use Rattle.properties_renaming.specs.Separators.{has_shape}
 use Rattle.properties_renaming.proofs.SeparatedRuns.{passes-new, passes-other, passes-same}
 use Rattle.properties_renaming.proofs.separators.LastRun.pass.Goals as goal
 use Rattle.properties_renaming.proofs.separators.LastRun.pass.Goals.{then-self, else-self}
 
-pub returns-then-not-is_line : goal.returns-then-not-is_line
-returns-then-not-is_line c =
+pub returns-then-not-is_comment_line : goal.returns-then-not-is_comment_line
+returns-then-not-is_comment_line c =
     let off : is_line_of_comment c.args.group ≡ false = search rules in
     rw off (passes-other (chars c.args.line.now) c.args.self.now c.new.result c.new.ensures)
 
