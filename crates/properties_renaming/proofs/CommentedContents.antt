@@ -481,16 +481,16 @@ module _ (r : Repertoire) (ok : is_editable r.encoding ≡ true) (other : List �
           }
 
 -- Lines above the comment stay.
-run-behind : {e : Encoding} {run : List (List HeldLine)} {text head : List ℕ} (above comment : List (List HeldLine)) → AreCommentGroups above → run ≡ above ++ comment
-    → IsNewRun e comment text head → IsNewRun e run text (groups_bytes above ++ head)
-run-behind {e} {run} {text} {head} above comment c division n = subst (λ gs. IsNewRun e gs text (groups_bytes above ++ head)) (sym division) (record {
+run-behind : {e : Encoding} {run : List (List HeldLine)} {text head : List ℕ} (above low : List (List HeldLine)) → AreCommentGroups above → run ≡ above ++ low
+    → IsNewRun e low text head → IsNewRun e run text (groups_bytes above ++ head)
+run-behind {e} {run} {text} {head} above low c division n = subst (λ gs. IsNewRun e gs text (groups_bytes above ++ head)) (sym division) (record {
   new = above ++ n.new;
   comments = comments-join above n.new c n.comments;
-  ended = λ k. ended-join e above n.new (ended-first e above comment k) (n.ended (ended-last e above comment k));
+  ended = λ k. ended-join e above n.new (ended-first e above low k) (n.ended (ended-last e above low k));
   bytes = groups_bytes-append above n.new ∙ ap (λ w. groups_bytes above ++ w) n.bytes;
   clean = λ clean old more sound k.
       subst are_sound (sym (append_assoc above n.new more))
-      (sound-behind above (comment ++ old) (n.new ++ more) (λ s. n.clean clean old more s k) (subst are_sound (append_assoc above comment old) sound));
+      (sound-behind above (low ++ old) (n.new ++ more) (λ s. n.clean clean old more s k) (subst are_sound (append_assoc above low old) sound));
 })
 
 -- How contents changed, and that the comments of all keys did that a pair of these groups has.
@@ -840,13 +840,13 @@ are-some : (keys : List (List ℕ)) (ss : List Section) (last : List (List HeldL
     → AreMadeOf (IsLeftOf keys) ss last rest → AreSome keys (groups_of ss last) rest
 are-some keys [] last rest a c h =
     subst (λ gs. AreSome keys gs rest) (append-nil last) (subst (AreSome keys (last ++ [])) (append-nil (groups_bytes last) ∙ sym h) (kept-run keys last [] [] c refl))
-are-some keys (s ∷ ss) last rest a c (made, more, inl (has, (above, comment, is, left)), whole, h) =
+are-some keys (s ∷ ss) last rest a c (made, more, inl (has, (above, low, is, left)), whole, h) =
     let gs = s.group ∷ groups_of ss last in
-    let parts = comments-parts above comment (subst AreCommentGroups is.division a.0) in
-    subst (λ w. AreSome keys w rest) (sym (ap (λ w. w ++ gs) is.division ∙ append_assoc above comment gs))
-    (subst (AreSome keys (above ++ (comment ++ gs))) (sym (whole ∙ ap (λ w. w ++ more) left))
-    (kept-run keys above (comment ++ gs) more parts.0
-    (some-run keys comment gs more parts.1 (inl (inl has, are-some keys ss last more a.2 c h)))))
+    let parts = comments-parts above low (subst AreCommentGroups is.division a.0) in
+    subst (λ w. AreSome keys w rest) (sym (ap (λ w. w ++ gs) is.division ∙ append_assoc above low gs))
+    (subst (AreSome keys (above ++ (low ++ gs))) (sym (whole ∙ ap (λ w. w ++ more) left))
+    (kept-run keys above (low ++ gs) more parts.0
+    (some-run keys low gs more parts.1 (inl (inl has, are-some keys ss last more a.2 c h)))))
 are-some keys (s ∷ ss) last rest a c (made, more, inr (other, is), whole, h) =
     subst (AreSome keys (s.run ++ s.group ∷ groups_of ss last))
     (sym (whole ∙ ap (λ w. w ++ more) is ∙ append_assoc (groups_bytes s.run) (group_bytes s.group) more))

@@ -76,7 +76,7 @@ loop-copied-preserved c =
           let ok : is_editable (byte_order_mark r.encoding source).encoding ≡ true =
           subst (λ x. let f : InForce = x in is_editable f.encoding ≡ true) (sym o.in_force) o.editable in
           let prints = prints-in_force r c.repertoire_for.result source (encoding_of c.encoding_in_force-encoding.result.0) force ok c.repertoire_for.ensures in
-          let at = subst (λ x. IsSectionAt x comment s) (sym h.source_is) (section-at comment o h takes) in
+          let at = subst (λ x. IsSectionAt x comment (given_comment t)) (sym h.source_is) (section-at comment o h takes) in
           let set = w.in_ok-set_lines.ensures (repertoire_in_force r source) (given_comment t) prints at in
           let start = c.encoding_in_force-encoding.result.1 in
           let body = take_all (length source - start) (drop start source) (let size = length-drop start source in omega arith)
