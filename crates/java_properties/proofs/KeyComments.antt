@@ -23,7 +23,7 @@ use Rattle.properties_editing.specs.declared.source.Comments.TheVariants.{Passed
 use Rattle.properties_editing.proofs.PassedOver.{sound-join}
 use Rattle.properties_renaming.specs.CommentLines.{AreCommentGroups, AreCommentTexts, IsCommentGroup, IsCommentLine, is_comment, lines_in_text}
 use Rattle.properties_renaming.specs.Separators.{AreSeparated}
-use Rattle.properties_renaming.specs.Private.Separators.{EndIn, HasNoLines, above_if, below_if}
+use Rattle.properties_renaming.specs.FoundSeparators.{EndIn, HasNoLines, above_if, below_if}
 use Rattle.properties_renaming.specs.declared.separators.LastRun.{LastRun}
 use Rattle.properties_renaming.proofs.CommentGroups.{above-texts, below-texts, comment-no_key, comments-more, texts-append, whole-if}
 use Rattle.java_properties.specs.Commented.{AreTextsOfComment}

@@ -32,7 +32,7 @@ use Rattle.properties_editing.proofs.PassedOver.{from-after, from-fault, from-so
 use Rattle.std.specs.declared.alloc.AllocError.{AllocError}
 use Rattle.java_properties.specs.Commented.{AreTextsOfComment, HasComment, IsCommentError, RefusesComment}
 use Rattle.properties_renaming.specs.CommentLines.{is_line_of_comment}
-use Rattle.properties_renaming.specs.Private.Separators.{HasNoLines}
+use Rattle.properties_renaming.specs.FoundSeparators.{HasNoLines}
 use Rattle.properties_renaming.specs.declared.separators.LastRun.{LastRun}
 use Rattle.java_properties.specs.Private.PassedGroups.{ArePassed, IsUnsoundPassed, PassedTexts}
 use Rattle.java_properties.proofs.KeyComments.{HavePassed, passed-more, passed-none, texts-more}

@@ -11,7 +11,7 @@ use Rattle.properties_format.proofs.Split.Blanks.{without_leading_blanks-blanks,
 use Rattle.properties_format.proofs.Split.Unique.{sign-full}
 use Rattle.properties_format.proofs.Valued.Parts.{comment_line-no_pair}
 use Rattle.properties_renaming.specs.CommentLines.{AreCommentGroups, IsCommentGroup, IsCommentIn, lines_in_text}
-use Rattle.properties_renaming.specs.Private.Separators.{above_if, below_if}
+use Rattle.properties_renaming.specs.FoundSeparators.{above_if, below_if}
 use Rattle.properties_renaming.proofs.SeparatedRuns.{one-separated}
 
 -- ---- comment lines

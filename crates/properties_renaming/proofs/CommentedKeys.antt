@@ -29,7 +29,7 @@ use Rattle.properties_renaming.specs.Separators.{AreSeparated}
 use Rattle.properties_renaming.specs.Private.Commented.{AreListed, GivesHeaded, TakesHeaded}
 use Rattle.properties_renaming.specs.Private.Copied.{IsNew, IsReplacedIn, copied_to}
 use Rattle.properties_renaming.specs.Private.Keyed.{GivesValue, value_at, value_of}
-use Rattle.properties_renaming.specs.Private.Separators.{EndIn, HasNoLines, PassesGroup, above_if, below_if}
+use Rattle.properties_renaming.specs.FoundSeparators.{EndIn, HasNoLines, PassesGroup, above_if, below_if}
 use Rattle.properties_renaming.specs.declared.comments.Headed.{Headed}
 use Rattle.properties_renaming.specs.declared.copied.Copied.{Copied}
 use Rattle.properties_renaming.specs.declared.separators.LastRun.{LastRun}

@@ -16,7 +16,7 @@ use Rattle.properties_renaming.specs.Commenting.{HaveNoText}
 use Rattle.properties_renaming.specs.Separators.{last_sign}
 use Rattle.properties_renaming.specs.Private.Commented.{TakesHeaded}
 use Rattle.properties_renaming.specs.Private.Commenting.{GivesComment, IsGroupAt, IsModel, TakesComment, TellsModel, first_model, texts_above}
-use Rattle.properties_renaming.specs.Private.Separators.{EndIn, HasNoLines, PassesGroup, above_if, below_if}
+use Rattle.properties_renaming.specs.FoundSeparators.{EndIn, HasNoLines, PassesGroup, above_if, below_if}
 use Rattle.properties_renaming.specs.declared.comments.Headed.{Headed}
 use Rattle.properties_renaming.specs.declared.commenting.Comment.{Comment}
 use Rattle.properties_renaming.specs.declared.separators.LastRun.{LastRun}

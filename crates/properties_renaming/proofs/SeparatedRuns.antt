@@ -5,7 +5,7 @@ use Rattle.std.proofs.lemmas.Bool.{cases_Bool}
 use Rattle.properties_format.specs.Text.{begins, is_comment_sign, without_leading_blanks}
 use Rattle.properties_format.specs.Lines.{is_comment_line}
 use Rattle.properties_renaming.specs.Separators.{AreRuns, AreSeparated, BeginOtherwise, EndSeparated, HaveSign, NoneSeparates, Run, are_separators, has_shape, have_shape, last_sign, run_lines, runs_lines, sign_of}
-use Rattle.properties_renaming.specs.Private.Separators.{EndIn, EndsInRun, HasNoLines, PassesGroup, above_if, below_if}
+use Rattle.properties_renaming.specs.FoundSeparators.{EndIn, EndsInRun, HasNoLines, PassesGroup, above_if, below_if}
 use Rattle.properties_renaming.specs.declared.separators.LastRun.{LastRun}
 
 -- ---- runs of lines

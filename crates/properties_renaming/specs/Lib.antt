@@ -2,6 +2,7 @@ pub mod CommentLines
 pub mod Commented
 pub mod Commenting
 pub mod Documents
+pub mod FoundSeparators
 pub mod KeyEdits
 pub mod Laws
 pub mod Private

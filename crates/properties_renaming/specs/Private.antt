@@ -6,4 +6,3 @@ pub mod CommentTexts
 pub mod Commenting
 pub mod KeyEdits
 pub mod Keyed
-pub mod Separators

@@ -5,7 +5,7 @@ ghost use Rattle.std.specs.Str.{chars};
 ghost use Rattle.properties_format.specs.Lines.{is_comment_line};
 ghost use Rattle.properties_renaming.specs.CommentLines.{is_line_of_comment};
 ghost use Rattle.properties_renaming.specs.Separators.{has_shape, sign_of};
-ghost use Rattle.properties_renaming.specs.Private.Separators.{HasNoLines, PassesGroup};
+ghost use Rattle.properties_renaming.specs.FoundSeparators.{HasNoLines, PassesGroup};
 
 use crate::comment_lines::is_comment_line;
 use properties_editing::ViewedGroup;

@@ -16,8 +16,8 @@ use Rattle.properties_items.specs.declared.error.PropertiesError.{PropertiesErro
 use Rattle.properties_editing.specs.Views.{group_kind}
 use Rattle.properties_editing.specs.declared.group.GroupKind.{GroupKind}
 use Rattle.properties_renaming.specs.CommentLines.{IsCommentLine}
-use Rattle.properties_renaming.specs.Private.Separators.{below_if}
-use Rattle.properties_renaming.specs.Private.Separators as run
+use Rattle.properties_renaming.specs.FoundSeparators.{below_if}
+use Rattle.properties_renaming.specs.FoundSeparators as run
 use Rattle.properties_renaming.specs.declared.separators.LastRun.{LastRun}
 use Rattle.java_properties.specs.declared.comments.Passed.{Passed}
 

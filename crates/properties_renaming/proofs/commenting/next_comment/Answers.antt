@@ -3,7 +3,7 @@ use Rattle.std.specs.Prelude.{if◌then◌else◌, None, Some}
 use Rattle.std.specs.Str.{chars}
 use Rattle.properties_format.specs.Lines.{is_comment_line}
 use Rattle.properties_renaming.specs.CommentLines.{IsCommentLine, is_line_of_comment}
-use Rattle.properties_renaming.specs.Private.Separators.{PassesGroup, below_if}
+use Rattle.properties_renaming.specs.FoundSeparators.{PassesGroup, below_if}
 use Rattle.properties_renaming.proofs.CommentedKeys.{headed-nearer, told-line}
 use Rattle.properties_renaming.proofs.FoundComments.{AreGathered, comment-next, none-gathered, one-gathered}
 use Rattle.properties_renaming.proofs.commenting.next_comment.Goals as goal

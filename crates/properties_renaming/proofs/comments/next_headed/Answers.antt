@@ -2,7 +2,7 @@ use Rattle.std.proofs.Common.{◌≡◌, ◌∙◌, [], ap, false, rules, subst,
 use Rattle.std.specs.Prelude.{if◌then◌else◌, None}
 use Rattle.properties_format.specs.Lines.{is_comment_line}
 use Rattle.properties_renaming.specs.CommentLines.{is_line_of_comment}
-use Rattle.properties_renaming.specs.Private.Separators.{PassesGroup}
+use Rattle.properties_renaming.specs.FoundSeparators.{PassesGroup}
 use Rattle.properties_renaming.proofs.CommentedKeys.{headed-next, none-passed, one-passed, told-line}
 use Rattle.properties_renaming.proofs.comments.next_headed.Goals as goal
 use Rattle.properties_renaming.proofs.comments.next_headed.Goals.{then-pass, else-pass}
