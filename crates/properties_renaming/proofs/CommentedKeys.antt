@@ -33,7 +33,7 @@ use Rattle.properties_renaming.specs.FoundSeparators.{EndIn, HasNoLines, PassesG
 use Rattle.properties_renaming.specs.declared.comments.Headed.{Headed}
 use Rattle.properties_renaming.specs.declared.copied.Copied.{Copied}
 use Rattle.properties_renaming.specs.declared.separators.LastRun.{LastRun}
-use Rattle.properties_renaming.proofs.CommentGroups.{comment_in-only, comments-more, group-comment, group-other, line-blank, line-comment, line-pair, texts-append}
+use Rattle.properties_renaming.proofs.CommentGroups.{above-texts, below-texts, comment_in-only, comments-more, group-comment, group-other, line-blank, line-comment, line-pair, texts-append, whole-if}
 use Rattle.properties_renaming.proofs.RenamedKeys.{copied-more, held-push, mark-front}
 use Rattle.properties_renaming.proofs.SectionedGroups.{groups-append, groups-push, one-division, one-made, sections-push}
 
@@ -89,31 +89,18 @@ moved t = ap (λ w. let o : OpenView = w in o.start) t.moves
 pub numbered : {now next : OpenView} {group : ViewedGroup} → TakesNext now group next → next.passed ≡ (past_group now).passed
 numbered t = ap (λ w. let o : OpenView = w in o.passed) t.moves
 
-above-texts : (found : Bool) (fs gs : List (List HeldLine)) → above_if found (lines_in_text fs) (lines_in_text gs) ≡ lines_in_text (above_if found fs gs)
-above-texts true fs gs = sym (texts-append fs gs)
-above-texts false fs gs = refl
-
-below-texts : (found : Bool) (gs : List (List HeldLine)) → below_if found (lines_in_text gs) ≡ lines_in_text (below_if found gs)
-below-texts true gs = refl
-below-texts false gs = refl
-
 -- The comment begins anew if a separator is directly above the next group.
-pub record IsBegun (v now : OpenView) (lines above comment : List (List HeldLine)) (begun : Option ℕ) : Type 0 where
-  pub whole : lines ≡ above ++ comment
-  pub start : unwrap_or begun (past_group now).start ≡ (past_group v).start + length (groups_bytes above)
-
-pub is-begun : {v now : OpenView} {above comment : List (List HeldLine)} {begun begun' : Option ℕ} {last : LastRun} (found : Bool)
+begun-start : {v now : OpenView} {above comment : List (List HeldLine)} {begun begun' : Option ℕ} {last : LastRun} (found : Bool)
     → ArePassed v now above comment begun last → begun' ≡ (if found then None else begun)
-    → IsBegun v now (above ++ comment) (above_if found above comment) (below_if found comment) begun'
-is-begun {now = now} {above} {comment} true h is =
-    record { whole = sym (append-nil (above ++ comment)); start = ap (λ b. unwrap_or b (past_group now).start) is ∙ h.place }
-is-begun {now = now} false h is = record { whole = refl; start = ap (λ b. unwrap_or b (past_group now).start) is ∙ h.start }
+    → unwrap_or begun' (past_group now).start ≡ (past_group v).start + length (groups_bytes (above_if found above comment))
+begun-start {now = now} true h is = ap (λ b. unwrap_or b (past_group now).start) is ∙ h.place
+begun-start {now = now} false h is = ap (λ b. unwrap_or b (past_group now).start) is ∙ h.start
 
 module _ {v now next : OpenView} {above comment : List (List HeldLine)} {begun begun' : Option ℕ} {old : LastRun} (group : ViewedGroup) (start : ℕ)
     (found : Bool) where
   pub same-start : ArePassed v now above comment begun old → TakesNext now group next → begun' ≡ (if found then None else begun)
       → start ≡ unwrap_or begun' group.start → start ≡ (past_group v).start + length (groups_bytes (above_if found above comment))
-  same-start h t is at = at ∙ ap (unwrap_or begun') (t.is_group.start ∙ moved t) ∙ (is-begun found h is).start
+  same-start h t is at = at ∙ ap (unwrap_or begun') (t.is_group.start ∙ moved t) ∙ begun-start found h is
 
   -- One more was passed,
   pub one-passed : {new : LastRun} → ArePassed v now above comment begun old → TakesNext now group next → PassesGroup (is_line_of_comment group) (viewed_line next) old found new
@@ -124,7 +111,7 @@ module _ {v now next : OpenView} {above comment : List (List HeldLine)} {begun b
       let up = above_if found above comment in
       let low = below_if found comment in
       let all = above ++ comment in
-      let run : all ++ g ∷ [] ≡ up ++ (low ++ g ∷ []) = ap (λ w. w ++ g ∷ []) (is-begun found h is).whole ∙ append_assoc up low (g ∷ []) in
+      let run : all ++ g ∷ [] ≡ up ++ (low ++ g ∷ []) = ap (λ w. w ++ g ∷ []) whole-if found above comment ∙ append_assoc up low (g ∷ []) in
       let bytes : groups_bytes (up ++ (low ++ g ∷ [])) ≡ groups_bytes all ++ group_bytes g =
       ap groups_bytes (sym run) ∙ groups_bytes-append all (g ∷ []) ∙ ap (λ w. groups_bytes all ++ w) (append-nil (group_bytes g)) in
       let size : length (groups_bytes (up ++ (low ++ g ∷ []))) ≡ length (groups_bytes all) + length (group_bytes g) =
@@ -164,7 +151,7 @@ module _ {v now next : OpenView} {above comment : List (List HeldLine)} {begun b
         above = above_if found above comment;
         comment = below_if found comment;
         is_comment = record {
-          division = (is-begun found h is).whole;
+          division = whole-if found above comment;
           separated = subst (λ a. AreSeparated a (lines_in_text (below_if found comment))) (above-texts found above comment)
               (subst (AreSeparated (above_if found (lines_in_text above) (lines_in_text comment))) (below-texts found comment) passed);
         };

@@ -20,9 +20,9 @@ use Rattle.properties_renaming.specs.FoundSeparators.{EndIn, HasNoLines, PassesG
 use Rattle.properties_renaming.specs.declared.comments.Headed.{Headed}
 use Rattle.properties_renaming.specs.declared.commenting.Comment.{Comment}
 use Rattle.properties_renaming.specs.declared.separators.LastRun.{LastRun}
-use Rattle.properties_renaming.proofs.CommentGroups.{texts-append}
+use Rattle.properties_renaming.proofs.CommentGroups.{texts-append, whole-if}
+use Rattle.properties_renaming.proofs.CommentedKeys.{ArePassed, headed-next, headed-next-above, headed-next-comment, moved, none-passed, one-passed, same-start}
 use Rattle.properties_renaming.proofs.SeparatedRuns.{end-sign}
-use Rattle.properties_renaming.proofs.CommentedKeys.{ArePassed, headed-next, headed-next-above, headed-next-comment, is-begun, moved, none-passed, one-passed, same-start}
 
 -- ---- one comment line more
 
@@ -125,7 +125,7 @@ module _ {v now next : OpenView} {begun begun' : Option ℕ} {old : LastRun} (gr
       let all : map characters new ≡ map characters texts' ++ text ∷ [] =
       ap (map characters) pushed ∙ map-append characters texts' (made ∷ []) ∙ ap (λ w. map characters texts' ++ w ∷ []) copied in
       let size = length-append (groups_bytes up) (groups_bytes low) in
-      let both = ap length (ap groups_bytes (is-begun found h.passed begun_is).whole ∙ groups_bytes-append up low) in
+      let both = ap length (ap groups_bytes (whole-if found h.above h.comment) ∙ groups_bytes-append up low) in
       let at_end = h.passed.place in
       let place : n + length (groups_bytes up) + length (groups_bytes low) ≡ (past_group now).start = omega arith in
       record {
