@@ -76,12 +76,8 @@ one-separated above below above' below' h k q =
 -- ---- one line more
 
 -- in the last run
-longer : Run → List ℕ → Run
+abbrev longer : Run → List ℕ → Run
 longer r x = record { sign = r.sign; first = r.first; others = r.others ++ x ∷ [] }
-
-longer-sign : (r : Run) (x : List ℕ) → r.sign ≡ (longer r x).sign
-unfolding longer
-longer-sign r x = refl
 
 signs-more : (sign : ℕ) (xs : List (List ℕ)) (x : List ℕ) → HaveSign sign xs → sign_of x ≡ sign → HaveSign sign (xs ++ x ∷ [])
 signs-more sign [] x h q = (q, tt)
@@ -89,17 +85,14 @@ signs-more sign (y ∷ xs) x h q = (h.0, signs-more sign xs x h.1 q)
 
 begin-longer : (sign : ℕ) (rs : List Run) (r : Run) (x : List ℕ) → BeginOtherwise sign (runs_lines (rs ++ r ∷ []))
     → BeginOtherwise sign (runs_lines (rs ++ longer r x ∷ []))
-unfolding longer
 begin-longer sign [] r x h = h
 begin-longer sign (s ∷ rs) r x h = h
 
 longer-runs : (rs : List Run) (r : Run) (x : List ℕ) → AreRuns (rs ++ r ∷ []) → sign_of x ≡ r.sign → AreRuns (rs ++ longer r x ∷ [])
-unfolding longer
 longer-runs [] r x h q = (signs-more r.sign (run_lines r) x h.0 q, tt, tt)
 longer-runs (s ∷ rs) r x h q = (h.0, begin-longer s.sign rs r x h.1, longer-runs rs r x h.2 q)
 
 longer-lines : (rs : List Run) (r : Run) (x : List ℕ) → runs_lines (rs ++ longer r x ∷ []) ≡ runs_lines (rs ++ r ∷ []) ++ x ∷ []
-unfolding longer
 longer-lines [] r x =
     ap (λ w. r.first ∷ w) (append-nil (r.others ++ x ∷ []) ∙ ap (λ w. w ++ x ∷ []) (sym (append-nil r.others)))
 longer-lines (s ∷ rs) r x = ap (λ w. run_lines s ++ w) (longer-lines rs r x) ∙ sym (append_assoc (run_lines s) (runs_lines (rs ++ r ∷ [])) (x ∷ []))
@@ -112,11 +105,10 @@ shapes-more (y ∷ xs) x = elim (cases_Bool (has_shape y)) [
 ]
 
 longer-shape : (r : Run) (x : List ℕ) → are_separators (longer r x) ≡ (are_separators r && has_shape x)
-unfolding longer
 longer-shape r x = shapes-more (run_lines r) x
 
 -- in a run of its own
-single : List ℕ → Run
+abbrev single : List ℕ → Run
 single x = record { sign = sign_of x; first = x; others = [] }
 
 begin-more : (sign : ℕ) (rs : List Run) (r : Run) (ts : List Run) → BeginOtherwise sign (runs_lines (rs ++ r ∷ []))
@@ -125,25 +117,14 @@ begin-more sign [] r ts h = h
 begin-more sign (s ∷ rs) r ts h = h
 
 single-runs : (rs : List Run) (r : Run) (x : List ℕ) → AreRuns (rs ++ r ∷ []) → sign_of x ≢ r.sign → AreRuns ((rs ++ r ∷ []) ++ single x ∷ [])
-unfolding single
 single-runs [] r x h q = (h.0, q, ((refl, tt), tt, tt))
 single-runs (s ∷ rs) r x h q = (h.0, begin-more s.sign rs r (single x ∷ []) h.1, single-runs rs r x h.2 q)
 
 single-lines : (rs : List Run) (x : List ℕ) → runs_lines (rs ++ single x ∷ []) ≡ runs_lines rs ++ x ∷ []
-unfolding single
 single-lines rs x = runs-append rs (single x ∷ [])
 
-single-sign : (x : List ℕ) → sign_of x ≡ (single x).sign
-unfolding single
-single-sign x = refl
-
 single-shape : (x : List ℕ) → are_separators (single x) ≡ has_shape x
-unfolding single
 single-shape x = grind (arith)
-
-single-alone : (x : List ℕ) → AreRuns (single x ∷ [])
-unfolding single
-single-alone x = ((refl, tt), tt, tt)
 
 none-more : (rs : List Run) (r : Run) → NoneSeparates rs → are_separators r ≡ false → NoneSeparates (rs ++ r ∷ [])
 none-more [] r h k = (k, tt)
@@ -156,113 +137,68 @@ end-more (s ∷ t ∷ rs) r k = end-more (t ∷ rs) r k
 
 -- ---- one group more
 
-module _ {above below : List (List ℕ)} {old : LastRun} where
-  -- a line of the same sign,
-  same-sign : (x : List ℕ) (new : LastRun) → EndsInRun above below old → sign_of x ≡ old.sign → new.sign ≡ old.sign
-      → new.separates ≡ (old.separates && has_shape x) → EndsInRun above (below ++ x ∷ []) new
-  same-sign x new h q sign separates =
-      let same : sign_of x ≡ h.run.sign = q ∙ h.sign in
-      let runs = append_assoc h.runs_above h.runs_below (h.run ∷ []) in
-      record {
-        runs_above = h.runs_above;
-        runs_below = h.runs_below;
-        run = longer h.run x;
-        are_runs = subst AreRuns (append_assoc h.runs_above h.runs_below (longer h.run x ∷ []))
-            (longer-runs (h.runs_above ++ h.runs_below) h.run x (subst AreRuns (sym runs) h.are_runs) same);
-        are_above = h.are_above;
-        are_below = ap (λ w. w ++ x ∷ []) h.are_below ∙ sym (longer-lines h.runs_below h.run x);
-        separated = h.separated;
-        none_below = h.none_below;
-        sign = sign ∙ h.sign ∙ longer-sign h.run x;
-        separates = separates ∙ ap (λ b. b && has_shape x) h.separates ∙ sym (longer-shape h.run x);
-      }
+-- a line of the same sign
+same-sign : {above below : List (List ℕ)} {old : LastRun} (x : List ℕ) (new : LastRun) → EndsInRun above below old → sign_of x ≡ old.sign → new.sign ≡ old.sign
+    → new.separates ≡ (old.separates && has_shape x) → EndsInRun above (below ++ x ∷ []) new
+same-sign x new h q sign separates =
+    let same : sign_of x ≡ h.run.sign = q ∙ h.sign in
+    let runs = append_assoc h.runs_above h.runs_below (h.run ∷ []) in
+    record {
+      runs_above = h.runs_above;
+      runs_below = h.runs_below;
+      run = longer h.run x;
+      are_runs = subst AreRuns (append_assoc h.runs_above h.runs_below (longer h.run x ∷ []))
+          (longer-runs (h.runs_above ++ h.runs_below) h.run x (subst AreRuns (sym runs) h.are_runs) same);
+      are_above = h.are_above;
+      are_below = ap (λ w. w ++ x ∷ []) h.are_below ∙ sym (longer-lines h.runs_below h.run x);
+      separated = h.separated;
+      none_below = h.none_below;
+      sign = sign ∙ h.sign;
+      separates = separates ∙ ap (λ b. b && has_shape x) h.separates ∙ sym (longer-shape h.run x);
+    }
 
-  -- or of another one, if the last run is no separators,
-  other-sign : (x : List ℕ) (new : LastRun) → EndsInRun above below old → ¬ (sign_of x ≡ old.sign) → new.sign ≡ sign_of x
-      → new.separates ≡ has_shape x → old.separates ≡ false → EndsInRun above (below ++ x ∷ []) new
-  other-sign x new h q sign separates none =
-      let runs = sym (append_assoc h.runs_above h.runs_below (h.run ∷ [])) in
-      record {
-        runs_above = h.runs_above;
-        runs_below = h.runs_below ++ h.run ∷ [];
-        run = single x;
-        are_runs = subst AreRuns
-            (ap (λ w. w ++ single x ∷ []) (sym runs) ∙ append_assoc h.runs_above (h.runs_below ++ h.run ∷ []) (single x ∷ []))
-            (single-runs (h.runs_above ++ h.runs_below) h.run x (subst AreRuns runs h.are_runs) (λ s. q (s ∙ sym h.sign)));
-        are_above = h.are_above;
-        are_below = ap (λ w. w ++ x ∷ []) h.are_below ∙ sym (single-lines (h.runs_below ++ h.run ∷ []) x);
-        separated = h.separated;
-        none_below = none-more h.runs_below h.run h.none_below (sym h.separates ∙ none);
-        sign = sign ∙ single-sign x;
-        separates = separates ∙ sym (single-shape x);
-      }
+-- Which lines are above and which below, if another sign or another group follows.
+record IsClosed (above below : List (List ℕ)) (sign : ℕ) : Type 0 where
+  separated : AreSeparated above below
+  ends : (x : List ℕ) → ¬ (sign_of x ≡ sign) → AreRuns ((separated.runs_above ++ separated.runs_below) ++ single x ∷ [])
 
-  -- or if it is.
-  new-below : (x : List ℕ) (new : LastRun) → EndsInRun above below old → ¬ (sign_of x ≡ old.sign) → new.sign ≡ sign_of x
-      → new.separates ≡ has_shape x → old.separates ≡ true → EndsInRun (above ++ below) (x ∷ []) new
-  unfolding single
-  new-below x new h q sign separates all =
-      let runs = sym (append_assoc h.runs_above h.runs_below (h.run ∷ [])) in
-      record {
-        runs_above = h.runs_above ++ (h.runs_below ++ h.run ∷ []);
-        runs_below = [];
-        run = single x;
-        are_runs = subst (λ w. AreRuns (w ++ single x ∷ [])) (sym runs)
-            (single-runs (h.runs_above ++ h.runs_below) h.run x (subst AreRuns runs h.are_runs) (λ s. q (s ∙ sym h.sign)));
-        are_above = ap₂ (λ v w. v ++ w) h.are_above h.are_below ∙ sym (runs-append h.runs_above (h.runs_below ++ h.run ∷ []));
-        are_below = single-lines [] x;
-        separated = subst EndSeparated (sym runs) (end-more (h.runs_above ++ h.runs_below) h.run (sym h.separates ∙ all));
-        none_below = tt;
-        sign = sign ∙ single-sign x;
-        separates = separates ∙ sym (single-shape x);
-      }
-
-  -- Another group: the lines above it,
-  no-line : EndsInRun above below old → old.separates ≡ false → AreSeparated above below
-  no-line h none = record {
-    runs_above = h.runs_above;
-    runs_below = h.runs_below ++ h.run ∷ [];
-    are_runs = h.are_runs;
-    are_above = h.are_above;
-    are_below = h.are_below;
-    last = h.separated;
-    none_below = none-more h.runs_below h.run h.none_below (sym h.separates ∙ none);
-  }
-
-  no-comment : EndsInRun above below old → old.separates ≡ true → AreSeparated (above ++ below) []
-  no-comment h all =
-      let runs = sym (append_assoc h.runs_above h.runs_below (h.run ∷ [])) in
-      record {
-        runs_above = h.runs_above ++ (h.runs_below ++ h.run ∷ []);
-        runs_below = [];
-        are_runs = subst AreRuns (sym (append-nil (h.runs_above ++ (h.runs_below ++ h.run ∷ [])))) h.are_runs;
-        are_above = ap₂ (λ v w. v ++ w) h.are_above h.are_below ∙ sym (runs-append h.runs_above (h.runs_below ++ h.run ∷ []));
-        are_below = refl;
-        last = subst EndSeparated (sym runs) (end-more (h.runs_above ++ h.runs_below) h.run (sym h.separates ∙ all));
-        none_below = tt;
-      }
-
--- The first line.
-first-line : (x : List ℕ) (new : LastRun) → new.sign ≡ sign_of x → new.separates ≡ has_shape x → EndsInRun [] (x ∷ []) new
-unfolding single
-first-line x new sign separates = record {
-  runs_above = [];
-  runs_below = [];
-  run = single x;
-  are_runs = single-alone x;
-  are_above = refl;
-  are_below = single-lines [] x;
-  separated = tt;
-  none_below = tt;
-  sign = sign ∙ single-sign x;
-  separates = separates ∙ sym (single-shape x);
-}
-
-none-separated : AreSeparated [] []
-none-separated = record { runs_above = []; runs_below = []; are_runs = tt; are_above = refl; are_below = refl; last = tt; none_below = tt }
-
-pub none-passed : (last : LastRun) → HasNoLines last → EndIn [] [] last
-none-passed last h = inl (refl, refl, h)
+closed : (above below : List (List ℕ)) (last : LastRun) → EndIn above below last → IsClosed (above_if last.separates above below) (below_if last.separates below) last.sign
+closed above below last (inl (a, b, n)) = rw (n.1, a, b) (record {
+  separated = record { runs_above = []; runs_below = []; are_runs = tt; are_above = refl; are_below = refl; last = tt; none_below = tt };
+  ends = λ x q. ((refl, tt), tt, tt);
+})
+closed above below last (inr h) =
+    let rs = h.runs_above ++ h.runs_below in
+    let all = h.runs_above ++ (h.runs_below ++ h.run ∷ []) in
+    let runs : all ≡ rs ++ h.run ∷ [] = sym (append_assoc h.runs_above h.runs_below (h.run ∷ [])) in
+    let more = λ (x : List ℕ) (q : ¬ (sign_of x ≡ last.sign)). subst (λ w. AreRuns (w ++ single x ∷ [])) (sym runs)
+    (single-runs rs h.run x (subst AreRuns runs h.are_runs) (λ s. q (s ∙ sym h.sign))) in
+    elim (cases_Bool last.separates) [
+      | inl k ↦ rw k (record {
+        separated = record {
+          runs_above = all;
+          runs_below = [];
+          are_runs = subst AreRuns (sym (append-nil all)) h.are_runs;
+          are_above = ap₂ (λ v w. v ++ w) h.are_above h.are_below ∙ sym (runs-append h.runs_above (h.runs_below ++ h.run ∷ []));
+          are_below = refl;
+          last = subst EndSeparated (sym runs) (end-more rs h.run (sym h.separates ∙ k));
+          none_below = tt;
+        };
+        ends = λ x q. subst (λ w. AreRuns (w ++ single x ∷ [])) (sym (append-nil all)) (more x q);
+      })
+      | inr k ↦ rw k (record {
+        separated = record {
+          runs_above = h.runs_above;
+          runs_below = h.runs_below ++ h.run ∷ [];
+          are_runs = h.are_runs;
+          are_above = h.are_above;
+          are_below = h.are_below;
+          last = h.separated;
+          none_below = none-more h.runs_below h.run h.none_below (sym h.separates ∙ k);
+        };
+        ends = more;
+      })
+    ]
 
 run-signs : (rs : List Run) (r : Run) → AreRuns (rs ++ r ∷ []) → HaveSign r.sign (run_lines r)
 run-signs [] r h = h.0
@@ -287,11 +223,7 @@ end-sign above below last (inr h) =
 
 -- What is known of the lines above another group,
 pub passes-other : (x : List ℕ) (old new : LastRun) → HasNoLines new → PassesGroup false x old old.separates new
-passes-other x old new none = (none, by)
-  where
-    by : (above below : List (List ℕ)) → EndIn above below old → AreSeparated (above_if old.separates above below) (below_if old.separates below)
-    by above below (inl (a, b, n)) = rw (n.1, a, b) none-separated
-    by above below (inr h) = elim (cases_Bool old.separates) [ inl k ↦ rw k (no-comment h k) | inr k ↦ rw k (no-line h k) ]
+passes-other x old new none = (none, λ above below e. (closed above below old e).separated)
 
 sign-some : (x : List ℕ) → is_comment_line x ≡ true → ¬ (sign_of x ≡ 0)
 sign-some x h = some (without_leading_blanks x) h
@@ -300,7 +232,7 @@ sign-some x h = some (without_leading_blanks x) h
     some [] h = absurd (cc)
     some (c ∷ cs) h = λ q. let is = rw q at h in absurd (cc)
 
--- or above a comment line.
+-- or above a comment line, with the sign of the last run or with another one.
 pub passes-same : (x : List ℕ) (old new : LastRun) → is_comment_line x ≡ true → sign_of x ≡ old.sign → new.sign ≡ old.sign
     → new.separates ≡ (old.separates && has_shape x) → PassesGroup true x old false new
 passes-same x old new line q sign separates above below (inl (a, b, n)) = absurd (sign-some x line (q ∙ n.0))
@@ -308,8 +240,18 @@ passes-same x old new line q sign separates above below (inr h) = inr (same-sign
 
 pub passes-new : (x : List ℕ) (old new : LastRun) → ¬ (sign_of x ≡ old.sign) → new.sign ≡ sign_of x → new.separates ≡ has_shape x
     → PassesGroup true x old old.separates new
-passes-new x old new q sign separates above below (inl (a, b, n)) = rw (n.1, a, b) (inr (first-line x new sign separates))
-passes-new x old new q sign separates above below (inr h) = elim (cases_Bool old.separates) [
-  | inl k ↦ rw k (inr (new-below x new h q sign separates k))
-  | inr k ↦ rw k (inr (other-sign x new h q sign separates k))
-]
+passes-new x old new q sign separates above below e =
+    let k = closed above below old e in
+    let h = k.separated in
+    inr (record {
+      runs_above = h.runs_above;
+      runs_below = h.runs_below;
+      run = single x;
+      are_runs = subst AreRuns (append_assoc h.runs_above h.runs_below (single x ∷ [])) (k.ends x q);
+      are_above = h.are_above;
+      are_below = ap (λ w. w ++ x ∷ []) h.are_below ∙ sym (single-lines h.runs_below x);
+      separated = h.last;
+      none_below = h.none_below;
+      sign = sign;
+      separates = separates ∙ sym (single-shape x);
+    })
