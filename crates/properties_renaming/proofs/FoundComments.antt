@@ -143,7 +143,7 @@ module _ {v now next : OpenView} {begun begun' : Option ℕ} {old : LastRun} (gr
         k,
         subst (λ r. AreCommentTexts r (texts_above comment)) (sym lines) (texts-begun found h.comment texts comment.texts.items h.are_texts texts_is),
         subst (λ r. TellsModel start r comment.model) (sym lines) (subst (λ n. TellsModel n (below_if found h.comment) comment.model) (sym above)
-        (model-begun found (past_group v).start h.above h.comment model comment.model h.tells_model model_is)),
+            (model-begun found (past_group v).start h.above h.comment model comment.model h.tells_model model_is)),
       ) in
       subst Such (sym same) made
 
