@@ -111,7 +111,7 @@ module _ {v now next : OpenView} {above comment : List (List HeldLine)} {begun b
       let up = above_if found above comment in
       let low = below_if found comment in
       let all = above ++ comment in
-      let run : all ++ g ∷ [] ≡ up ++ (low ++ g ∷ []) = ap (λ w. w ++ g ∷ []) whole-if found above comment ∙ append_assoc up low (g ∷ []) in
+      let run : all ++ g ∷ [] ≡ up ++ (low ++ g ∷ []) = ap (λ w. w ++ g ∷ []) (whole-if found above comment) ∙ append_assoc up low (g ∷ []) in
       let bytes : groups_bytes (up ++ (low ++ g ∷ [])) ≡ groups_bytes all ++ group_bytes g =
       ap groups_bytes (sym run) ∙ groups_bytes-append all (g ∷ []) ∙ ap (λ w. groups_bytes all ++ w) (append-nil (group_bytes g)) in
       let size : length (groups_bytes (up ++ (low ++ g ∷ []))) ≡ length (groups_bytes all) + length (group_bytes g) =

@@ -42,7 +42,7 @@ use Rattle.properties_renaming.specs.CommentLines.{AreCommentGroups, IsCommentGr
 use Rattle.properties_renaming.specs.Commenting.{HasLines, IsStyleAbove, IsStyleFor, IsStyleOfLine, LineStyle, comment_line, ending_or, gap_before}
 use Rattle.properties_renaming.specs.Private.CommentTexts.{first_blank, without_first_blank}
 use Rattle.properties_renaming.specs.Sections.{Section, groups_of}
-use Rattle.properties_renaming.specs.Private.Commenting.{AreCommentBytes, HoldsGroup, HoldsLine, IsGroupAt, IsHeadSet, IsLastEndingOf, IsModel, IsSectionAt, TakesComment, TellsModel, comment_line_bytes, line_feed_after, style_in}
+use Rattle.properties_renaming.specs.Private.Commenting.{AreCommentBytes, HoldsGroup, HoldsLine, IsGroupAt, IsHeadSet, IsLastEndingOf, IsModel, IsSectionAt, TakesComment, comment_line_bytes, line_feed_after, style_in}
 use Rattle.properties_renaming.specs.Private.Copied.{IsReplacedIn, copied_to}
 use Rattle.properties_renaming.specs.Private.Renaming.{PrintsKeys}
 use Rattle.properties_renaming.specs.declared.commenting.Comment.{Comment}

@@ -16,7 +16,7 @@ use Rattle.properties_text.specs.declared.print.Place.TheVariants.{Prefix}
 use Rattle.properties_text.specs.declared.print.Repertoire as code
 use Rattle.properties_items.specs.Texts.{characters}
 use Rattle.properties_items.specs.declared.error.PropertiesError.{PropertiesError}
-use Rattle.properties_editing.specs.Views.{OpenView, past_group}
+use Rattle.properties_editing.specs.Views.{OpenView}
 use Rattle.properties_editing.specs.declared.group.ViewedGroup.{ViewedGroup}
 use Rattle.properties_renaming.specs.CommentLines.{AreCommentGroups, AreCommentTexts, IsCommentLine, lines_in_text}
 use Rattle.properties_renaming.specs.Commenting.{AreCommentsSet, HasLines, HasNoPairFor, HaveNoText, IsCommented, IsStyleFor, LineStyle, NewText, gap_before, text_for, texts_of}

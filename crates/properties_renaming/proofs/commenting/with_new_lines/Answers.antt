@@ -3,7 +3,7 @@ use Rattle.std.specs.Str.{chars}
 use Rattle.std.proofs.lemmas.List.{get_or-map, length-drop, length-map, take_all}
 use Rattle.properties_format.specs.Encoding.{InForce, byte_order_mark, repertoire_in_force}
 use Rattle.properties_format.specs.Lines.{joined}
-use Rattle.properties_format.specs.Body.{as_lines, groups_bytes}
+use Rattle.properties_format.specs.Body.{as_lines}
 use Rattle.properties_format.specs.Edited.{is_editable}
 use Rattle.properties_format.specs.Computed.Items.{outcome_of}
 use Rattle.properties_text.specs.Encoding.{encoding_of}
