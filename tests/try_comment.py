@@ -4,10 +4,11 @@ on HOW_MANY of them from file FIRST on.
 
     tests/try_comment.py PROPEDIT [HOW_MANY [FIRST]]
 
-The comment of a key is all comment lines directly above its last pair. A line that a backslash before it continues is
+The comment of a key is the comment lines directly above its last pair, down from the last separator of documents. A line that a backslash before it continues is
 none, and neither is one that joining makes. A text is what follows the sign and one blank. A file with a malformed
 escape in a pair is refused.
 """
+import itertools
 import random
 import re
 import subprocess
@@ -17,7 +18,7 @@ REFUSED = "refused"
 KEYS = ["a", "b", "a b", "é", "", "#"]
 BLANKS = " \t\f"
 ENDS = ["\n", "\r", "\r\n"]
-LINES = ["", "", " \t", "#", "! ", "# one", "  #  two ", "!\tC:\\users", "# ends \\", "#é \\u12", "\\", "  \\", "c = 1", "c \\", "a:1", "# no=1"]
+LINES = ["", "", " \t", "#", "! ", "# one", "  #  two ", "!\tC:\\users", "# ends \\", "#é \\u12", "#---", "#---", "!---", "#---\t ", " #---", "\\", "  \\", "c = 1", "c \\", "a:1", "# no=1"]
 SPELT = {"a": ["a", "\\u0061", "\\a"], "b": ["b"], "a b": ["a\\ b"], "é": ["é", "\\u00e9"], "": [""], "#": ["\\#"]}
 
 
@@ -69,19 +70,28 @@ def is_malformed(line):
     return any(escape == "u" for escape in re.findall(r"\\(u[0-9a-f]{4}|.)", line, re.S))
 
 
+def below_separators(lines):
+    """The last of these comment lines, down from the last separator of documents among them."""
+    below = []
+    for _, run in itertools.groupby(lines, lambda line: line.lstrip(" \t\f")[0]):
+        run = list(run)
+        below = [] if all(re.fullmatch("[#!]---[ \t\f]*", line.rstrip("\r\n")) for line in run) else below + run
+    return below
+
+
 def comment(text, key):
     """The texts of the comment of a key, or None if no pair has it; or that the file is refused."""
     above, found = [], None
     for group in groups(text):
-        first = group[0].lstrip(BLANKS)
-        if first[:1] in ("#", "!"):
-            above.append(first[2:] if first[1:2] in tuple(BLANKS) else first[1:])
+        if group[0].lstrip(BLANKS)[:1] in ("#", "!"):
+            above.append(group[0])
             continue
         name = key_of(joined(group))
         if name is not None and is_malformed(joined(group)):
             return REFUSED
         if name == key:
-            found = above
+            firsts = [line.lstrip(BLANKS) for line in below_separators(above)]
+            found = [first[2:] if first[1:2] in tuple(BLANKS) else first[1:] for first in firsts]
         above = []
     return found
 

@@ -4,11 +4,12 @@ HOW_MANY of them from file FIRST on.
 
     tests/try_set_comment.py PROPEDIT [HOW_MANY [FIRST]]
 
-The lines of TEXT replace the comment lines directly above the last pair with KEY, and look like the first of these that
-has a text. Every other byte stays, and no byte changes if the comment has these lines already. Then `comment` prints
+The lines of TEXT replace the comment lines directly above the last pair with KEY, down from the last separator of
+documents, and look like the first of these that has a text, but never have the separator's sign. Every other byte stays, and no byte changes if the comment has these lines already. Then `comment` prints
 these lines, setting them again changes nothing, and `list -v` and `get` print what they did. A list of edits gives what
 its edits give one after another, but of several texts for one KEY without another edit between them the last one counts.
 """
+import itertools
 import random
 import re
 import subprocess
@@ -39,6 +40,8 @@ PAST_ASCII = ["あ", "é€", "😀\\", "\x80\x81", "\ufeff", "ÿþ\u2028", "\x8
 
 
 def drawn_comment(draw):
+    if draw.random() < 0.2:
+        return draw.choice("#!") + "---" + draw.choice(["", "", " \t"])
     return draw.choice(INDENTS) + draw.choice("#!") + draw.choice(GAPS) + draw.choice(TEXTS + PAST_ASCII[1:])
 
 
@@ -135,6 +138,15 @@ def key_of(group):
     return re.sub(r"\\(?:u([0-9a-f]{4})|(.))", lambda m: chr(int(m[1], 16)) if m[1] else m[2], spelt, flags=re.S)
 
 
+def below_separators(lines):
+    """The last of these comment lines, down from the last separator of documents among them."""
+    below = []
+    for _, run in itertools.groupby(lines, lambda line: line.lstrip(" \t\f")[0]):
+        run = list(run)
+        below = [] if all(re.fullmatch("[#!]---[ \t\f]*", line.rstrip("\r\n")) for line in run) else below + run
+    return below
+
+
 def comments_of(text):
     """The key of each pair with the texts of the comment lines directly above it; none if the file is refused."""
     found, above = [], []
@@ -143,10 +155,10 @@ def comments_of(text):
         if key is REFUSED:
             return []
         if is_comment_line(group):
-            above.append(comment_parts(group[0])[3])
+            above.append(group[0])
             continue
         if key is not None:
-            found.append((key, above))
+            found.append((key, [comment_parts(line)[3] for line in below_separators(above)]))
         above = []
     return found
 
@@ -157,14 +169,18 @@ def last_comment(found, key):
 
 
 def divided(text, key):
-    """What is before the comment of a key, its lines, the lines of the pair, and what is after it."""
+    """What is before the comment of a key, the sign of a separator directly above, the comment's lines, the lines of the
+    pair, and what is after it."""
     groups = groups_of(text)
     last = max(at for at, group in enumerate(groups) if key_of(group) == key)
     first = last
     while first > 0 and is_comment_line(groups[first - 1]):
         first -= 1
+    above = [group[0] for group in groups[first:last]]
+    first = last - len(below_separators(above))
+    separator = above[len(above) - (last - first) - 1][0] if len(above) > last - first else ""
     whole = lambda part: "".join("".join(group) for group in part)
-    return whole(groups[:first]), [group[0] for group in groups[first:last]], groups[last], whole(groups[last + 1 :])
+    return whole(groups[:first]), separator, [group[0] for group in groups[first:last]], groups[last], whole(groups[last + 1 :])
 
 
 def style_for(comment, pair, source):
@@ -216,8 +232,10 @@ def comment_set(data, named, ascii_only, key, text):
     lines = [line.rstrip("\r\n") for line in lines_of(text)]
     if last_comment(found, key) == lines:
         return 0, data, False
-    before, comment, pair, after = divided(source, key)
+    before, separator, comment, pair, after = divided(source, key)
     indent, sign, blank, end = style_for(comment, pair, source)
+    if sign == separator:
+        sign = "!" if sign == "#" else "#"
     new, escaped = "", False
     for line in lines:
         gap = blank if line else ""

@@ -4,19 +4,21 @@ random files, or on HOW_MANY of them from file FIRST on.
 
     tests/try_with_comment.py PROPEDIT [HOW_MANY [FIRST]]
 
-Each pair with the key goes, with the comment lines directly above it, and all else stays. With -x, a key that no pair has
+Each pair with the key goes, with the comment lines directly above it, down from the last separator of documents. All else
+stays. With -x, a key that no pair has
 is refused. Keys that are removed one after another are left out at once, and a list of edits gives what its runs of
 removals and its other edits give one after another.
 """
 import itertools
 import random
+import re
 import subprocess
 import sys
 
 KEYS = ["a", "b", "é", "a b", "", "#", "\ufeffk"]
 SEPARATORS = ["=", " = ", ":\\\n  "]
 VALUES = ["", "1", "x\\\n  # y", "# no", "C:\\\\tmp", "\\u00e9"]
-COMMENTS = ["# one", "  ! \\u12", "#", "# of \\", "\t!!"]
+COMMENTS = ["# one", "  ! \\u12", "#", "# of \\", "\t!!", "#---", "#---", "!---", "!--- \t"]
 # Blank lines, and a comment that joining lines makes: between a pair and comment lines above them, these aren't its own.
 OTHERS = ["", " \t", "\\\n# no", "  \\\n\\\n! no"]
 ENDS = ["\n", "\r\n", "\r"]
@@ -56,14 +58,27 @@ def whole(groups):
     return "".join(text for _, text in groups).encode()
 
 
+def below_separators(lines):
+    """The last of these comment lines, down from the last separator of documents among them."""
+    below = []
+    for _, run in itertools.groupby(lines, lambda line: line.lstrip(" \t\f")[0]):
+        run = list(run)
+        below = [] if all(re.fullmatch("[#!]---[ \t\f]*", line.rstrip("\r\n")) for line in run) else below + run
+    return below
+
+
 def without(groups, *keys):
-    """The groups without the pairs with these keys and the comment lines above them, from the last to the first."""
-    left, takes = [], False
-    for kind, text in reversed(groups):
-        takes = isinstance(kind, list) and kind[0] in keys or takes and kind == "comment"
-        if not takes:
-            left.append((kind, text))
-    return left[::-1]
+    """The groups without the pairs with these keys and their comments."""
+    left, above = [], []
+    for kind, text in groups:
+        if kind == "comment":
+            above.append((kind, text))
+            continue
+        takes = isinstance(kind, list) and kind[0] in keys
+        count = len(below_separators([line for _, line in above])) if takes else 0
+        left += above[: len(above) - count] + ([] if takes else [(kind, text)])
+        above = []
+    return left + above
 
 
 def check_removal(groups, key, fail):

@@ -389,7 +389,7 @@ int todrenval_rename_key(uint8_t const *source, size_t source_length, uint32_t e
                          uint8_t *out, size_t room, size_t *length, size_t *line);
 
 /* Writes the source without the pairs that have a key, and without the comment lines directly above each of them: no
- * blank line and no other pair is between. Every other byte stays. If no pair has the key, nothing changes. If what is
+ * blank line, no other pair and no separator `#---` of Spring's documents is between. Every other byte stays. If no pair has the key, nothing changes. If what is
  * left would begin like a byte order mark, a line feed comes first.
  *
  * Returns what todrenval_edit returns, but for _BAD_LIST, _NO_KEY and _KEY_TAKEN. */
@@ -397,8 +397,8 @@ int todrenval_remove_with_comment(uint8_t const *source, size_t source_length, u
                                   uint8_t const *key, size_t key_length, uint8_t *out, size_t room, size_t *length,
                                   size_t *line);
 
-/* Writes the comment of a key: the text of each comment line directly above the last pair with it, in UTF-8, and a line
- * feed after each. A text is what follows the sign and one blank, as it stands, and has no line feed. If there is no
+/* Writes the comment of a key: the text of each comment line directly above the last pair with it, down from the last
+ * separator `#---` of Spring's documents, in UTF-8, and a line feed after each. A text is what follows the sign and one blank, as it stands, and has no line feed. If there is no
  * such line, *length is 0. Malformed escapes in comments are no error. Of the flags it takes TODRENVAL_STRICT.
  *
  * Returns TODRENVAL_OK, _NO_ROOM, _NO_KEY, _NO_MEMORY, _UNKNOWN_ENCODING, _UNKNOWN_FLAGS, _NOT_UTF_8 (of the key),

@@ -785,7 +785,7 @@ def remove_with_comment(
 
 def comment(data: Bytes, key: str, *, encoding: str = "utf-8", errors: str = "strict") -> List[str]:
     r"""Returns the comment of a key: the texts of the comment lines directly above the last pair with it, each what follows
-    the sign and one blank, as it stands. No blank line and no other pair is between.
+    the sign and one blank, as it stands. No blank line, no other pair and no separator "#---" of Spring's documents is between.
 
     Raises KeyError if no pair has the key, MalformedEscape for one in a pair, and PropertiesError if the file is UTF-16.
 

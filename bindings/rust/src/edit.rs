@@ -108,8 +108,8 @@ pub fn rename_key(
     Ok(renamed)
 }
 
-/// Removes the pairs with a key from the bytes of a file, and the comment lines directly above each of them: no blank line and
-/// no other pair is between. Every other byte stays. If no pair has the key, nothing changes.
+/// Removes the pairs with a key from the bytes of a file, and the comment lines directly above each of them: no blank line,
+/// no other pair and no separator `#---` of Spring's documents is between. Every other byte stays. If no pair has the key, nothing changes.
 ///
 /// ```
 /// use todrenval::{remove_with_comment, UTF_8};
@@ -137,7 +137,8 @@ pub fn remove_with_comment(source: &[u8], options: impl Into<Options>, key: &str
 }
 
 /// Returns the comment of a key in the bytes of a file, or `None` if no pair has the key: the texts of the comment lines
-/// directly above the last pair with it, each what follows the sign and one blank, as it stands.
+/// directly above the last pair with it, down from the last separator `#---` of Spring's documents, each what follows the sign
+/// and one blank, as it stands.
 ///
 /// ```
 /// use todrenval::{comment_of, UTF_8};

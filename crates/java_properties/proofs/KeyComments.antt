@@ -21,9 +21,13 @@ use Rattle.properties_editing.specs.declared.group.GroupKind.{GroupKind}
 use Rattle.properties_editing.specs.declared.group.GroupKind.TheVariants as kind
 use Rattle.properties_editing.specs.declared.source.Comments.TheVariants.{PassedOver}
 use Rattle.properties_editing.proofs.PassedOver.{sound-join}
-use Rattle.properties_renaming.specs.CommentLines.{AreCommentGroups, AreCommentTexts, IsCommentGroup, IsCommentLine, is_comment}
+use Rattle.properties_renaming.specs.CommentLines.{AreCommentGroups, AreCommentTexts, IsCommentGroup, IsCommentLine, is_comment, lines_in_text}
+use Rattle.properties_renaming.specs.Separators.{AreSeparated}
+use Rattle.properties_renaming.specs.FoundSeparators.{EndIn, HasNoLines, above_if, below_if}
+use Rattle.properties_renaming.specs.declared.separators.LastRun.{LastRun}
+use Rattle.properties_renaming.proofs.CommentGroups.{above-texts, below-texts, comment-no_key, comments-more, texts-append, whole-if}
 use Rattle.java_properties.specs.Commented.{AreTextsOfComment}
-use Rattle.java_properties.specs.Private.PassedGroups.{ArePassed, IsKindOf, IsSoundLine, PassedTexts, after_other}
+use Rattle.java_properties.specs.Private.PassedGroups.{AddsPassedLine, AreAfter, ArePassed, IsKindOf, IsSoundLine, LeavesOut, PassedTexts, after_other}
 
 -- ---- comment lines
 
@@ -97,9 +101,6 @@ comment-joined [] c = absurd c
 comment-joined (l ∷ []) c = ap is_comment_line (joined-comment_line (record { number = 0; text = l.text }) [] c) ∙ c
 comment-joined (l ∷ m ∷ g) c = absurd c
 
-comment-no_key : (key : List ℕ) (g : List HeldLine) → IsCommentGroup g → ¬ (HasKey key g)
-comment-no_key key g c = λ h. let m = h.1 in comment_line-no_pair (joined (as_lines g)) m.raw_key m.raw_value (comment-joined g c) m.split
-
 -- ---- one group more
 
 none-more : (key : List ℕ) (gs : List (List HeldLine)) (g : List HeldLine) → NoneHasKey key gs → ¬ (HasKey key g) → NoneHasKey key (gs ++ g ∷ [])
@@ -113,22 +114,21 @@ texts-more key gs g None h t = none-more key gs g t h
 texts-more key gs g (Some texts) h (is, t) = (
   record {
     before = is.before;
-    run = is.run;
+    lines = is.lines;
     group = is.group;
     after = is.after ++ g ∷ [];
-    division = ap (λ v. v ++ g ∷ []) is.division ∙ append_assoc is.before (is.run ++ is.group ∷ is.after) (g ∷ [])
-        ∙ ap (λ v. is.before ++ v) (append_assoc is.run (is.group ∷ is.after) (g ∷ []));
+    division = ap (λ v. v ++ g ∷ []) is.division ∙ append_assoc is.before (is.lines ++ is.group ∷ is.after) (g ∷ [])
+        ∙ ap (λ v. is.before ++ v) (append_assoc is.lines (is.group ∷ is.after) (g ∷ []));
     has_key = is.has_key;
     no_later = none-more key is.after g is.no_later h;
     are_comments = is.are_comments;
     no_earlier = is.no_earlier;
+    above = is.above;
+    run = is.run;
+    is_comment = is.is_comment;
   },
   t,
 )
-
-comments-more : (gs : List (List HeldLine)) (g : List HeldLine) → AreCommentGroups gs → IsCommentGroup g → AreCommentGroups (gs ++ g ∷ [])
-comments-more [] g c h = (h, tt)
-comments-more (f ∷ gs) g c h = (c.0, comments-more gs g c.1 h)
 
 above-more : (gs : List (List HeldLine)) (g : List HeldLine) (texts : List (List ℕ)) (text : List ℕ) → AreCommentTexts gs texts → IsCommentLine (joined (as_lines g)) text
     → AreCommentTexts (gs ++ g ∷ []) (texts ++ text ∷ [])
@@ -141,71 +141,101 @@ above-more (f ∷ gs) g texts text (first, more, is, whole, rest) h =
 -- These texts are what is known after these groups, in the pairs of which no escape is malformed.
 pub record HavePassed (key : List ℕ) (passed : List (List HeldLine)) (texts : PassedTexts) : Type 0 where
   pub before : List (List HeldLine)
+  pub above : List (List HeldLine)
   pub run : List (List HeldLine)
-  pub division : passed ≡ before ++ run
-  pub are_comments : AreCommentGroups run
+  pub division : passed ≡ before ++ (above ++ run)
+  pub are_comments : AreCommentGroups (above ++ run)
   pub no_earlier : ¬ (IsCommentGroup (final_group before))
+  pub ends : EndIn (lines_in_text above) (lines_in_text run) texts.last
   pub are_above : AreCommentTexts run texts.above
   pub are_texts : AreTextsOfComment passed key texts.comment
   pub sound : AreSound passed
 
-pub passed-none : (key : List ℕ) → HavePassed key [] (record { above = []; comment = None })
-passed-none key = record {
+pub passed-none : (key : List ℕ) (last : LastRun) → HasNoLines last → HavePassed key [] (record { above = []; last = last; comment = None })
+passed-none key last none = record {
   before = [];
+  above = [];
   run = [];
   division = refl;
   are_comments = tt;
   no_earlier = λ c. c;
+  ends = inl (refl, refl, none);
   are_above = refl;
   are_texts = tt;
   sound = tt;
 }
 
+below-said : (found : Bool) (gs : List (List HeldLine)) (texts : List (List ℕ)) → AreCommentTexts gs texts → AreCommentTexts (below_if found gs) (below_if found texts)
+below-said true gs texts h = refl
+below-said false gs texts h = h
+
 -- a comment line
-passed-line : {key : List ℕ} {passed : List (List HeldLine)} {texts : PassedTexts} (g : List HeldLine) (text : List ℕ) → HavePassed key passed texts → IsCommentGroup g
-    → IsCommentLine (joined (as_lines g)) text → HavePassed key (passed ++ g ∷ []) (record { above = texts.above ++ text ∷ []; comment = texts.comment })
-passed-line {key} {passed} {texts} g text h c is = record {
-  before = h.before;
-  run = h.run ++ g ∷ [];
-  division = ap (λ v. v ++ g ∷ []) h.division ∙ append_assoc h.before h.run (g ∷ []);
-  are_comments = comments-more h.run g h.are_comments c;
-  no_earlier = h.no_earlier;
-  are_above = above-more h.run g texts.above text h.are_above is;
-  are_texts = texts-more key passed g texts.comment (comment-no_key key g c) h.are_texts;
-  sound = sound-join PassedOver passed (g ∷ []) h.sound (inr (comment-joined g c), tt);
-}
+passed-line : {key : List ℕ} {passed : List (List HeldLine)} {old left : PassedTexts} (g : List HeldLine) (new : PassedTexts) → HavePassed key passed old → IsCommentGroup g
+    → LeavesOut true (joined (as_lines g)) old left → AddsPassedLine (joined (as_lines g)) left new → HavePassed key (passed ++ g ∷ []) new
+passed-line {key} {passed} {old} {left} g new h c (found, passes, said, comment) (text, is, made) =
+    let up = above_if found h.above h.run in
+    let low = below_if found h.run in
+    let whole : h.above ++ h.run ≡ up ++ low = whole-if found h.above h.run in
+    let below : below_if found (lines_in_text h.run) ++ joined (as_lines g) ∷ [] ≡ lines_in_text (low ++ g ∷ []) =
+    ap (λ w. w ++ joined (as_lines g) ∷ []) (below-texts found h.run) ∙ sym (texts-append low (g ∷ [])) in
+    let ends = passes (lines_in_text h.above) (lines_in_text h.run) h.ends in
+    let more : HavePassed key (passed ++ g ∷ []) (record left { above = left.above ++ text ∷ [] }) = record {
+      before = h.before;
+      above = up;
+      run = low ++ g ∷ [];
+      division = ap (λ v. v ++ g ∷ []) (h.division ∙ ap (λ w. h.before ++ w) whole) ∙ append_assoc h.before (up ++ low) (g ∷ [])
+          ∙ ap (λ w. h.before ++ w) (append_assoc up low (g ∷ []));
+      are_comments = subst AreCommentGroups (append_assoc up low (g ∷ [])) (comments-more (up ++ low) g (subst AreCommentGroups whole h.are_comments) c);
+      no_earlier = h.no_earlier;
+      ends = subst (λ w. EndIn w (lines_in_text (low ++ g ∷ [])) left.last) (above-texts found h.above h.run)
+          (subst (λ w. EndIn (above_if found (lines_in_text h.above) (lines_in_text h.run)) w left.last) below ends);
+      are_above = above-more low g left.above text (subst (AreCommentTexts low) (sym said) (below-said found h.run old.above h.are_above)) is;
+      are_texts = subst (AreTextsOfComment (passed ++ g ∷ []) key) (sym comment) (texts-more key passed g old.comment (comment-no_key key g c) h.are_texts);
+      sound = sound-join PassedOver passed (g ∷ []) h.sound (inr (comment-joined g c), tt);
+    } in
+    subst (HavePassed key (passed ++ g ∷ [])) (sym made) more
 
 -- another group
-passed-other : {key : List ℕ} {passed : List (List HeldLine)} {texts : PassedTexts} (g : List HeldLine) (comment : Option (List (List ℕ))) → HavePassed key passed texts
-    → ¬ (IsCommentGroup g) → IsSoundLine (joined (as_lines g)) → AreTextsOfComment (passed ++ g ∷ []) key comment
-    → HavePassed key (passed ++ g ∷ []) (record { above = []; comment = comment })
-passed-other {key} {passed} {texts} g comment h other sound are = record {
+passed-other : {key : List ℕ} {passed : List (List HeldLine)} {old : PassedTexts} (g : List HeldLine) (last : LastRun) (comment : Option (List (List ℕ)))
+    → HavePassed key passed old → ¬ (IsCommentGroup g) → IsSoundLine (joined (as_lines g)) → HasNoLines last → AreTextsOfComment (passed ++ g ∷ []) key comment
+    → HavePassed key (passed ++ g ∷ []) (record { above = []; last = last; comment = comment })
+passed-other {key} {passed} {old} g last comment h other sound none are = record {
   before = passed ++ g ∷ [];
+  above = [];
   run = [];
   division = sym (append-nil (passed ++ g ∷ []));
   are_comments = tt;
   no_earlier = subst (λ l. ¬ (IsCommentGroup l)) (sym (final_group-push passed g)) other;
+  ends = inl (refl, refl, none);
   are_above = refl;
   are_texts = are;
   sound = sound-join PassedOver passed (g ∷ []) h.sound (sound, tt);
 }
 
--- A pair with the key has the comment lines directly above it.
-texts-above : {key : List ℕ} {passed : List (List HeldLine)} {texts : PassedTexts} (g : List HeldLine) → HavePassed key passed texts → HasKey key g
-    → AreTextsOfComment (passed ++ g ∷ []) key (Some texts.above)
-texts-above {key} {passed} {texts} g h k = (
+-- A pair with the key has the comment lines directly above it, back to the last separator.
+texts-above : {key : List ℕ} {passed : List (List HeldLine)} {old left : PassedTexts} (g : List HeldLine) → HavePassed key passed old
+    → LeavesOut false (joined (as_lines g)) old left → HasKey key g → AreTextsOfComment (passed ++ g ∷ []) key (Some left.above)
+texts-above {key} {passed} {old} {left} g h (found, passes, said, comment) k = (
   record {
     before = h.before;
-    run = h.run;
+    lines = h.above ++ h.run;
     group = g;
     after = [];
-    division = ap (λ v. v ++ g ∷ []) h.division ∙ append_assoc h.before h.run (g ∷ []);
+    division = ap (λ v. v ++ g ∷ []) h.division ∙ append_assoc h.before (h.above ++ h.run) (g ∷ []);
     has_key = k;
     no_later = tt;
     are_comments = h.are_comments;
     no_earlier = h.no_earlier;
+    above = above_if found h.above h.run;
+    run = below_if found h.run;
+    is_comment = record {
+      division = whole-if found h.above h.run;
+      separated = subst (λ w. AreSeparated w (lines_in_text (below_if found h.run))) (above-texts found h.above h.run)
+          (subst (AreSeparated (above_if found (lines_in_text h.above) (lines_in_text h.run))) (below-texts found h.run)
+          (passes.1 (lines_in_text h.above) (lines_in_text h.run) h.ends));
+    };
   },
-  h.are_above,
+  subst (AreCommentTexts (below_if found h.run)) (sym said) (below-said found h.run old.above h.are_above),
 )
 
 -- One more group was passed.
@@ -213,21 +243,27 @@ pub passed-more : {key : List ℕ} {passed : List (List HeldLine)} {old : Passed
     → IsKindOf k (joined (as_lines g)) → count ≡ length g → ArePassed (is_comment k && (count == 1)) (joined (as_lines g)) key old new
     → HavePassed key (passed ++ g ∷ []) new
 passed-more {key} {passed} {old} k count g new h is size p = elim (cases_Bool (is_comment k && (count == 1))) [
-  | inl l ↦
-      let q = rw l at p in
-      subst (HavePassed key (passed ++ g ∷ [])) (sym q.2) (passed-line g q.0 h (group-comment k g count is size l) q.1)
+  | inl l ↦ let q = rw l at p in passed-line g new h (group-comment k g count is size l) q.1 q.2
   | inr l ↦
       let q = rw l at p in
+      let left = q.0 in
+      let none = q.1.1.0 in
       let other = group-other k g count is size l in
       elim (cases_Bool (has_key key g)) [
-        | inl has ↦ subst (HavePassed key (passed ++ g ∷ [])) (sym (q.1 ∙ ap (λ b. after_other b old) has))
-            (passed-other g (Some old.above) h other q.0 (texts-above g h (has_key-true key g has)))
-        | inr has ↦ subst (HavePassed key (passed ++ g ∷ [])) (sym (q.1 ∙ ap (λ b. after_other b old) has))
-            (passed-other g old.comment h other q.0 (texts-more key passed g old.comment (has_key-false key g has) h.are_texts))
+        | inl has ↦ subst (HavePassed key (passed ++ g ∷ [])) (sym (q.2.1 ∙ ap (λ b. after_other b left) has))
+            (passed-other g left.last (Some left.above) h other q.2.0 none (texts-above g h q.1 (has_key-true key g has)))
+        | inr has ↦ subst (HavePassed key (passed ++ g ∷ [])) (sym (q.2.1 ∙ ap (λ b. after_other b left) has))
+            (passed-other g left.last left.comment h other q.2.0 none
+            (subst (AreTextsOfComment (passed ++ g ∷ []) key) (sym q.1.3) (texts-more key passed g old.comment (has_key-false key g has) h.are_texts)))
       ]
 ]
 
--- A group that isn't a comment line, given whether it is a pair with the key.
-pub passed-pair : (key x : List ℕ) (is_line has : Bool) (old new : PassedTexts) → is_line ≡ false → (has ≡ is_pair_with key (outcome_of x)) × IsSoundLine x
-    → new ≡ after_other has old → ArePassed is_line x key old new
-passed-pair key x is_line has old new l h n = rw l (h.1, n ∙ ap (λ b. after_other b old) h.0)
+-- A comment line,
+pub passed-added : (key x : List ℕ) (is_line : Bool) (old left new : PassedTexts) → is_line ≡ true → LeavesOut is_line x old left → AddsPassedLine x left new
+    → ArePassed is_line x key old new
+passed-added key x is_line old left new l leaves adds = (left, leaves, rw l adds)
+
+-- or a group that isn't one, given whether it is a pair with the key.
+pub passed-pair : (key x : List ℕ) (is_line has : Bool) (left new : PassedTexts) → is_line ≡ false → (has ≡ is_pair_with key (outcome_of x)) × IsSoundLine x
+    → new ≡ after_other has left → AreAfter is_line x key left new
+passed-pair key x is_line has left new l h n = rw l (h.1, n ∙ ap (λ b. after_other b left) h.0)

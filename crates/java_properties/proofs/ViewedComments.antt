@@ -32,6 +32,8 @@ use Rattle.properties_editing.proofs.PassedOver.{from-after, from-fault, from-so
 use Rattle.std.specs.declared.alloc.AllocError.{AllocError}
 use Rattle.java_properties.specs.Commented.{AreTextsOfComment, HasComment, IsCommentError, RefusesComment}
 use Rattle.properties_renaming.specs.CommentLines.{is_line_of_comment}
+use Rattle.properties_renaming.specs.FoundSeparators.{HasNoLines}
+use Rattle.properties_renaming.specs.declared.separators.LastRun.{LastRun}
 use Rattle.java_properties.specs.Private.PassedGroups.{ArePassed, IsUnsoundPassed, PassedTexts}
 use Rattle.java_properties.proofs.KeyComments.{HavePassed, passed-more, passed-none, texts-more}
 
@@ -106,9 +108,9 @@ pub record HaveShown (requested : Encoding) (source key : List ℕ) (v : OpenVie
   pub counted : v.passed + length v.group ≡ length (held_in passed)
   pub known : HavePassed key passed texts
 
-pub shown-none : {requested : Encoding} {source : List ℕ} {v : OpenView} (key : List ℕ) → IsViewOf requested source v
-    → HaveShown requested source key v (record { above = []; comment = None })
-shown-none {requested} {source} {v} key w = record {
+pub shown-none : {requested : Encoding} {source : List ℕ} {v : OpenView} (key : List ℕ) (last : LastRun) → HasNoLines last → IsViewOf requested source v
+    → HaveShown requested source key v (record { above = []; last = last; comment = None })
+shown-none {requested} {source} {v} key last none w = record {
   passed = [];
   encoding = ap (λ m. let k : InForce = m in k.encoding) w.in_force;
   editable = w.editable;
@@ -116,7 +118,7 @@ shown-none {requested} {source} {v} key w = record {
   held = subst (λ m. let k : InForce = m in AreGroupsOf k.encoding k.body w.given.all) (sym w.in_force) w.given.division;
   given = sym w.given.are;
   counted = rw (w.none_passed, w.none_given) refl;
-  known = passed-none key;
+  known = passed-none key last none;
 }
 
 -- One more group was shown, and passed.

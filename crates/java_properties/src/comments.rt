@@ -6,20 +6,22 @@ ghost use Rattle.properties_format.specs.Lines.{is_comment_line};
 ghost use Rattle.properties_text.specs.Encoding.{encoding_of};
 ghost use Rattle.properties_renaming.specs.CommentLines.{is_line_of_comment};
 ghost use Rattle.java_properties.specs.Commented.{TellsComment, TellsCommentIn};
-ghost use Rattle.java_properties.specs.Private.PassedGroups.{AddsPassedLine, IsKindOf, PassesGroup, TellsKey, after_other, passed_texts};
+ghost use Rattle.java_properties.specs.Private.PassedGroups.{AddsPassedLine, IsKindOf, LeavesOut, PassesGroup, TellsKey, after_other, passed_texts};
 
 use properties_editing::{Document, GroupKind, View, ViewedGroup};
 use properties_items::error::PropertiesError;
 use properties_items::found::{find_item, pair_texts};
 use properties_renaming::comment_lines::{comment_text, is_comment_line};
+use properties_renaming::separators::LastRun;
 use properties_text::encoding::Encoding;
 use std::alloc::{AllocError, Global};
 use std::mem;
 
-/// Returns the comment of a key: the texts of all comment lines directly above the last pair with the key, or `None` if
+/// Returns the comment of a key: the texts of the comment lines directly above the last pair with the key, or `None` if
 /// no pair has it.
 ///
-/// No blank line and no pair is between them. A text is what follows the sign and one blank, as it is written: escapes
+/// No blank line, no pair and no separator of Spring's documents is between them: a line `#---` or `!---`, unless a comment
+/// line with the same sign is directly above or below it. A text is what follows the sign and one blank, as it is written: escapes
 /// stay, since Java resolves none in a comment. A byte order mark at the front overrides the encoding.
 ///
 /// UTF-16 is refused. A source with a malformed escape in a pair is refused with the error of the first one; a comment
@@ -43,6 +45,7 @@ pub fn comment_of(
     let mut view = View::open(alloc, source, encoding)?;
     let mut passed = Passed {
         above: Vec::new(alloc),
+        last: LastRun::new(),
         comment: None,
     };
     while let Some(group) = view.next()? {
@@ -73,8 +76,9 @@ pub fn comment_in(
 // What is known of a key after some groups.
 #[derive(Drop)]
 struct Passed {
-    // The texts of the comment lines that came last, with no other group behind them.
+    // The texts of the comment lines that came last, with no other group and no separator behind them.
     above: Vec<String>,
+    last: LastRun,
     // The comment of the last pair with the key.
     comment: Option<Vec<String>>,
 }
@@ -92,6 +96,7 @@ impl Passed {
         ensures { PassesGroup (is_line_of_comment group) group.line_number (chars line.now) (chars key.now)
             (passed_texts self.old) result (passed_texts self.new) }
     {
+        self.separate(group, line);
         if is_comment_line(group) {
             return Ok(self.add_line(alloc, line)?);
         }
@@ -101,6 +106,16 @@ impl Passed {
             self.above.clear();
         }
         Ok(())
+    }
+
+    // Leaves out the comment lines that came last if they end in a separator.
+    fn separate(&mut self, group: ViewedGroup, line: &str)
+        requires { is_line_of_comment group ≡ true → is_comment_line (chars line.now) ≡ true }
+        ensures { LeavesOut (is_line_of_comment group) (chars line.now) (passed_texts self.old) (passed_texts self.new) }
+    {
+        if self.last.pass(group, line) {
+            self.above.clear();
+        }
     }
 
     // Adds the text of a comment line.

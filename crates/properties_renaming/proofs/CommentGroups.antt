@@ -1,6 +1,6 @@
 -- Which groups are comment lines.
-use Rattle.std.proofs.Common.{◌≡◌, ℕ, true, false, List, [], ◌∷◌, ◌++◌, length, refl, sym, ap, ◌∙◌, inl, inr, arith}
-use Rattle.std.specs.Prelude.{◌==◌, ◌&&◌}
+use Rattle.std.proofs.Common.{◌≡◌, ℕ, true, false, List, [], ◌∷◌, ◌++◌, length, refl, sym, ap, ap₂, ◌∙◌, inl, inr, append-nil, arith}
+use Rattle.std.specs.Prelude.{Bool, ◌==◌, ◌&&◌}
 use Rattle.std.proofs.lemmas.Bool.{cases_Bool}
 use Rattle.properties_format.specs.Text.{is_blank, is_comment_sign, begins, without_leading_blanks}
 use Rattle.properties_format.specs.Lines.{is_comment_line, is_open, joined, without_last, without_open_backslash}
@@ -10,7 +10,9 @@ use Rattle.properties_format.proofs.Groups.Joined.{joined-comment_line, joined-o
 use Rattle.properties_format.proofs.Split.Blanks.{without_leading_blanks-blanks, without_leading_blanks-only}
 use Rattle.properties_format.proofs.Split.Unique.{sign-full}
 use Rattle.properties_format.proofs.Valued.Parts.{comment_line-no_pair}
-use Rattle.properties_renaming.specs.CommentLines.{AreCommentGroups, IsCommentGroup}
+use Rattle.properties_renaming.specs.CommentLines.{AreCommentGroups, IsCommentGroup, IsCommentIn, lines_in_text}
+use Rattle.properties_renaming.specs.FoundSeparators.{above_if, below_if}
+use Rattle.properties_renaming.proofs.SeparatedRuns.{one-separated}
 
 -- ---- comment lines
 
@@ -70,3 +72,51 @@ comment-no_key key (l ∷ m ∷ g) c = absurd c
 pub comments-more : (gs : List (List HeldLine)) (g : List HeldLine) → AreCommentGroups gs → IsCommentGroup g → AreCommentGroups (gs ++ g ∷ [])
 comments-more [] g c h = (h, tt)
 comments-more (f ∷ gs) g c h = (c.0, comments-more gs g c.1 h)
+
+pub comments-parts : (fs gs : List (List HeldLine)) → AreCommentGroups (fs ++ gs) → AreCommentGroups fs × AreCommentGroups gs
+comments-parts [] gs c = (tt, c)
+comments-parts (f ∷ fs) gs c = let m = comments-parts fs gs c.1 in ((c.0, m.0), m.1)
+
+pub comments-join : (fs gs : List (List HeldLine)) → AreCommentGroups fs → AreCommentGroups gs → AreCommentGroups (fs ++ gs)
+comments-join [] gs c k = k
+comments-join (f ∷ fs) gs c k = (c.0, comments-join fs gs c.1 k)
+
+-- ---- their texts
+
+pub texts-append : (fs gs : List (List HeldLine)) → lines_in_text (fs ++ gs) ≡ lines_in_text fs ++ lines_in_text gs
+texts-append [] gs = refl
+texts-append (f ∷ fs) gs = ap (λ w. joined (as_lines f) ∷ w) (texts-append fs gs)
+
+pub above-texts : (found : Bool) (fs gs : List (List HeldLine)) → above_if found (lines_in_text fs) (lines_in_text gs) ≡ lines_in_text (above_if found fs gs)
+above-texts true fs gs = sym (texts-append fs gs)
+above-texts false fs gs = refl
+
+pub below-texts : (found : Bool) (gs : List (List HeldLine)) → below_if found (lines_in_text gs) ≡ lines_in_text (below_if found gs)
+below-texts true gs = refl
+below-texts false gs = refl
+
+pub whole-if : (found : Bool) (fs gs : List (List HeldLine)) → fs ++ gs ≡ above_if found fs gs ++ below_if found gs
+whole-if true fs gs = sym (append-nil (fs ++ gs))
+whole-if false fs gs = refl
+
+texts-length : (gs : List (List HeldLine)) → length (lines_in_text gs) ≡ length gs
+texts-length [] = refl
+texts-length (g ∷ gs) = let more = texts-length gs in omega arith
+
+-- Comment lines have one comment.
+pub comment_in-only : (lines above comment above' comment' : List (List HeldLine)) → IsCommentIn lines above comment → IsCommentIn lines above' comment'
+    → (above ≡ above') × (comment ≡ comment')
+comment_in-only lines above comment above' comment' h k =
+    let both : lines_in_text above ++ lines_in_text comment ≡ lines_in_text above' ++ lines_in_text comment' =
+    sym (texts-append above comment) ∙ ap lines_in_text (sym h.division ∙ k.division) ∙ texts-append above' comment' in
+    let same = one-separated (lines_in_text above) (lines_in_text comment) (lines_in_text above') (lines_in_text comment') h.separated k.separated both in
+    parts above above' comment comment' (sym (texts-length above) ∙ ap length same.0 ∙ texts-length above') (sym h.division ∙ k.division)
+  where
+    parts : (fs gs hs ks : List (List HeldLine)) → length fs ≡ length gs → fs ++ hs ≡ gs ++ ks → (fs ≡ gs) × (hs ≡ ks)
+    parts [] [] hs ks n q = (refl, q)
+    parts [] (g ∷ gs) hs ks n q = absurd (omega arith)
+    parts (f ∷ fs) [] hs ks n q = absurd (omega arith)
+    parts (f ∷ fs) (g ∷ gs) hs ks n q =
+        let rest : fs ++ hs ≡ gs ++ ks = cc in
+        let first : f ≡ g = cc in
+        let m = parts fs gs hs ks (omega arith) rest in (ap₂ (λ w ws. w ∷ ws) first m.0, m.1)

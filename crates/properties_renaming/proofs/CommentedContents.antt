@@ -57,12 +57,13 @@ use Rattle.properties_format.proofs.Split.Blanks.{without_leading_blanks-only}
 use Rattle.properties_format.proofs.Split.Unique.{sign-full, split_of-meets}
 use Rattle.properties_format.proofs.Valued.Heads.{ascii-among}
 use Rattle.properties_format.proofs.Valued.Revalued.{text-own}
-use Rattle.properties_renaming.specs.CommentLines.{AreCommentGroups, IsCommentGroup}
+use Rattle.properties_renaming.specs.CommentLines.{AreCommentGroups, IsCommentGroup, lines_in_text}
 use Rattle.properties_renaming.specs.Sections.{AreMadeOf, AreSections, Section, groups_of, is_among}
-use Rattle.properties_renaming.specs.Commenting.{AreCommentsSet, HasLines, HaveKeys, IsCommented, IsStyleFor, LineStyle, NewText, comment_line, ending_or, gap_before, text_for, texts_of}
+use Rattle.properties_renaming.specs.Commenting.{AreCommentsSet, HasLines, HaveKeys, IsCommented, IsStyleFor, LineStyle, NewText, comment_line, ending_or, gap_before, other_sign, style_below, text_for, texts_of}
+use Rattle.properties_renaming.specs.Separators.{last_sign}
 use Rattle.properties_renaming.specs.Commented.{HasOneOf, IsLeftOf}
 use Rattle.properties_renaming.specs.Laws.{AreAmong, AreLastPairs, AreOthersIn, ChangedComment, OfTexts, RemovingWithCommentsKeepsTheRest, RemovingWithCommentsTakesTheValues, SettingCommentsKeepsTheMap, SettingCommentsKeepsTheRest, SettingPlainCommentsBreaksNothing, changed_keys, keys_of, with_new_comments, with_old_comments}
-use Rattle.properties_renaming.proofs.CommentGroups.{comment-no_key, line-blank, line-pair}
+use Rattle.properties_renaming.proofs.CommentGroups.{comment-no_key, comments-join, comments-parts, line-blank, line-pair}
 use Rattle.properties_renaming.proofs.KeyPlaces.{decoded-past}
 use Rattle.properties_renaming.proofs.LastLines.{text-some}
 use Rattle.properties_renaming.proofs.ManyRenames.{key-only}
@@ -94,6 +95,15 @@ record IsStyle (style : LineStyle) (by : LineEnding) : Type 0 where
   is_sign : is_comment_sign style.sign ≡ true
   blank : AreBlanks style.blank
   ending : style.ending ≡ line_ending_text by
+
+style-below : (separator : ℕ) (style : LineStyle) (by : LineEnding) → IsStyle style by → IsStyle (style_below separator style) by
+style-below separator style by look = record {
+  indent = look.indent;
+  is_sign = cond_both (style.sign == separator) (other_sign separator) style.sign (λ s. is_comment_sign s ≡ true)
+      (λ k. cond_both (separator == 35) 33 35 (λ s. is_comment_sign s ≡ true) (λ l. refl) (λ l. refl)) (λ k. look.is_sign);
+  blank = look.blank;
+  ending = look.ending;
+}
 
 -- ---- a new comment line is a group
 
@@ -157,6 +167,14 @@ turn-join e (f ∷ fs) gs k a = turn-cons e f (fs ++ gs) k.0 (turn-join e fs gs 
 ended-first : (e : Encoding) (fs gs : List (List HeldLine)) → AreEnded e (fs ++ gs) → AreEnded e fs
 ended-first e [] gs k = tt
 ended-first e (f ∷ fs) gs k = (k.0, ended-first e fs gs k.1)
+
+ended-last : (e : Encoding) (fs gs : List (List HeldLine)) → AreEnded e (fs ++ gs) → AreEnded e gs
+ended-last e [] gs k = k
+ended-last e (f ∷ fs) gs k = ended-last e fs gs k.1
+
+ended-join : (e : Encoding) (fs gs : List (List HeldLine)) → AreEnded e fs → AreEnded e gs → AreEnded e (fs ++ gs)
+ended-join e [] gs h k = k
+ended-join e (f ∷ fs) gs h k = (h.0, ended-join e fs gs h.1 k)
 
 module _ (r : Repertoire) (style : LineStyle) (by : LineEnding) (ok : is_editable r.encoding ≡ true) (look : IsStyle style by) where
   lines-comments : (xs : List (List ℕ)) → AreScalarLines xs → AreCommentGroups (map (new_group r style by) xs)
@@ -430,21 +448,24 @@ sound-run : (run old more : List (List HeldLine)) → are_sound (run ++ old) →
 sound-run run old more sound k = sound-behind run old more (λ s. k) sound
 
 module _ (r : Repertoire) (ok : is_editable r.encoding ≡ true) (other : List ℕ) (o : (by : LineEnding) × (other ≡ line_ending_text by)) where
-  new-run : (s : Section) (text head : List ℕ) → All scalar text → AreCommentGroups s.run → HasLines r other s text head → IsNewRun r.encoding s.run text head
-  new-run s text head scalars c h = by h.set
+  new-run : (separator : ℕ) (run : List (List HeldLine)) (group : List HeldLine) (text head : List ℕ) → All scalar text → AreCommentGroups run → HasLines r other separator run group text head
+      → IsNewRun r.encoding run text head
+  new-run separator run group text head scalars c h = by h.set
     where
-      by : (h.texts ≡ h.lines) × (head ≡ groups_bytes s.run)
-          ⊎ (h.texts ≢ h.lines) × ((style : LineStyle) × IsStyleFor other s.run s.group style × (head ≡ flat_map (comment_line r style) h.lines))
-          → IsNewRun r.encoding s.run text head
+      by : (h.texts ≡ h.lines) × (head ≡ groups_bytes run)
+          ⊎ (h.texts ≢ h.lines) × ((style : LineStyle) × IsStyleFor other run group style × (head ≡ flat_map (comment_line r (style_below separator style)) h.lines))
+          → IsNewRun r.encoding run text head
       by (inl (same, is)) = record {
-        new = s.run;
+        new = run;
         comments = c;
         ended = λ k. k;
         bytes = sym is;
-        clean = λ n old more sound k. sound-run s.run old more sound k;
+        clean = λ n old more sound k. sound-run run old more sound k;
       }
-      by (inr (apart, (style, is_style, is))) =
-          let look = style-is other s.run s.group style o is_style in
+      by (inr (apart, (plain, is_style, is))) =
+          let plain_look = style-is other run group plain o is_style in
+          let style = style_below separator plain in
+          let look : (by : LineEnding) × IsStyle style by = (plain_look.0, style-below separator plain plain_look.0 plain_look.1) in
           let lines = subst AreScalarLines (sym h.are_lines.texts_are)
           (scalar-lines h.are_lines.lines.ended h.are_lines.lines.last h.are_lines.are_lines.are_lines
           (subst (AllByRecursion scalar) h.are_lines.are_lines.text (recursion_from_All scalar text scalars))) in
@@ -458,6 +479,19 @@ module _ (r : Repertoire) (ok : is_editable r.encoding ≡ true) (other : List �
                 (subst AreCleanLines (sym h.are_lines.texts_are)
                 (clean-lines h.are_lines.lines.ended h.are_lines.lines.last (subst HoldsNoBackslash h.are_lines.are_lines.text n))) k;
           }
+
+-- Lines above the comment stay.
+run-behind : {e : Encoding} {run : List (List HeldLine)} {text head : List ℕ} (above low : List (List HeldLine)) → AreCommentGroups above → run ≡ above ++ low
+    → IsNewRun e low text head → IsNewRun e run text (groups_bytes above ++ head)
+run-behind {e} {run} {text} {head} above low c division n = subst (λ gs. IsNewRun e gs text (groups_bytes above ++ head)) (sym division) (record {
+  new = above ++ n.new;
+  comments = comments-join above n.new c n.comments;
+  ended = λ k. ended-join e above n.new (ended-first e above low k) (n.ended (ended-last e above low k));
+  bytes = groups_bytes-append above n.new ∙ ap (λ w. groups_bytes above ++ w) n.bytes;
+  clean = λ clean old more sound k.
+      subst are_sound (sym (append_assoc above n.new more))
+      (sound-behind above (low ++ old) (n.new ++ more) (λ s. n.clean clean old more s k) (subst are_sound (append_assoc above low old) sound));
+})
 
 -- How contents changed, and that the comments of all keys did that a pair of these groups has.
 record HasChanges (texts : List NewText) (gs : List (List HeldLine)) (old new : List Content) : Type 0 where
@@ -524,10 +558,6 @@ none-rest key (s ∷ ss) last tail k h = behind s.run (none-rest key ss last tai
         → NoneHasKey key (run ++ s.group ∷ groups_of ss last) → NoneHasKey key (run ++ s.group ∷ groups_of ss tail)
     behind [] rest h = (h.0, rest h.1)
     behind (g ∷ run) rest h = (h.0, behind run rest h.1)
-
-ended-last : (e : Encoding) (fs gs : List (List HeldLine)) → AreEnded e (fs ++ gs) → AreEnded e gs
-ended-last e [] gs k = k
-ended-last e (f ∷ fs) gs k = ended-last e fs gs k.1
 
 contents-split : (run : List (List HeldLine)) (g : List HeldLine) (gs : List (List HeldLine))
     → contents_in (run ++ g ∷ gs) ≡ contents_in (run ++ g ∷ []) ++ contents_in gs
@@ -632,18 +662,21 @@ module _ (r : Repertoire) (ok : is_editable r.encoding ≡ true) (other : List �
       there = λ key text q. inl (none key);
     };
   }
-  new-groups (s ∷ ss) last tail body a same none_last none (made, more, (head, inl (text, l, lines), is), whole, h) =
+  new-groups (s ∷ ss) last tail body a same none_last none (made, more, inl (text, l, set), whole, h) =
       let m = new-groups ss last tail more a.2 same none_last none h in
       let holds = text-of (All scalar) texts l.key text scalars l.is_text in
+      let above = groups_bytes set.above in
+      let parts = comments-parts set.above set.comment (subst AreCommentGroups set.is_comment.division a.0) in
+      let run = run-behind set.above set.comment parts.0 set.is_comment.division (new-run r ok other o (last_sign (lines_in_text set.above)) set.comment s.group text set.head holds.0 parts.1 set.lines) in
       run-changed s l.key a.0 l.has_key (none-rest l.key ss last tail (λ k. none l.key) l.no_later) holds.1
-      (λ c. (text-of HoldsNoBackslash texts l.key text c l.is_text).0) m (new-run r ok other o s text head holds.0 a.0 lines)
-      (whole ∙ ap (λ w. w ++ more) is)
-  new-groups (s ∷ ss) last tail body a same none_last none (made, more, (head, inr (other, kept), is), whole, h) =
+      (λ c. (text-of HoldsNoBackslash texts l.key text c l.is_text).0) m run
+      (whole ∙ ap (λ w. w ++ more) (set.made_is ∙ sym (append_assoc above set.head (group_bytes s.group))))
+  new-groups (s ∷ ss) last tail body a same none_last none (made, more, inr (other, kept), whole, h) =
       let m = new-groups ss last tail more a.2 same none_last none h in
       run-kept s a.0
       (λ key text q has behind. other text
       (record { key = key; has_key = has; no_later = none-rest key ss tail last (λ k. none_last key) behind; is_text = q }))
-      m (whole ∙ ap (λ w. w ++ more) (is ∙ ap (λ w. w ++ group_bytes s.group) kept))
+      m (whole ∙ ap (λ w. w ++ more) kept)
 
 -- Each key of a comment has a pair among these groups, so its comment changed.
 each-changed : (all : List NewText) (gs : List (List HeldLine)) (changes : List ChangedComment) → HaveKeys all gs
@@ -807,9 +840,13 @@ are-some : (keys : List (List ℕ)) (ss : List Section) (last : List (List HeldL
     → AreMadeOf (IsLeftOf keys) ss last rest → AreSome keys (groups_of ss last) rest
 are-some keys [] last rest a c h =
     subst (λ gs. AreSome keys gs rest) (append-nil last) (subst (AreSome keys (last ++ [])) (append-nil (groups_bytes last) ∙ sym h) (kept-run keys last [] [] c refl))
-are-some keys (s ∷ ss) last rest a c (made, more, inl (has, none), whole, h) =
-    some-run keys s.run (s.group ∷ groups_of ss last) rest a.0
-    (inl (inl has, subst (AreSome keys (groups_of ss last)) (sym (whole ∙ ap (λ w. w ++ more) none)) (are-some keys ss last more a.2 c h)))
+are-some keys (s ∷ ss) last rest a c (made, more, inl (has, (above, low, is, left)), whole, h) =
+    let gs = s.group ∷ groups_of ss last in
+    let parts = comments-parts above low (subst AreCommentGroups is.division a.0) in
+    subst (λ w. AreSome keys w rest) (sym (ap (λ w. w ++ gs) is.division ∙ append_assoc above low gs))
+    (subst (AreSome keys (above ++ (low ++ gs))) (sym (whole ∙ ap (λ w. w ++ more) left))
+    (kept-run keys above (low ++ gs) more parts.0
+    (some-run keys low gs more parts.1 (inl (inl has, are-some keys ss last more a.2 c h)))))
 are-some keys (s ∷ ss) last rest a c (made, more, inr (other, is), whole, h) =
     subst (AreSome keys (s.run ++ s.group ∷ groups_of ss last))
     (sym (whole ∙ ap (λ w. w ++ more) is ∙ append_assoc (groups_bytes s.run) (group_bytes s.group) more))

@@ -21,16 +21,19 @@ use Rattle.properties_format.proofs.Body.Groups.{groups_bytes-append, held_group
 use Rattle.properties_format.proofs.Items.Unique.{outcome_of-meets, outcome_of-only}
 use Rattle.properties_editing.specs.Views.{AreGiven, IsGroup, IsViewOf, OpenView, TakesNext, group_kind, viewed_line, past_group, with_bytes}
 use Rattle.properties_editing.specs.declared.group.ViewedGroup.{ViewedGroup}
-use Rattle.properties_renaming.specs.CommentLines.{AreCommentGroups, IsCommentGroup, is_comment, is_line_of_comment}
+use Rattle.properties_renaming.specs.CommentLines.{AreCommentGroups, IsCommentGroup, is_comment, is_line_of_comment, lines_in_text}
 use Rattle.properties_renaming.specs.Commented.{HasOneOf, IsLeftOf, IsRemovedWithComments}
 use Rattle.properties_renaming.specs.Renaming.{AreIn}
 use Rattle.properties_renaming.specs.Sections.{AreDivided, AreMadeOf, AreSections, Section, groups_of, is_among}
+use Rattle.properties_renaming.specs.Separators.{AreSeparated}
 use Rattle.properties_renaming.specs.Private.Commented.{AreListed, GivesHeaded, TakesHeaded}
 use Rattle.properties_renaming.specs.Private.Copied.{IsNew, IsReplacedIn, copied_to}
 use Rattle.properties_renaming.specs.Private.Keyed.{GivesValue, value_at, value_of}
+use Rattle.properties_renaming.specs.FoundSeparators.{EndIn, HasNoLines, PassesGroup, above_if, below_if}
 use Rattle.properties_renaming.specs.declared.comments.Headed.{Headed}
 use Rattle.properties_renaming.specs.declared.copied.Copied.{Copied}
-use Rattle.properties_renaming.proofs.CommentGroups.{comments-more, group-comment, group-other, line-blank, line-comment, line-pair}
+use Rattle.properties_renaming.specs.declared.separators.LastRun.{LastRun}
+use Rattle.properties_renaming.proofs.CommentGroups.{above-texts, below-texts, comment_in-only, comments-more, group-comment, group-other, line-blank, line-comment, line-pair, texts-append, whole-if}
 use Rattle.properties_renaming.proofs.RenamedKeys.{copied-more, held-push, mark-front}
 use Rattle.properties_renaming.proofs.SectionedGroups.{groups-append, groups-push, one-division, one-made, sections-push}
 
@@ -59,22 +62,26 @@ told-line v group h k = let c = sym (told v group h) ∙ k in grind (arith)
 
 -- ---- the next group that isn't a comment line
 
--- Comment lines alone were passed.
-pub record ArePassed (v now : OpenView) (above : Option ℕ) : Type 0 where
-  pub run : List (List HeldLine)
-  pub are_comments : AreCommentGroups run
-  pub division : v.to_come ≡ run ++ now.to_come
-  pub place : (past_group now).start ≡ (past_group v).start + length (groups_bytes run)
-  pub passed : (past_group now).passed ≡ (past_group v).passed + length (held_in run)
-  pub start : (past_group v).start ≡ unwrap_or above (past_group now).start
+-- Comment lines alone were passed; those above are known to go up to a separator.
+pub record ArePassed (v now : OpenView) (above comment : List (List HeldLine)) (begun : Option ℕ) (last : LastRun) : Type 0 where
+  pub are_comments : AreCommentGroups (above ++ comment)
+  pub division : v.to_come ≡ (above ++ comment) ++ now.to_come
+  pub place : (past_group now).start ≡ (past_group v).start + length (groups_bytes (above ++ comment))
+  pub passed : (past_group now).passed ≡ (past_group v).passed + length (held_in (above ++ comment))
+  pub ends : EndIn (lines_in_text above) (lines_in_text comment) last
+  pub start : unwrap_or begun (past_group now).start ≡ (past_group v).start + length (groups_bytes above)
   pub nearer : length now.to_come ≤ length v.to_come
 
-pub none-passed : (v : OpenView) → ArePassed v v None
-none-passed v = record { run = []; are_comments = tt; division = refl; place = omega arith; passed = omega arith; start = refl; nearer = omega arith }
-
-pub none-passed-run : (v : OpenView) → (none-passed v).run ≡ []
-unfolding none-passed
-none-passed-run v = refl
+pub none-passed : (v : OpenView) (last : LastRun) → HasNoLines last → ArePassed v v [] [] None last
+none-passed v last none = record {
+  are_comments = tt;
+  division = refl;
+  place = omega arith;
+  passed = omega arith;
+  ends = inl (refl, refl, none);
+  start = omega arith;
+  nearer = omega arith;
+}
 
 pub moved : {now next : OpenView} {group : ViewedGroup} → TakesNext now group next → next.start ≡ (past_group now).start
 moved t = ap (λ w. let o : OpenView = w in o.start) t.moves
@@ -82,69 +89,102 @@ moved t = ap (λ w. let o : OpenView = w in o.start) t.moves
 pub numbered : {now next : OpenView} {group : ViewedGroup} → TakesNext now group next → next.passed ≡ (past_group now).passed
 numbered t = ap (λ w. let o : OpenView = w in o.passed) t.moves
 
-module _ {v now next : OpenView} {above : Option ℕ} (group : ViewedGroup) (start : ℕ) where
-  same-start : ArePassed v now above → TakesNext now group next → start ≡ unwrap_or above group.start → start ≡ (past_group v).start
-  same-start h t is = is ∙ ap (unwrap_or above) (t.is_group.start ∙ moved t) ∙ sym h.start
+-- The comment begins anew if a separator is directly above the next group.
+begun-start : {v now : OpenView} {above comment : List (List HeldLine)} {begun begun' : Option ℕ} {last : LastRun} (found : Bool)
+    → ArePassed v now above comment begun last → begun' ≡ (if found then None else begun)
+    → unwrap_or begun' (past_group now).start ≡ (past_group v).start + length (groups_bytes (above_if found above comment))
+begun-start {now = now} true h is = ap (λ b. unwrap_or b (past_group now).start) is ∙ h.place
+begun-start {now = now} false h is = ap (λ b. unwrap_or b (past_group now).start) is ∙ h.start
+
+module _ {v now next : OpenView} {above comment : List (List HeldLine)} {begun begun' : Option ℕ} {old : LastRun} (group : ViewedGroup) (start : ℕ)
+    (found : Bool) where
+  pub same-start : ArePassed v now above comment begun old → TakesNext now group next → begun' ≡ (if found then None else begun)
+      → start ≡ unwrap_or begun' group.start → start ≡ (past_group v).start + length (groups_bytes (above_if found above comment))
+  same-start h t is at = at ∙ ap (unwrap_or begun') (t.is_group.start ∙ moved t) ∙ begun-start found h is
 
   -- One more was passed,
-  pub one-passed : ArePassed v now above → TakesNext now group next → start ≡ unwrap_or above group.start → is_line_of_comment group ≡ true
-      → ArePassed v next (Some start)
-  one-passed h t is line =
+  pub one-passed : {new : LastRun} → ArePassed v now above comment begun old → TakesNext now group next → PassesGroup (is_line_of_comment group) (viewed_line next) old found new
+      → begun' ≡ (if found then None else begun) → start ≡ unwrap_or begun' group.start → is_line_of_comment group ≡ true
+      → ArePassed v next (above_if found above comment) (below_if found comment ++ next.group ∷ []) (Some start) new
+  one-passed {new} h t p is at line =
       let g = next.group in
-      let bytes : groups_bytes (h.run ++ g ∷ []) ≡ groups_bytes h.run ++ group_bytes g =
-      groups_bytes-append h.run (g ∷ []) ∙ ap (λ w. groups_bytes h.run ++ w) (append-nil (group_bytes g)) in
-      let size : length (groups_bytes (h.run ++ g ∷ [])) ≡ length (groups_bytes h.run) + length (group_bytes g) =
-      ap length bytes ∙ length-append (groups_bytes h.run) (group_bytes g) in
+      let up = above_if found above comment in
+      let low = below_if found comment in
+      let all = above ++ comment in
+      let run : all ++ g ∷ [] ≡ up ++ (low ++ g ∷ []) = ap (λ w. w ++ g ∷ []) (whole-if found above comment) ∙ append_assoc up low (g ∷ []) in
+      let bytes : groups_bytes (up ++ (low ++ g ∷ [])) ≡ groups_bytes all ++ group_bytes g =
+      ap groups_bytes (sym run) ∙ groups_bytes-append all (g ∷ []) ∙ ap (λ w. groups_bytes all ++ w) (append-nil (group_bytes g)) in
+      let size : length (groups_bytes (up ++ (low ++ g ∷ []))) ≡ length (groups_bytes all) + length (group_bytes g) =
+      ap length bytes ∙ length-append (groups_bytes all) (group_bytes g) in
       let place = h.place in
-      let at = moved t in
+      let at_start = moved t in
       let numbers = h.passed in
       let number = numbered t in
-      let lines = held-push h.run g in
+      let lines : length (held_in (up ++ (low ++ g ∷ []))) ≡ length (held_in all) + length g = ap (λ gs. length (held_in gs)) (sym run) ∙ held-push all g in
       let counted : length now.to_come ≡ length (g ∷ next.to_come) = ap length t.takes in
       let nearer = h.nearer in
+      let line_passed = subst (λ b. PassesGroup b (viewed_line next) old found new) line p in
       record {
-        run = h.run ++ g ∷ [];
-        are_comments = comments-more h.run g h.are_comments (told-comment next group t.is_group line);
-        division = h.division ∙ ap (λ w. h.run ++ w) t.takes ∙ sym (append_assoc h.run (g ∷ []) next.to_come);
+        are_comments = subst AreCommentGroups run (comments-more all g h.are_comments (told-comment next group t.is_group line));
+        division = h.division ∙ ap (λ w. all ++ w) t.takes ∙ sym (append_assoc all (g ∷ []) next.to_come) ∙ ap (λ w. w ++ next.to_come) run;
         place = omega arith;
         passed = omega arith;
-        start = sym (same-start h t is);
+        ends = subst (λ a. EndIn a (lines_in_text (low ++ g ∷ [])) new) (above-texts found above comment)
+            (subst (λ b. EndIn (above_if found (lines_in_text above) (lines_in_text comment)) b new)
+            (ap (λ w. w ++ viewed_line next ∷ []) (below-texts found comment) ∙ sym (texts-append low (g ∷ [])))
+            (line_passed (lines_in_text above) (lines_in_text comment) h.ends));
+        start = same-start h t is at;
         nearer = omega arith;
       }
 
-  pub one-passed-run : (h : ArePassed v now above) (t : TakesNext now group next) (is : start ≡ unwrap_or above group.start) (line : is_line_of_comment group ≡ true)
-      → (one-passed h t is line).run ≡ h.run ++ next.group ∷ []
-  unfolding one-passed
-  one-passed-run h t is line = refl
-
   -- and another group comes;
-  pub headed-next : ArePassed v now above → TakesNext now group next → start ≡ unwrap_or above group.start → is_line_of_comment group ≡ false
+  pub headed-next : (new : LastRun) → ArePassed v now above comment begun old → TakesNext now group next → PassesGroup (is_line_of_comment group) (viewed_line next) old found new
+      → begun' ≡ (if found then None else begun) → start ≡ unwrap_or begun' group.start → is_line_of_comment group ≡ false
       → TakesHeaded v (record { start = start; group = group }) next
-  headed-next h t is other = record {
-    run = h.run;
-    are_comments = h.are_comments;
-    other = told-other next group t.is_group other;
-    takes = h.division ∙ ap (λ w. h.run ++ w) t.takes;
-    start = same-start h t is;
-    group_start = moved t ∙ h.place;
-    passed = numbered t ∙ h.passed;
-    is_group = t.is_group;
-  }
+  headed-next new h t p is at other =
+      let passed = (subst (λ b. PassesGroup b (viewed_line next) old found new) other p).1 (lines_in_text above) (lines_in_text comment) h.ends in
+      record {
+        run = above ++ comment;
+        are_comments = h.are_comments;
+        other = told-other next group t.is_group other;
+        takes = h.division ∙ ap (λ w. (above ++ comment) ++ w) t.takes;
+        above = above_if found above comment;
+        comment = below_if found comment;
+        is_comment = record {
+          division = whole-if found above comment;
+          separated = subst (λ a. AreSeparated a (lines_in_text (below_if found comment))) (above-texts found above comment)
+              (subst (AreSeparated (above_if found (lines_in_text above) (lines_in_text comment))) (below-texts found comment) passed);
+        };
+        start = same-start h t is at;
+        group_start = moved t ∙ h.place;
+        passed = numbered t ∙ h.passed;
+        is_group = t.is_group;
+      }
 
-  pub headed-next-run : (h : ArePassed v now above) (t : TakesNext now group next) (is : start ≡ unwrap_or above group.start) (other : is_line_of_comment group ≡ false)
-      → (headed-next h t is other).run ≡ h.run
+  pub headed-next-comment : (new : LastRun) (h : ArePassed v now above comment begun old) (t : TakesNext now group next)
+      (p : PassesGroup (is_line_of_comment group) (viewed_line next) old found new) (is : begun' ≡ (if found then None else begun))
+      (at : start ≡ unwrap_or begun' group.start) (other : is_line_of_comment group ≡ false) → (headed-next new h t p is at other).comment ≡ below_if found comment
   unfolding headed-next
-  headed-next-run h t is other = refl
+  headed-next-comment new h t p is at other = refl
 
-  pub headed-nearer : ArePassed v now above → TakesNext now group next → length next.to_come < length v.to_come
-  headed-nearer h t =
-      let counted : length now.to_come ≡ length (next.group ∷ next.to_come) = ap length t.takes in
-      let nearer = h.nearer in
-      omega arith
+  pub headed-next-above : (new : LastRun) (h : ArePassed v now above comment begun old) (t : TakesNext now group next)
+      (p : PassesGroup (is_line_of_comment group) (viewed_line next) old found new) (is : begun' ≡ (if found then None else begun))
+      (at : start ≡ unwrap_or begun' group.start) (other : is_line_of_comment group ≡ false) → (headed-next new h t p is at other).above ≡ above_if found above comment
+  unfolding headed-next
+  headed-next-above new h t p is at other = refl
+
+pub headed-nearer : {v now next : OpenView} {above comment : List (List HeldLine)} {begun : Option ℕ} {last : LastRun} {group : ViewedGroup}
+    → ArePassed v now above comment begun last → TakesNext now group next → length next.to_come < length v.to_come
+headed-nearer {now = now} {next} h t =
+    let counted : length now.to_come ≡ length (next.group ∷ next.to_come) = ap length t.takes in
+    let nearer = h.nearer in
+    omega arith
 
 -- or none is to come.
-pub passed-all : {v now : OpenView} {above : Option ℕ} → ArePassed v now above → now.to_come ≡ [] → AreCommentGroups v.to_come
-passed-all h none = subst AreCommentGroups (sym (h.division ∙ ap (λ w. h.run ++ w) none ∙ append-nil h.run)) h.are_comments
+pub passed-all : {v now : OpenView} {above comment : List (List HeldLine)} {begun : Option ℕ} {last : LastRun} → ArePassed v now above comment begun last
+    → now.to_come ≡ [] → AreCommentGroups v.to_come
+passed-all {above = above} {comment} h none =
+    subst AreCommentGroups (sym (h.division ∙ ap (λ w. (above ++ comment) ++ w) none ∙ append-nil (above ++ comment))) h.are_comments
 
 -- No other group is to come.
 pub headed-none : (old new : OpenView) (answer : Option Headed) → GivesHeaded old answer new → ((headed : Headed) → answer ≡ Some headed → ⊥)
@@ -218,6 +258,24 @@ run-in source start all rest end within size parts =
 -- the section that was given
 abbrev pub given_section : {now next : OpenView} {headed : Headed} → TakesHeaded now headed next → Section
 given_section {next = next} t = record { run = t.run; group = next.group }
+
+-- the same with its comment alone
+abbrev pub given_comment : {now next : OpenView} {headed : Headed} → TakesHeaded now headed next → Section
+given_comment {next = next} t = record { run = t.comment; group = next.group }
+
+pub run-size : {now next : OpenView} {headed : Headed} (t : TakesHeaded now headed next)
+    → length (groups_bytes t.run) ≡ length (groups_bytes t.above) + length (groups_bytes t.comment)
+run-size t =
+    ap (λ gs. length (groups_bytes gs)) t.is_comment.division ∙ ap length (groups_bytes-append t.above t.comment)
+    ∙ length-append (groups_bytes t.above) (groups_bytes t.comment)
+
+pub start-ordered : {now next : OpenView} {headed : Headed} → TakesHeaded now headed next → headed.start ≤ headed.group.next
+start-ordered t =
+    let size = run-size t in
+    let start = t.start in
+    let group_start = t.group_start in
+    let next = t.is_group.next in
+    omega arith
 
 held-append : (gs hs : List (List HeldLine)) → length (held_in (gs ++ hs)) ≡ length (held_in gs) + length (held_in hs)
 held-append [] hs = omega arith
@@ -302,25 +360,41 @@ module _ {Makes : Section → List (List HeldLine) → List ℕ → Type 0} {sou
       ∙ ap (λ w. copied_to c (past_group now).start ++ w) (ap (λ s. take (length all) (drop (past_group now).start s)) h.source_is ∙ span.bytes))
       makes
 
-  -- or it is left out,
+  -- The lines above its comment are copied.
+  above-copied : (h : IsMadeUpTo Makes source v now c) → (t : TakesHeaded now headed next)
+      → copied_to c headed.start ≡ copied_to c (past_group now).start ++ groups_bytes t.above
+  above-copied h t =
+      let n = (past_group now).start in
+      let above = groups_bytes t.above in
+      let parts : drop n source ≡ above ++ groups_bytes (t.comment ++ next.group ∷ next.to_come) =
+      sym h.rest
+      ∙ ap groups_bytes (t.takes ∙ ap (λ w. w ++ next.group ∷ next.to_come) t.is_comment.division ∙ append_assoc t.above t.comment (next.group ∷ next.to_come))
+      ∙ groups_bytes-append t.above (t.comment ++ next.group ∷ next.to_come) in
+      ap (copied_to c) t.start
+      ∙ copied-more c n (length above) h.done
+      ∙ ap (λ w. copied_to c n ++ w)
+      (ap (λ s. take (length above) (drop n s)) h.source_is ∙ ap (take (length above)) parts ∙ take-append_seam above (groups_bytes (t.comment ++ next.group ∷ next.to_come)))
+
+  -- or it is left out with its comment,
   pub section-left_out : {c' : Copied} → (h : IsMadeUpTo Makes source v now c) → (t : TakesHeaded now headed next)
-      → IsReplacedIn c headed.start headed.group.next [] c' → Makes (given_section t) next.to_come [] → IsMadeUpTo Makes source v next c'
+      → IsReplacedIn c headed.start headed.group.next [] c' → Makes (given_section t) next.to_come (groups_bytes t.above) → IsMadeUpTo Makes source v next c'
   section-left_out {c'} h t r makes =
       let end = (past_group next).start in
       let done : c'.done ≡ end = r.done ∙ t.is_group.next in
       let none_off : end - end ≡ 0 = omega arith in
-      next-made [] h t r.source_is (omega arith)
+      next-made (groups_bytes t.above) h t r.source_is (omega arith)
       (ap (λ d. c'.bytes.items ++ take (end - d) (drop d c'.source.now)) done
       ∙ ap (λ n. c'.bytes.items ++ take n (drop end c'.source.now)) none_off
       ∙ append-nil c'.bytes.items
       ∙ r.bytes_are
-      ∙ ap (λ w. w ++ []) (ap (copied_to c) t.start))
+      ∙ append-nil (copied_to c headed.start)
+      ∙ above-copied h t)
       makes
 
-  -- or it has other comment lines.
+  -- or it has another comment.
   pub section-headed : {c' : Copied} (head : List ℕ) → (h : IsMadeUpTo Makes source v now c) → (t : TakesHeaded now headed next) → c'.source.now ≡ c.source.now
       → c'.done ≤ headed.group.start → copied_to c' headed.group.start ≡ copied_to c headed.start ++ head
-      → Makes (given_section t) next.to_come (head ++ group_bytes next.group) → IsMadeUpTo Makes source v next c'
+      → Makes (given_section t) next.to_come (groups_bytes t.above ++ (head ++ group_bytes next.group)) → IsMadeUpTo Makes source v next c'
   section-headed {c'} head h t same done copied makes =
       let span = next-run h t in
       let run = groups_bytes t.run in
@@ -335,11 +409,11 @@ module _ {Makes : Section → List (List HeldLine) → List ℕ → Type 0} {sou
       ∙ ap (take (length g)) (sym (drop-drop (length run) (past_group now).start source) ∙ ap (drop (length run)) (sym h.rest
       ∙ ap groups_bytes t.takes ∙ groups_bytes-append t.run (next.group ∷ next.to_come)) ∙ drop-append_seam run (g ++ groups_bytes next.to_come))
       ∙ take-append_seam g (groups_bytes next.to_come) in
-      next-made (head ++ g) h t same (omega arith)
+      next-made (groups_bytes t.above ++ (head ++ g)) h t same (omega arith)
       (copied-more c' next.start (length g) within
-      ∙ ap₂ (λ a b. a ++ b) (ap (copied_to c') (sym start) ∙ copied ∙ ap (λ n. copied_to c n ++ head) t.start)
+      ∙ ap₂ (λ a b. a ++ b) (ap (copied_to c') (sym start) ∙ copied ∙ ap (λ w. w ++ head) (above-copied h t))
       (ap (λ s. take (length g) (drop next.start s)) (same ∙ h.source_is) ∙ bytes)
-      ∙ append_assoc (copied_to c (past_group now).start) head g)
+      ∙ simp (append_assoc))
       makes
 
 -- Comment lines alone are to come.
@@ -462,7 +536,8 @@ one-given : (e : Encoding) (body : List ℕ) (gs : List (List HeldLine)) → Are
 one-given e body gs h = h.are ∙ ap with_bytes (held_groups_of-only e body h.all h.division)
 
 one-left : (keys : List (List ℕ)) (s : Section) (after : List (List HeldLine)) (a b : List ℕ) → IsLeftOf keys s after a → IsLeftOf keys s after b → a ≡ b
-one-left keys s after a b (inl h) (inl k) = h.1 ∙ sym k.1
+one-left keys s after a b (inl (has, (up, low, is, left))) (inl (has', (up', low', is', left'))) =
+    left ∙ ap groups_bytes (comment_in-only s.run up low up' low' is is').0 ∙ sym left'
 one-left keys s after a b (inl h) (inr k) = absurd (k.0 h.0)
 one-left keys s after a b (inr h) (inl k) = absurd (h.0 k.0)
 one-left keys s after a b (inr h) (inr k) = h.1 ∙ sym k.1

@@ -1,21 +1,28 @@
 -- The comment lines above a group, one after another, and their texts.
-use Rattle.std.proofs.Common.{◌≡◌, ℕ, ◌+◌, ◌-◌, true, false, List, [], ◌∷◌, ◌++◌, length, refl, sym, ap, ◌∙◌, subst, append_assoc}
-use Rattle.std.specs.Prelude.{map, Option, Some, None}
+use Rattle.std.proofs.Common.{◌≡◌, ℕ, ◌+◌, ◌-◌, Bool, true, false, List, [], ◌∷◌, ◌++◌, length, refl, sym, ap, ◌∙◌, subst, append_assoc, length-append, arith}
+use Rattle.std.specs.Prelude.{if◌then◌else◌, map, Option, Some, None}
+use Rattle.std.specs.Global.{Global}
 use Rattle.std.specs.Option.{unwrap_or}
 use Rattle.std.specs.declared.string.String.{String}
 use Rattle.std.proofs.lemmas.List.{map-append}
 use Rattle.properties_format.specs.Lines.{joined}
 use Rattle.properties_format.specs.Body.{HeldLine, as_lines, ending_bytes, group_bytes, groups_bytes, last_ending}
+use Rattle.properties_format.proofs.Body.Groups.{groups_bytes-append}
 use Rattle.properties_items.specs.Texts.{characters}
 use Rattle.properties_editing.specs.Views.{OpenView, TakesNext, viewed_line, past_group}
 use Rattle.properties_editing.specs.declared.group.ViewedGroup.{ViewedGroup}
-use Rattle.properties_renaming.specs.CommentLines.{AreCommentGroups, AreCommentTexts, IsCommentLine, is_line_of_comment}
+use Rattle.properties_renaming.specs.CommentLines.{AreCommentGroups, AreCommentTexts, IsCommentLine, is_line_of_comment, lines_in_text}
 use Rattle.properties_renaming.specs.Commenting.{HaveNoText}
+use Rattle.properties_renaming.specs.Separators.{last_sign}
 use Rattle.properties_renaming.specs.Private.Commented.{TakesHeaded}
 use Rattle.properties_renaming.specs.Private.Commenting.{GivesComment, IsGroupAt, IsModel, TakesComment, TellsModel, first_model, texts_above}
+use Rattle.properties_renaming.specs.FoundSeparators.{EndIn, HasNoLines, PassesGroup, above_if, below_if}
 use Rattle.properties_renaming.specs.declared.comments.Headed.{Headed}
 use Rattle.properties_renaming.specs.declared.commenting.Comment.{Comment}
-use Rattle.properties_renaming.proofs.CommentedKeys.{ArePassed, headed-next, headed-next-run, moved, none-passed, none-passed-run, one-passed, one-passed-run}
+use Rattle.properties_renaming.specs.declared.separators.LastRun.{LastRun}
+use Rattle.properties_renaming.proofs.CommentGroups.{texts-append, whole-if}
+use Rattle.properties_renaming.proofs.CommentedKeys.{ArePassed, headed-next, headed-next-above, headed-next-comment, moved, none-passed, one-passed, same-start}
+use Rattle.properties_renaming.proofs.SeparatedRuns.{end-sign}
 
 -- ---- one comment line more
 
@@ -62,18 +69,18 @@ model-more start gs g (c ∷ cs) None line h is at = record {
 
 -- ---- the comment lines above a group
 
--- Comment lines alone were passed, and these are their texts.
-pub record AreGathered {Z : Type 0} (v now : OpenView) (above : Option ℕ) (texts : List (String Z)) (model : Option ViewedGroup) : Type 0 where
-  pub passed : ArePassed v now above
-  pub are_texts : AreCommentTexts passed.run (map characters texts)
-  pub tells_model : TellsModel (past_group v).start passed.run model
+-- Comment lines alone were passed, and these are the texts of the comment so far.
+pub record AreGathered {Z : Type 0} (v now : OpenView) (begun : Option ℕ) (last : LastRun) (texts : List (String Z)) (model : Option ViewedGroup) (separator : ℕ) : Type 0 where
+  pub above : List (List HeldLine)
+  pub comment : List (List HeldLine)
+  pub passed : ArePassed v now above comment begun last
+  pub are_texts : AreCommentTexts comment (map characters texts)
+  pub tells_model : TellsModel ((past_group v).start + length (groups_bytes above)) comment model
+  pub separator_is : separator ≡ last_sign (lines_in_text above)
 
-pub none-gathered : {Z : Type 0} (v : OpenView) (texts : List (String Z)) → texts ≡ [] → AreGathered v v None texts None
-none-gathered v texts none = record {
-  passed = none-passed v;
-  are_texts = subst (λ r. AreCommentTexts r (map characters texts)) (sym (none-passed-run v)) (ap (map characters) none);
-  tells_model = subst (λ r. TellsModel (past_group v).start r None) (sym (none-passed-run v)) tt;
-}
+pub none-gathered : {Z : Type 0} (v : OpenView) (last : LastRun) (texts : List (String Z)) → HasNoLines last → texts ≡ [] → AreGathered v v None last texts None 0
+none-gathered v last texts no_lines none =
+    record { above = []; comment = []; passed = none-passed v last no_lines; are_texts = ap (map characters) none; tells_model = tt; separator_is = refl }
 
 at-group : {now next : OpenView} (group : ViewedGroup) → TakesNext now group next → IsGroupAt (past_group now).start next.group group
 at-group {now} {next} group t =
@@ -85,37 +92,76 @@ at-group {now} {next} group t =
       next_is = g.next ∙ ap (λ n. n + length (group_bytes next.group)) start;
     }
 
-module _ {Z : Type 0} {v now next : OpenView} {above : Option ℕ} (group : ViewedGroup) (start : ℕ) where
-  pub one-gathered : {texts : List (String Z)} {model : Option ViewedGroup} (new : List (String Z)) (made : String Z) (text : List ℕ) → AreGathered v now above texts model
-      → TakesNext now group next → start ≡ unwrap_or above group.start → is_line_of_comment group ≡ true → IsCommentLine (viewed_line next) text
-      → characters made ≡ text → new ≡ texts ++ made ∷ [] → AreGathered v next (Some start) new (first_model model group text)
-  one-gathered {texts} {model} new made text h t is line says copied pushed =
-      let p = h.passed in
-      let q = one-passed group start p t is line in
-      let run : q.run ≡ p.run ++ next.group ∷ [] = one-passed-run group start p t is line in
-      let all : map characters new ≡ map characters texts ++ text ∷ [] =
-      ap (map characters) pushed ∙ map-append characters texts (made ∷ []) ∙ ap (λ w. map characters texts ++ w ∷ []) copied in
+-- The comment begins anew if a separator is directly above the next group.
+texts-begun : {Z : Type 0} (found : Bool) (comment : List (List HeldLine)) (texts texts' : List (String Z)) → AreCommentTexts comment (map characters texts)
+    → texts' ≡ below_if found texts → AreCommentTexts (below_if found comment) (map characters texts')
+texts-begun true comment texts texts' h is = ap (map characters) is
+texts-begun false comment texts texts' h is = subst (λ w. AreCommentTexts comment (map characters w)) (sym is) h
+
+model-begun : (found : Bool) (n : ℕ) (above comment : List (List HeldLine)) (model model' : Option ViewedGroup)
+    → TellsModel (n + length (groups_bytes above)) comment model → model' ≡ (if found then None else model)
+    → TellsModel (n + length (groups_bytes (above_if found above comment))) (below_if found comment) model'
+model-begun true n above comment model model' h is = subst (TellsModel (n + length (groups_bytes (above ++ comment))) []) (sym is) tt
+model-begun false n above comment model model' h is = subst (TellsModel (n + length (groups_bytes above)) comment) (sym is) h
+
+separator-begun : (found : Bool) (above comment : List (List HeldLine)) (old : LastRun) (separator separator' : ℕ) → EndIn (lines_in_text above) (lines_in_text comment) old
+    → separator ≡ last_sign (lines_in_text above) → separator' ≡ (if found then old.sign else separator)
+    → separator' ≡ last_sign (lines_in_text (above_if found above comment))
+separator-begun true above comment old separator separator' e h is =
+    is ∙ sym (end-sign (lines_in_text above) (lines_in_text comment) old e) ∙ ap last_sign (sym (texts-append above comment))
+separator-begun false above comment old separator separator' e h is = is ∙ h
+
+module _ {v now next : OpenView} {begun begun' : Option ℕ} {old : LastRun} (group : ViewedGroup) (start : ℕ) (found : Bool) where
+  pub one-gathered : {Z : Type 0} {last : LastRun} {texts : List (String Z)} {model : Option ViewedGroup} (texts' new : List (String Z)) (model' : Option ViewedGroup) {separator : ℕ} (separator' : ℕ)
+      (made : String Z) (text : List ℕ) → AreGathered v now begun old texts model separator → TakesNext now group next → PassesGroup (is_line_of_comment group) (viewed_line next) old found last
+      → begun' ≡ (if found then None else begun) → texts' ≡ below_if found texts → model' ≡ (if found then None else model)
+      → separator' ≡ (if found then old.sign else separator) → start ≡ unwrap_or begun' group.start → is_line_of_comment group ≡ true → IsCommentLine (viewed_line next) text
+      → characters made ≡ text → new ≡ texts' ++ made ∷ [] → AreGathered v next (Some start) last new (first_model model' group text) separator'
+  one-gathered {texts = texts} {model} texts' new model' {separator} separator' made text h t p begun_is texts_is model_is separator_is at line says copied pushed =
+      let g = next.group in
+      let n = (past_group v).start in
+      let up = above_if found h.above h.comment in
+      let low = below_if found h.comment in
+      let all : map characters new ≡ map characters texts' ++ text ∷ [] =
+      ap (map characters) pushed ∙ map-append characters texts' (made ∷ []) ∙ ap (λ w. map characters texts' ++ w ∷ []) copied in
+      let size = length-append (groups_bytes up) (groups_bytes low) in
+      let both = ap length (ap groups_bytes (whole-if found h.above h.comment) ∙ groups_bytes-append up low) in
+      let at_end = h.passed.place in
+      let place : n + length (groups_bytes up) + length (groups_bytes low) ≡ (past_group now).start = omega arith in
       record {
-        passed = q;
-        are_texts = subst (λ r. AreCommentTexts r (map characters new)) (sym run)
-            (subst (AreCommentTexts (p.run ++ next.group ∷ [])) (sym all) (texts-more p.run next.group (map characters texts) text h.are_texts says));
-        tells_model = subst (λ r. TellsModel (past_group v).start r (first_model model group text)) (sym run)
-            (model-more (past_group v).start p.run next.group text model group h.tells_model says
-            (subst (λ n. IsGroupAt n next.group group) p.place (at-group group t)));
+        above = up;
+        comment = low ++ g ∷ [];
+        passed = one-passed group start found h.passed t p begun_is at line;
+        are_texts = subst (AreCommentTexts (low ++ g ∷ [])) (sym all)
+            (texts-more low g (map characters texts') text (texts-begun found h.comment texts texts' h.are_texts texts_is) says);
+        tells_model = model-more (n + length (groups_bytes up)) low g text model' group
+            (model-begun found n h.above h.comment model model' h.tells_model model_is) says
+            (subst (λ k. IsGroupAt k g group) (sym place) (at-group group t));
+        separator_is = separator-begun found h.above h.comment old separator separator' h.passed.ends h.separator_is separator_is;
       }
 
--- Another group comes after them.
-pub comment-next : {v now next : OpenView} {above : Option ℕ} (group : ViewedGroup) (comment : Comment)
-    → AreGathered v now above comment.texts.items comment.model → TakesNext now group next → comment.headed.start ≡ unwrap_or above group.start
-    → comment.headed.group ≡ group → is_line_of_comment group ≡ false → TakesComment v comment next
-comment-next {v} {now} {next} group comment h t is same other =
-    let start = comment.headed.start in
-    let k = headed-next group start h.passed t is other in
-    let run : k.run ≡ h.passed.run = headed-next-run group start h.passed t is other in
-    let Such : Headed → Type 0 = λ headed. (f : TakesHeaded v headed next) × AreCommentTexts f.run (texts_above comment) × TellsModel (past_group v).start f.run comment.model in
-    let made : Such (record { start = start; group = group }) =
-    (k, subst (λ r. AreCommentTexts r (texts_above comment)) (sym run) h.are_texts, subst (λ r. TellsModel (past_group v).start r comment.model) (sym run) h.tells_model) in
-    subst (λ g. Such (record { start = start; group = g })) (sym same) made
+  -- Another group comes after them.
+  pub comment-next : (last : LastRun) {texts : List (String Global)} {model : Option ViewedGroup} {separator : ℕ} (comment : Comment) → AreGathered v now begun old texts model separator
+      → TakesNext now group next → PassesGroup (is_line_of_comment group) (viewed_line next) old found last → begun' ≡ (if found then None else begun)
+      → comment.texts.items ≡ below_if found texts → comment.model ≡ (if found then None else model) → comment.separator ≡ (if found then old.sign else separator)
+      → comment.headed ≡ record { start = start; group = group }
+      → start ≡ unwrap_or begun' group.start → is_line_of_comment group ≡ false → TakesComment v comment next
+  comment-next last {texts} {model} {separator} comment h t p begun_is texts_is model_is separator_is same at other =
+      let k = headed-next group start found last h.passed t p begun_is at other in
+      let lines : k.comment ≡ below_if found h.comment = headed-next-comment group start found last h.passed t p begun_is at other in
+      let up : k.above ≡ above_if found h.above h.comment = headed-next-above group start found last h.passed t p begun_is at other in
+      let above = same-start group start found h.passed t begun_is at in
+      let Such : Headed → Type 0 = λ headed. (f : TakesHeaded v headed next) × AreCommentTexts f.comment (texts_above comment) × TellsModel headed.start f.comment comment.model
+      × (comment.separator ≡ last_sign (lines_in_text f.above)) in
+      let made : Such (record { start = start; group = group }) = (
+        k,
+        subst (λ r. AreCommentTexts r (texts_above comment)) (sym lines) (texts-begun found h.comment texts comment.texts.items h.are_texts texts_is),
+        subst (λ r. TellsModel start r comment.model) (sym lines) (subst (λ n. TellsModel n (below_if found h.comment) comment.model) (sym above)
+            (model-begun found (past_group v).start h.above h.comment model comment.model h.tells_model model_is)),
+        subst (λ r. comment.separator ≡ last_sign (lines_in_text r)) (sym up)
+            (separator-begun found h.above h.comment old separator comment.separator h.passed.ends h.separator_is separator_is),
+      ) in
+      subst Such (sym same) made
 
 -- No other group is to come.
 pub comment-none : (old new : OpenView) (answer : Option Comment) → GivesComment old answer new → ((comment : Comment) → answer ≡ Some comment → ⊥)

@@ -17,5 +17,6 @@ pub mod FoundComments
 pub mod KeyedValues
 pub mod LastLines
 pub mod SectionedGroups
+pub mod SeparatedRuns
 pub mod NewComments
 pub mod CommentedContents

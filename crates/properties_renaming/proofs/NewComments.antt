@@ -42,13 +42,14 @@ use Rattle.properties_renaming.specs.CommentLines.{AreCommentGroups, IsCommentGr
 use Rattle.properties_renaming.specs.Commenting.{HasLines, IsStyleAbove, IsStyleFor, IsStyleOfLine, LineStyle, comment_line, ending_or, gap_before}
 use Rattle.properties_renaming.specs.Private.CommentTexts.{first_blank, without_first_blank}
 use Rattle.properties_renaming.specs.Sections.{Section, groups_of}
-use Rattle.properties_renaming.specs.Private.Commenting.{AreCommentBytes, HoldsGroup, HoldsLine, IsGroupAt, IsHeadSet, IsLastEndingOf, IsModel, IsSectionAt, TakesComment, TellsModel, comment_line_bytes, line_feed_after, style_in}
+use Rattle.properties_renaming.specs.Private.Commenting.{AreCommentBytes, HoldsGroup, HoldsLine, IsGroupAt, IsHeadSet, IsLastEndingOf, IsModel, IsSectionAt, TakesComment, comment_line_bytes, line_feed_after, style_in}
 use Rattle.properties_renaming.specs.Private.Copied.{IsReplacedIn, copied_to}
 use Rattle.properties_renaming.specs.Private.Renaming.{PrintsKeys}
 use Rattle.properties_renaming.specs.declared.commenting.Comment.{Comment}
 use Rattle.properties_renaming.specs.declared.commenting.Style.{Style}
 use Rattle.properties_renaming.specs.declared.copied.Copied.{Copied}
-use Rattle.properties_renaming.proofs.CommentedKeys.{IsMadeUpTo, given_section}
+use Rattle.properties_renaming.proofs.CommentGroups.{comments-parts}
+use Rattle.properties_renaming.proofs.CommentedKeys.{IsMadeUpTo, given_comment, run-size}
 use Rattle.properties_renaming.proofs.KeyPlaces.{ascii-front}
 use Rattle.properties_renaming.proofs.RenamedKeys.{bytes-front, copied-more, same-key}
 use Rattle.properties_renaming.proofs.SectionedGroups.{groups-append}
@@ -345,24 +346,33 @@ bytes-among (f ∷ before) g after h = bytes-among before g after h.1
 
 -- ---- a section in the source
 
--- The next section of a view is at its place.
+-- The next comment of a view, and its group, are at their place.
 pub section-at : {Makes : Section → List (List HeldLine) → List ℕ → Type 0} {e : Encoding} {source : List ℕ} {v now next : OpenView} {c : Copied} (comment : Comment)
-    → IsViewOf e source v → IsMadeUpTo Makes source v now c → (t : TakesComment now comment next) → IsSectionAt source comment (given_section t.0)
-section-at {source = source} {v = v} {now} {next} comment o h (t, texts, model) =
+    → IsViewOf e source v → IsMadeUpTo Makes source v now c → (t : TakesComment now comment next) → IsSectionAt source comment (given_comment t.0)
+section-at {source = source} {v = v} {now} {next} comment o h (t, texts, model, separator) =
     let n = (past_group now).start in
-    let run = groups_bytes t.run in
+    let above = groups_bytes t.above in
+    let lines = groups_bytes t.comment in
     let g = group_bytes next.group in
     let rest = groups_bytes next.to_come in
     let began = t.start in
     let place = t.group_start in
-    let group_start : next.start ≡ comment.headed.start + length run = omega arith in
+    let both = run-size t in
+    let group_start : next.start ≡ comment.headed.start + length lines = omega arith in
     let held = t.is_group in
-    let size : length (take n source) ≡ n = length-take-le n source h.within in
+    let size : length (take n source ++ above) ≡ n + length above =
+    length-append (take n source) above ∙ ap (λ k. k + length above) (length-take-le n source h.within) in
+    let groups : now.to_come ≡ t.above ++ (t.comment ++ next.group ∷ next.to_come) =
+    t.takes ∙ ap (λ w. w ++ next.group ∷ next.to_come) t.is_comment.division ∙ append_assoc t.above t.comment (next.group ∷ next.to_come) in
     record {
-      front = take n source;
+      front = take n source ++ above;
       rest = rest;
       whole = sym (take-append-drop n source)
-          ∙ ap (λ w. take n source ++ w) (sym h.rest ∙ ap groups_bytes t.takes ∙ groups_bytes-append t.run (next.group ∷ next.to_come));
+          ∙ ap (λ w. take n source ++ w) (sym h.rest
+          ∙ ap groups_bytes groups
+          ∙ groups_bytes-append t.above (t.comment ++ next.group ∷ next.to_come)
+          ∙ ap (λ w. above ++ w) (groups_bytes-append t.comment (next.group ∷ next.to_come)))
+          ∙ sym (append_assoc (take n source) above (lines ++ (g ++ rest)));
       start_is = began ∙ sym size;
       at = record {
         start_is = held.start ∙ group_start;
@@ -370,9 +380,14 @@ section-at {source = source} {v = v} {now} {next} comment o h (t, texts, model) 
         next_is = held.next ∙ ap (λ k. k + length g) group_start;
       };
       are_texts = texts;
-      model = subst (λ k. TellsModel k t.run comment.model) (sym began) model;
-      are_comments = run-bytes v.encoding (drop v.start source) o.given.all (groups_of h.passed []) t.run next.group next.to_come o.editable o.given.division
-          (sym o.given.are ∙ h.division ∙ ap (groups_of h.passed) t.takes ∙ groups-append h.passed [] (t.run ++ next.group ∷ next.to_come)) t.are_comments;
+      model = model;
+      are_comments = run-bytes v.encoding (drop v.start source) o.given.all (groups_of h.passed [] ++ t.above) t.comment next.group next.to_come o.editable o.given.division
+          (sym o.given.are
+          ∙ h.division
+          ∙ ap (groups_of h.passed) groups
+          ∙ groups-append h.passed [] (t.above ++ (t.comment ++ next.group ∷ next.to_come))
+          ∙ sym (append_assoc (groups_of h.passed []) t.above (t.comment ++ next.group ∷ next.to_come)))
+          (comments-parts t.above t.comment (subst AreCommentGroups t.is_comment.division t.are_comments)).1;
     }
 
 module _ {source : List ℕ} {comment : Comment} {s : Section} (h : IsSectionAt source comment s) where
@@ -443,7 +458,7 @@ section-bytes {s = s} h = (
 
 -- They are copied,
 pub head-kept : {t : Repertoire} {other : List ℕ} {s : Section} (c : Copied) (comment : Comment) (text : List ℕ) → IsSectionAt c.source.now comment s
-    → c.done ≤ comment.headed.start → HasLines t other s text (groups_bytes s.run) → IsHeadSet t other s c comment text c
+    → c.done ≤ comment.headed.start → HasLines t other comment.separator s.run s.group text (groups_bytes s.run) → IsHeadSet t other s c comment text c
 head-kept {s = s} c comment text h done lines =
     let (place, bytes) = section-bytes h in
     record {
@@ -457,9 +472,9 @@ head-kept {s = s} c comment text h done lines =
     }
 
 -- or replaced.
-pub head-replaced : {t : Repertoire} {other : List ℕ} {s : Section} (c c' : Copied) (comment : Comment) (text head : List ℕ) → HasLines t other s text head
+pub head-replaced : {t : Repertoire} {other : List ℕ} (s : Section) (c c' : Copied) (comment : Comment) (text head : List ℕ) → HasLines t other comment.separator s.run s.group text head
     → IsReplacedIn c comment.headed.start comment.headed.group.start head c' → IsHeadSet t other s c comment text c'
-head-replaced c c' comment text head lines r =
+head-replaced s c c' comment text head lines r =
     let end = comment.headed.group.start in
     let none_off : end - end ≡ 0 = omega arith in
     let done = r.done in

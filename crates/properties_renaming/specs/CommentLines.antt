@@ -1,4 +1,4 @@
--- The comment lines directly above a pair, and their texts.
+-- The comment lines directly above a pair, back to the last separator of documents, and their texts.
 -- Source: java.util.Properties of Java SE 7, load (what a comment line is; a comment line is never continued).
 use Rattle.std.specs.Prelude.{◌≡◌, ◌⊎◌, ◌==◌, ◌&&◌, ℕ, Bool, true, false, List, [], ◌∷◌, ◌++◌}
 use Rattle.properties_format.specs.Text.{is_blank, is_comment_sign, begins}
@@ -9,6 +9,7 @@ use Rattle.properties_format.specs.Edited.{final_group}
 use Rattle.properties_editing.specs.declared.group.GroupKind.{GroupKind}
 use Rattle.properties_editing.specs.declared.group.GroupKind.TheVariants as kind
 use Rattle.properties_editing.specs.declared.group.ViewedGroup.{ViewedGroup}
+use Rattle.properties_renaming.specs.Separators.{AreSeparated}
 
 -- ---- where the comment lines of a pair are
 
@@ -22,17 +23,30 @@ abbrev pub AreCommentGroups : List (List HeldLine) → Type 0
 AreCommentGroups [] = Unit {0}
 AreCommentGroups (g ∷ gs) = IsCommentGroup g × AreCommentGroups gs
 
--- The comment of the key: all comment lines directly above the last pair with the key.
+-- the texts of groups that are comment lines
+abbrev pub lines_in_text : List (List HeldLine) → List (List ℕ)
+lines_in_text [] = []
+lines_in_text (g ∷ gs) = joined (as_lines g) ∷ lines_in_text gs
+
+-- All comment lines directly above a group: those up to the last separator, and the comment, which is those below it.
+pub record IsCommentIn (lines above run : List (List HeldLine)) : Type 0 where
+  pub division : lines ≡ above ++ run
+  pub separated : AreSeparated (lines_in_text above) (lines_in_text run)
+
+-- The comment of the key: the comment lines directly above the last pair with the key, back to the last separator.
 pub record IsCommentOf (groups : List (List HeldLine)) (key : List ℕ) : Type 0 where
   pub before : List (List HeldLine)
-  pub run : List (List HeldLine)
+  pub lines : List (List HeldLine)
   pub group : List HeldLine
   pub after : List (List HeldLine)
-  pub division : groups ≡ before ++ (run ++ group ∷ after)
+  pub division : groups ≡ before ++ (lines ++ group ∷ after)
   pub has_key : HasKey key group
   pub no_later : NoneHasKey key after
-  pub are_comments : AreCommentGroups run
+  pub are_comments : AreCommentGroups lines
   pub no_earlier : ¬ (IsCommentGroup (final_group before))
+  pub above : List (List HeldLine)
+  pub run : List (List HeldLine)
+  pub is_comment : IsCommentIn lines above run
 
 -- ---- what they say
 

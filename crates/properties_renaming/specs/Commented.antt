@@ -1,4 +1,4 @@
--- Keys are removed together with the comment lines directly above each of their pairs.
+-- Keys are removed together with the comments of their pairs.
 use Rattle.std.specs.Prelude.{◌≡◌, ◌⊎◌, ℕ, true, List, [], ◌++◌, Result, Ok, Err}
 use Rattle.std.specs.Global.{Vec}
 use Rattle.properties_format.specs.Encoding.{Encoding}
@@ -9,6 +9,7 @@ use Rattle.properties_items.specs.declared.error.ErrorKind.TheVariants as kind
 use Rattle.properties_items.specs.declared.error.PropertiesError.{PropertiesError}
 use Rattle.properties_editing.specs.Editing.{EditsWith, asked_for}
 use Rattle.properties_editing.specs.declared.source.SourceOptions.{SourceOptions}
+use Rattle.properties_renaming.specs.CommentLines.{IsCommentIn}
 use Rattle.properties_renaming.specs.Renaming.{AreIn, IsEditable}
 use Rattle.properties_renaming.specs.Sections.{AreDivided, AreMadeOf, Section, is_among}
 
@@ -16,14 +17,14 @@ use Rattle.properties_renaming.specs.Sections.{AreDivided, AreMadeOf, Section, i
 abbrev pub HasOneOf : List (List ℕ) → List HeldLine → Type 0
 HasOneOf keys group = (key : List ℕ) × (is_among keys key ≡ true) × HasKey key group
 
--- A pair with one of the keys is left out with the comment lines directly above it, and any other section stays.
+-- A pair with one of the keys is left out with its comment, and any other section stays.
 abbrev pub IsLeftOf : List (List ℕ) → Section → List (List HeldLine) → List ℕ → Type 0
 IsLeftOf keys s after left =
-    HasOneOf keys s.group × (left ≡ [])
+    HasOneOf keys s.group × ((above : List (List HeldLine)) × (comment : List (List HeldLine)) × IsCommentIn s.run above comment × (left ≡ groups_bytes above))
     ⊎ ¬ (HasOneOf keys s.group) × (left ≡ groups_bytes s.run ++ group_bytes s.group)
 
--- The result is the source without the pairs with the keys and the comment lines directly above each: its byte order
--- mark and the other groups. An LF comes before the groups if they would begin like a byte order mark and the source
+-- The result is the source without the pairs with the keys and the comment of each: its byte order mark and the other
+-- groups. An LF comes before the groups if they would begin like a byte order mark and the source
 -- doesn't.
 pub record IsRemovedWithComments (e : Encoding) (source : List ℕ) (keys : List (List ℕ)) (result : List ℕ) : Type 0 where
   pub groups : List (List HeldLine)

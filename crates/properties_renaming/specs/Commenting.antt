@@ -1,10 +1,10 @@
 -- Comments of keys are set: new comment lines directly above the last pair with a key, in place of the old ones.
 -- Source: java.util.Properties of Java SE 7, load (what a comment line is; a comment line is never continued).
-use Rattle.std.specs.Prelude.{◌≡◌, ◌≢◌, ◌⊎◌, ◌&&◌, ℕ, bytes_eq, false, true, if◌then◌else◌, List, [], ◌∷◌, ◌++◌, flat_map, length, map, string_bytes, Option, Some, None, Result, Ok, Err}
+use Rattle.std.specs.Prelude.{◌≡◌, ◌≢◌, ◌⊎◌, ◌&&◌, ◌==◌, ℕ, bytes_eq, false, true, if◌then◌else◌, List, [], ◌∷◌, ◌++◌, flat_map, length, map, string_bytes, Option, Some, None, Result, Ok, Err}
 use Rattle.std.specs.Global.{Vec}
 use Rattle.std.specs.Option.{option_map, unwrap_or}
 use Rattle.std.specs.Str.{chars}
-use Rattle.properties_format.specs.Text.{begins, is_blank, is_comment_sign, is_empty, line_ending_text, number_sign, space}
+use Rattle.properties_format.specs.Text.{begins, exclamation_mark, is_blank, is_comment_sign, is_empty, line_ending_text, number_sign, space}
 use Rattle.properties_format.specs.Encoding.{Encoding, Repertoire, repertoire_in_force}
 use Rattle.properties_format.specs.Lines.{Ended, IsLines, Lines, joined}
 use Rattle.properties_format.specs.Split.{AreBlanks}
@@ -16,9 +16,10 @@ use Rattle.properties_items.specs.Errors.{IsBareError}
 use Rattle.properties_items.specs.declared.error.ErrorKind.TheVariants as kind
 use Rattle.properties_editing.specs.Editing.{EditsWith, asked_for}
 use Rattle.properties_editing.specs.declared.source.SourceOptions.{SourceOptions}
-use Rattle.properties_renaming.specs.CommentLines.{AreCommentTexts, IsCommentLine}
+use Rattle.properties_renaming.specs.CommentLines.{AreCommentTexts, IsCommentIn, IsCommentLine, lines_in_text}
 use Rattle.properties_renaming.specs.Renaming.{AreIn, IsEditable, LacksKey}
 use Rattle.properties_renaming.specs.Sections.{AreDivided, AreMadeOf, Section}
+use Rattle.properties_renaming.specs.Separators.{last_sign}
 use Rattle.properties_renaming.specs.declared.commenting.NewComment.{NewComment}
 use Rattle.properties_renaming.specs.declared.renames.RenamesError.{RenamesError}
 use Rattle.properties_renaming.specs.declared.renames.RenamesError.TheVariants.{Source, NoKey, KeyTaken}
@@ -103,6 +104,17 @@ abbrev pub comment_line : Repertoire → LineStyle → List ℕ → List ℕ
 comment_line r style text =
     style.indent ++ (style.sign ∷ (gap_before style.blank text ++ (encoded_text r.encoding (printed_characters r in_prefix text) ++ style.ending)))
 
+-- ---- below a separator
+
+-- the comment sign that this one isn't
+abbrev pub other_sign : ℕ → ℕ
+other_sign sign = if sign == number_sign then exclamation_mark else number_sign
+
+-- the style; with the other sign if it has this one, which is that of the separator directly above, and would make a
+-- comment of it
+abbrev pub style_below : ℕ → LineStyle → LineStyle
+style_below separator style = record style { sign = if style.sign == separator then other_sign separator else style.sign }
+
 -- ---- comments are set
 
 -- A key, and the text that its comment gets.
@@ -131,24 +143,32 @@ pub record IsLastFor (texts : List NewText) (s : Section) (after : List (List He
   pub no_later : NoneHasKey key after
   pub is_text : text_for texts key ≡ Some text
 
--- The comment lines above a section's group have this text: they are its own, if those have it already, or else new ones.
-pub record HasLines (r : Repertoire) (other : List ℕ) (s : Section) (text head : List ℕ) : Type 0 where
+-- The comment of a group has this text: it is its own, if that has it already, or else new lines below a separator with
+-- this sign, or below none.
+pub record HasLines (r : Repertoire) (other : List ℕ) (separator : ℕ) (comment : List (List HeldLine)) (group : List HeldLine) (text head : List ℕ) : Type 0 where
   pub texts : List (List ℕ)
-  pub are_texts : AreCommentTexts s.run texts
+  pub are_texts : AreCommentTexts comment texts
   pub lines : List (List ℕ)
   pub are_lines : AreCommentLines text lines
   pub set :
-      (texts ≡ lines) × (head ≡ groups_bytes s.run)
+      (texts ≡ lines) × (head ≡ groups_bytes comment)
       ⊎ (texts ≢ lines)
-      × ((style : LineStyle) × IsStyleFor other s.run s.group style × (head ≡ flat_map (comment_line r style) lines))
+      × ((style : LineStyle) × IsStyleFor other comment group style × (head ≡ flat_map (comment_line r (style_below separator style)) lines))
+
+-- What is made of a section whose group gets this text as its comment. Lines above the comment stay.
+pub record IsTextSet (r : Repertoire) (other : List ℕ) (s : Section) (text made : List ℕ) : Type 0 where
+  pub above : List (List HeldLine)
+  pub comment : List (List HeldLine)
+  pub is_comment : IsCommentIn s.run above comment
+  pub head : List ℕ
+  pub lines : HasLines r other (last_sign (lines_in_text above)) comment s.group text head
+  pub made_is : made ≡ groups_bytes above ++ (head ++ group_bytes s.group)
 
 -- The last pair with a key gets the text for that key as its comment, if there is one; any other section stays.
 abbrev pub IsCommented : Repertoire → List ℕ → List NewText → Section → List (List HeldLine) → List ℕ → Type 0
 IsCommented r other texts s after made =
-    (head : List ℕ)
-    × (((text : List ℕ) × IsLastFor texts s after text × HasLines r other s text head)
-    ⊎ ((text : List ℕ) → ¬ (IsLastFor texts s after text)) × (head ≡ groups_bytes s.run))
-    × (made ≡ head ++ group_bytes s.group)
+    ((text : List ℕ) × IsLastFor texts s after text × IsTextSet r other s text made)
+    ⊎ ((text : List ℕ) → ¬ (IsLastFor texts s after text)) × (made ≡ groups_bytes s.run ++ group_bytes s.group)
 
 -- A pair has each of the keys.
 abbrev pub HaveKeys : List NewText → List (List HeldLine) → Type 0

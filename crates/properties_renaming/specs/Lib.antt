@@ -2,9 +2,11 @@ pub mod CommentLines
 pub mod Commented
 pub mod Commenting
 pub mod Documents
+pub mod FoundSeparators
 pub mod KeyEdits
 pub mod Laws
 pub mod Private
 pub mod Renames
 pub mod Renaming
 pub mod Sections
+pub mod Separators

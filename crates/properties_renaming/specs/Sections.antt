@@ -1,9 +1,9 @@
--- A source in sections: each group that isn't a comment line, with the comment lines directly above it.
+-- A source in sections: each group that isn't a comment line, with all comment lines directly above it.
 use Rattle.std.specs.Prelude.{◌≡◌, ◌||◌, ℕ, bytes_eq, Bool, false, List, [], ◌∷◌, ◌++◌}
 use Rattle.properties_format.specs.Body.{HeldLine, groups_bytes}
 use Rattle.properties_renaming.specs.CommentLines.{AreCommentGroups, IsCommentGroup}
 
--- A group that isn't a comment line, and the comment lines directly above it.
+-- A group that isn't a comment line, and all comment lines directly above it, separators among them.
 pub record Section : Type 0 where
   pub run : List (List HeldLine)
   pub group : List HeldLine

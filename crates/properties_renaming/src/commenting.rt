@@ -11,7 +11,7 @@ ghost use Rattle.properties_items.specs.declared.error.ErrorKind.TheVariants as 
 ghost use Rattle.properties_text.specs.Encoding.{encoding_of};
 ghost use Rattle.properties_text.specs.Printing.{AppendsOnOk};
 ghost use Rattle.properties_editing.specs.Editing.{asked_for};
-ghost use Rattle.properties_renaming.specs.Commenting.{AreCommentLines, IsStyleAbove, IsStyleOfLine, SetsComment, SetsComments, ending_or, gap_before, new_text, text_in, texts_in};
+ghost use Rattle.properties_renaming.specs.Commenting.{AreCommentLines, IsStyleAbove, IsStyleOfLine, SetsComment, SetsComments, ending_or, gap_before, new_text, other_sign, style_below, text_in, texts_in};
 ghost use Rattle.properties_renaming.specs.Sections.{Section};
 ghost use Rattle.properties_renaming.specs.Private.CommentTexts.{first_blank};
 ghost use Rattle.properties_renaming.specs.Private.Commenting.{AreIndicesBelow, AreIndicesOf, FindsLines, GivesComment, HasLastLines, HoldsGroup, HoldsLine, IsFoundStyle, IsLastEndingOf, IsSectionAt, MakesComments, PutsComments, ReadsCharacter, SetsLines, TellsFirst, first_model, comment_line_bytes, index_at, line_feed_after, style_in};
@@ -22,6 +22,7 @@ use crate::copied::Copied;
 use crate::keyed::{give_value, value_at, value_of};
 use crate::renames::RenamesError;
 use crate::renaming::{RenameError, repertoire_for};
+use crate::separators::LastRun;
 use properties_editing::{SourceOptions, View, ViewedGroup, edit_with};
 use properties_items::error::PropertiesError;
 use properties_text::encoding::Encoding;
@@ -41,14 +42,15 @@ pub struct NewComment {
     pub text: String,
 }
 
-/// Returns the source with the comment of a key set: the comment lines directly above the last pair with the key.
+/// Returns the source with the comment of a key set: the comment lines directly above the last pair with the key, down
+/// from the last separator of Spring's documents, a line `#---` or `!---`.
 ///
 /// `text` is divided at line feeds, carriage returns and both together, and a last empty line doesn't count. So the
 /// empty text removes the comment, and a line feed alone makes one line, `#`. If the comment has these lines already,
 /// the result is a copy of the source. Otherwise new lines replace the old ones, and every other byte stays.
 ///
 /// New lines look like the first old one that has a text: its indentation, its sign, the blank after it or none, and its
-/// line ending. If there is none, they have the indentation of the pair, `# `, and the line ending of the pair. If the
+/// line ending. Directly below a separator they have the other sign, so that it stays one. If there is none, they have the indentation of the pair, `# `, and the line ending of the pair. If the
 /// pair has none, since the source ends there, they have the last line ending of the source, or a line feed if it has
 /// none at all. No blank is before an empty text, and one always is before a text that begins with a blank, so that it
 /// is read as it is. Characters that these options don't let stand are written as escapes, and no others: a backslash
@@ -251,7 +253,7 @@ struct Look<'a> {
     ending: &'a [u8],
 }
 
-// A group that isn't a comment line, with the comment lines directly above it.
+// A group that isn't a comment line, with its comment.
 #[derive(Drop)]
 struct Comment {
     headed: Headed,
@@ -259,10 +261,11 @@ struct Comment {
     texts: Vec<String>,
     // The first of these lines that has a text.
     model: Option<ViewedGroup>,
+    // The sign of a separator directly above these lines, or 0 if there is none.
+    separator: u8,
 }
 
-// Returns the next group that isn't a comment line, with the comment lines directly above it, or `None` if comment lines
-// alone are to come.
+// Returns the next group that isn't a comment line, with its comment, or `None` if comment lines alone are to come.
 fn next_comment(alloc: Global, view: &mut View<'_>) -> Result<Option<Comment>, AllocError>
     ensures gives { IfOk result (λ comment. GivesComment view.old comment view.new) }
     ensures nearer { IfOk result (λ comment. OnSome comment (length view.new.to_come < length view.old.to_come)) }
@@ -270,13 +273,23 @@ fn next_comment(alloc: Global, view: &mut View<'_>) -> Result<Option<Comment>, A
     let mut texts = Vec::new(alloc);
     let mut model: Option<ViewedGroup> = None;
     let mut above: Option<usize> = None;
+    let mut last = LastRun::new();
+    let mut separator = 0;
     while let Some(group) = view.next()? {
+        let sign = last.sign;
+        if last.pass(group, view.line()) {
+            texts.clear();
+            model = None;
+            above = None;
+            separator = sign;
+        }
         let start = above.unwrap_or(group.start);
         if !is_comment_line(group) {
             return Ok(Some(Comment {
                 headed: Headed { start, group },
                 texts,
                 model,
+                separator,
             }));
         }
         let text = comment_text(view.line());
@@ -313,7 +326,7 @@ fn set_lines(
     if comment.texts == lines {
         return Ok(());
     }
-    let style = style_for(copied.source(), comment, look.ending);
+    let style = style_for(copied.source(), comment, look.ending).below(comment.separator);
     let mut new = LineBuffer::new(alloc);
     print_lines(&mut new, look.repertoire, style, &lines)?;
     let Headed { start, group } = comment.headed;
@@ -327,6 +340,28 @@ struct Style<'a> {
     sign: u8,
     blank: &'a [u8],
     ending: &'a [u8],
+}
+
+impl<'a> Style<'a> {
+    // Returns the style with another sign if it has that of the separator directly above, which would become a comment.
+    fn below(self, separator: u8) -> Style<'a>
+        ensures { style_in result ≡ style_below separator (style_in self.entry) }
+    {
+        if self.sign != separator {
+            return self;
+        }
+        Style {
+            sign: other_sign(separator),
+            ..self
+        }
+    }
+}
+
+// Returns the comment sign that this one isn't.
+fn other_sign(sign: u8) -> u8
+    ensures { result ≡ other_sign sign }
+{
+    if sign == b'#' { b'!' } else { b'#' }
 }
 
 // Returns what new comment lines have, given the line ending that they have if the pair has none.

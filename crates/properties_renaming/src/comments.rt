@@ -11,6 +11,7 @@ ghost use Rattle.properties_renaming.specs.Private.Commented.{GivesHeaded, Leave
 use crate::comment_lines::is_comment_line;
 use crate::copied::Copied;
 use crate::keyed::{give_value, value_of};
+use crate::separators::LastRun;
 use properties_editing::{SourceOptions, View, ViewedGroup, edit_with};
 use properties_items::error::PropertiesError;
 use properties_text::encoding::Encoding;
@@ -21,7 +22,7 @@ use std::slice;
 
 /// Returns the source without the pairs that have a key, and without the comment lines directly above each of them.
 ///
-/// No blank line and no pair is between a pair and its comment lines. Every pair with the key is left out, with its
+/// No blank line, no pair and no separator of Spring's documents is between a pair and its comment lines. Every pair with the key is left out, with its
 /// line endings. Every other byte stays as it is, with one exception: if the source has no byte order mark and the rest
 /// would begin like one, a line feed is inserted before it. If no pair has the key, the result is a copy of the source.
 ///
@@ -104,7 +105,7 @@ fn listed_keys(alloc: Global, keys: &[String]) -> Result<BTreeMap<String, ()>, A
     Ok(listed)
 }
 
-// A group that isn't a comment line, with the comment lines directly above it.
+// A group that isn't a comment line, with its comment: the comment lines directly above it, back to the last separator.
 #[derive(Clone, Copy)]
 pub(crate) struct Headed {
     // Where the first of these lines begins, or the group if there is none.
@@ -118,7 +119,11 @@ fn next_headed(view: &mut View<'_>) -> Result<Option<Headed>, AllocError>
     ensures nearer { IfOk result (λ headed. OnSome headed (length view.new.to_come < length view.old.to_come)) }
 {
     let mut above: Option<usize> = None;
+    let mut last = LastRun::new();
     while let Some(group) = view.next()? {
+        if last.pass(group, view.line()) {
+            above = None;
+        }
         let start = above.unwrap_or(group.start);
         if !is_comment_line(group) {
             return Ok(Some(Headed { start, group }));

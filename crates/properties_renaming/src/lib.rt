@@ -21,6 +21,7 @@ mod keyed;
 pub mod laws;
 mod renames;
 mod renaming;
+pub mod separators;
 
 pub use commenting::{NewComment, set_comment, set_comments};
 pub use comments::{remove_with_comment, remove_with_comments};

@@ -9,19 +9,22 @@ use Rattle.properties_items.specs.Errors.{IsBareError}
 use Rattle.properties_items.specs.declared.error.ErrorKind.TheVariants as error
 use Rattle.properties_items.specs.declared.error.PropertiesError.{PropertiesError}
 use Rattle.properties_editing.specs.Views.{IsGroup, OpenView, past_group}
-use Rattle.properties_renaming.specs.CommentLines.{AreCommentGroups, IsCommentGroup}
+use Rattle.properties_renaming.specs.CommentLines.{AreCommentGroups, IsCommentGroup, IsCommentIn}
 use Rattle.properties_renaming.specs.Commented.{IsRemovedWithComments}
 use Rattle.properties_renaming.specs.Sections.{is_among}
 use Rattle.properties_renaming.specs.Private.Keyed.{value_at}
 use Rattle.properties_renaming.specs.declared.comments.Headed.{Headed}
 
--- The next group that isn't a comment line was given, with the comment lines directly above it;
+-- The next group that isn't a comment line was given, with its comment;
 pub record TakesHeaded (old : OpenView) (headed : Headed) (new : OpenView) : Type 0 where
   pub run : List (List HeldLine)
   pub are_comments : AreCommentGroups run
   pub other : ¬ (IsCommentGroup new.group)
   pub takes : old.to_come ≡ run ++ new.group ∷ new.to_come
-  pub start : headed.start ≡ (past_group old).start
+  pub above : List (List HeldLine)
+  pub comment : List (List HeldLine)
+  pub is_comment : IsCommentIn run above comment
+  pub start : headed.start ≡ (past_group old).start + length (groups_bytes above)
   pub group_start : new.start ≡ (past_group old).start + length (groups_bytes run)
   pub passed : new.passed ≡ (past_group old).passed + length (held_in run)
   pub is_group : IsGroup new headed.group

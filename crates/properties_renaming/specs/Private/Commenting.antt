@@ -16,12 +16,13 @@ use Rattle.properties_text.specs.declared.print.Place.TheVariants.{Prefix}
 use Rattle.properties_text.specs.declared.print.Repertoire as code
 use Rattle.properties_items.specs.Texts.{characters}
 use Rattle.properties_items.specs.declared.error.PropertiesError.{PropertiesError}
-use Rattle.properties_editing.specs.Views.{OpenView, past_group}
+use Rattle.properties_editing.specs.Views.{OpenView}
 use Rattle.properties_editing.specs.declared.group.ViewedGroup.{ViewedGroup}
-use Rattle.properties_renaming.specs.CommentLines.{AreCommentGroups, AreCommentTexts, IsCommentLine}
+use Rattle.properties_renaming.specs.CommentLines.{AreCommentGroups, AreCommentTexts, IsCommentLine, lines_in_text}
 use Rattle.properties_renaming.specs.Commenting.{AreCommentsSet, HasLines, HasNoPairFor, HaveNoText, IsCommented, IsStyleFor, LineStyle, NewText, gap_before, text_for, texts_of}
 use Rattle.properties_renaming.specs.Renaming.{AreIn}
 use Rattle.properties_renaming.specs.Sections.{AreDivided, AreMadeOf, Section}
+use Rattle.properties_renaming.specs.Separators.{last_sign}
 use Rattle.properties_renaming.specs.Private.Commented.{IsUnopened, TakesHeaded}
 use Rattle.properties_renaming.specs.Private.Copied.{copied_to}
 use Rattle.properties_renaming.specs.Private.Keyed.{value_at, value_of}
@@ -63,10 +64,11 @@ TellsModel start run (Some model) = IsModel start run model
 abbrev pub texts_above : Comment → List (List ℕ)
 texts_above comment = map characters comment.texts.items
 
--- The next group that isn't a comment line was given, with the comment lines directly above it, and their texts;
+-- The next group that isn't a comment line was given, with its comment, and the texts of that;
 abbrev pub TakesComment : OpenView → Comment → OpenView → Type 0
 TakesComment old comment new =
-    (h : TakesHeaded old comment.headed new) × AreCommentTexts h.run (texts_above comment) × TellsModel (past_group old).start h.run comment.model
+    (h : TakesHeaded old comment.headed new) × AreCommentTexts h.comment (texts_above comment) × TellsModel comment.headed.start h.comment comment.model
+    × (comment.separator ≡ last_sign (lines_in_text h.above))
 
 -- or comment lines alone were to come.
 abbrev pub GivesComment : OpenView → Option Comment → OpenView → Type 0
@@ -170,7 +172,7 @@ abbrev pub AreCommentBytes : List (List HeldLine) → Type 0
 AreCommentBytes [] = Unit {0}
 AreCommentBytes (g ∷ gs) = (is_comment_line (group_bytes g) ≡ true) × AreCommentBytes gs
 
--- The source has the section at its place.
+-- The source has the section at its place, whose lines are the comment alone.
 pub record IsSectionAt (source : List ℕ) (comment : Comment) (s : Section) : Type 0 where
   pub front : List ℕ
   pub rest : List ℕ
@@ -200,10 +202,10 @@ line_feed_after front = line_ending_text (if ends_in_cr front then crlf else lf)
 abbrev pub comment_line_bytes : code.Repertoire → Style → List ℕ → List ℕ
 comment_line_bytes r style x = style.indent.now ++ (style.sign ∷ (gap_before style.blank.now x ++ (text_bytes r Prefix x ++ style.ending.now)))
 
--- The comment lines of a section are copied, or others are put in their place.
+-- The lines of a comment are copied, or others are put in their place.
 pub record IsHeadSet (t : Repertoire) (other : List ℕ) (s : Section) (old : Copied) (comment : Comment) (text : List ℕ) (new : Copied) : Type 0 where
   pub head : List ℕ
-  pub lines : HasLines t other s text head
+  pub lines : HasLines t other comment.separator s.run s.group text head
   pub copied : copied_to new comment.headed.group.start ≡ copied_to old comment.headed.start ++ head
   pub done : new.done ≤ comment.headed.group.start
   pub source_is : new.source.now ≡ old.source.now

@@ -5,7 +5,7 @@ use Rattle.java_properties.proofs.ViewedComments.{none-left, shown-all, shown-mo
 use Rattle.java_properties.proofs.comments.comment_of.Goals as goal
 
 pub loop-passed-init : goal.loop-passed-init
-loop-passed-init c = rw c.new.ensures.items (shown-none (chars c.args.key.now) c.in_ok-view.ensures)
+loop-passed-init c = rw c.new.ensures.items (shown-none (chars c.args.key.now) c.new-2.result c.new-2.ensures c.in_ok-view.ensures)
 
 pub loop-passed-preserved : goal.loop-passed-preserved
 loop-passed-preserved c =

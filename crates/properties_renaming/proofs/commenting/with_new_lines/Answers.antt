@@ -3,19 +3,21 @@ use Rattle.std.specs.Str.{chars}
 use Rattle.std.proofs.lemmas.List.{get_or-map, length-drop, length-map, take_all}
 use Rattle.properties_format.specs.Encoding.{InForce, byte_order_mark, repertoire_in_force}
 use Rattle.properties_format.specs.Lines.{joined}
-use Rattle.properties_format.specs.Body.{as_lines, groups_bytes}
+use Rattle.properties_format.specs.Body.{as_lines}
 use Rattle.properties_format.specs.Edited.{is_editable}
 use Rattle.properties_format.specs.Computed.Items.{outcome_of}
 use Rattle.properties_text.specs.Encoding.{encoding_of}
 use Rattle.properties_editing.specs.Editing.{asked_for}
 use Rattle.properties_editing.specs.Views.{AreGiven}
+use Rattle.properties_renaming.specs.CommentLines.{lines_in_text}
 use Rattle.properties_renaming.specs.Commenting.{HasLines, NewText, text_in, texts_in}
 use Rattle.properties_renaming.specs.Renaming.{AreIn}
 use Rattle.properties_renaming.specs.Sections.{groups_of}
+use Rattle.properties_renaming.specs.Separators.{last_sign}
 use Rattle.properties_renaming.specs.Private.Commenting.{IsSectionAt}
 use Rattle.properties_renaming.specs.Private.Keyed.{value_of}
 use Rattle.properties_renaming.specs.declared.commenting.NewComment.{NewComment}
-use Rattle.properties_renaming.proofs.CommentedKeys.{all-made, given_section, none-made, section-headed, section-kept, section-line}
+use Rattle.properties_renaming.proofs.CommentedKeys.{all-made, given_comment, given_section, none-made, section-headed, section-kept, section-line}
 use Rattle.properties_renaming.proofs.FoundComments.{comment-none}
 use Rattle.properties_renaming.proofs.KeyedValues.{not-some}
 use Rattle.properties_renaming.proofs.LastLines.{any-text, index-key, index-some, indices-below, is-last-at, not-last-at}
@@ -30,7 +32,7 @@ pub set_lines-requires-clause-at : goal.set_lines-requires-clause-at
 set_lines-requires-clause-at c =
     let takes = rw c.in-Some.is at c.in_ok-comment.ensures.gives in
     let h = c.loop-copied.invariant in
-    let s = given_section takes.0 in
+    let s = given_comment takes.0 in
     (s, subst (λ w. IsSectionAt w c.in-Some.comment s) (sym h.source_is) (section-at c.in-Some.comment c.in_ok-view.ensures h takes))
 
 pub loop-copied-preserved : goal.loop-copied-preserved
@@ -74,22 +76,26 @@ loop-copied-preserved c =
           let ok : is_editable (byte_order_mark r.encoding source).encoding ≡ true =
           subst (λ x. let f : InForce = x in is_editable f.encoding ≡ true) (sym o.in_force) o.editable in
           let prints = prints-in_force r c.repertoire_for.result source (encoding_of c.encoding_in_force-encoding.result.0) force ok c.repertoire_for.ensures in
-          let at = subst (λ x. IsSectionAt x comment s) (sym h.source_is) (section-at comment o h takes) in
-          let set = w.in_ok-set_lines.ensures (repertoire_in_force r source) s prints at in
+          let at = subst (λ x. IsSectionAt x comment (given_comment t)) (sym h.source_is) (section-at comment o h takes) in
+          let set = w.in_ok-set_lines.ensures (repertoire_in_force r source) (given_comment t) prints at in
           let start = c.encoding_in_force-encoding.result.1 in
           let body = take_all (length source - start) (drop start source) (let size = length-drop start source in omega arith)
           ∙ ap (λ x. let f : InForce = x in f.body) (sym c.encoding_in_force-encoding.ensures.in_force) in
           let ending = ending-viewed o _ c.last_ending.result.now body c.last_ending.ensures in
-          let made = subst (λ x. HasLines (repertoire_in_force r source) x s (get_or texts i any-text).text set.head) ending
-          (subst (λ x. HasLines (repertoire_in_force r source) c.last_ending.result.now s x set.head) own set.lines) in
+          let made = subst (λ x. HasLines (repertoire_in_force r source) x (last_sign (lines_in_text t.above)) t.comment s.group (get_or texts i any-text).text set.head) ending
+          (subst (λ x. HasLines (repertoire_in_force r source) c.last_ending.result.now x t.comment s.group (get_or texts i any-text).text set.head) takes.3
+          (subst (λ x. HasLines (repertoire_in_force r source) c.last_ending.result.now comment.separator t.comment s.group x set.head) own set.lines)) in
           rw w.copied-is
-          (section-headed comment.headed set.head h t set.source_is set.done set.copied
-          (set.head, inl ((get_or texts i any-text).text, last, made), refl))
+          (section-headed comment.headed set.head h t set.source_is set.done set.copied (inl (
+            (get_or texts i any-text).text,
+            last,
+            record { above = t.above; comment = t.comment; is_comment = t.is_comment; head = set.head; lines = made; made_is = refl },
+          )))
       | in_default-index_at w ↦
           let none = sym c.index_at.ensures ∙ not-some c.index_at.result w.in_default-index_at.not-Some in
           let other = not-last-at texts indices c.requires.indices c.requires.found sized view.to_come before s after held division
           comment.headed.group.line_number number c.in_ok-last.last told none in
-          rw w.copied-is (section-kept comment.headed h t (groups_bytes t.run, inr (other, refl), refl))
+          rw w.copied-is (section-kept comment.headed h t (inr (other, refl)))
     ]
 
 pub returns : goal.returns

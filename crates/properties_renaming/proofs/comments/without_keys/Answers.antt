@@ -3,11 +3,14 @@ use Rattle.std.specs.Prelude.{is_some, map}
 use Rattle.properties_format.specs.Computed.Items.{outcome_of}
 use Rattle.properties_items.specs.Texts.{characters}
 use Rattle.properties_renaming.specs.Private.Keyed.{value_of}
-use Rattle.properties_renaming.proofs.CommentedKeys.{all-made, headed-none, listed-none, listed-one, next-run, none-made, removed-all, section-kept, section-left_out}
+use Rattle.properties_renaming.proofs.CommentedKeys.{all-made, headed-none, listed-none, listed-one, next-run, none-made, removed-all, section-kept, section-left_out, start-ordered}
 use Rattle.properties_renaming.proofs.comments.without_keys.Goals as goal
 
 pub loop-copied-init : goal.loop-copied-init
 loop-copied-init c = none-made c.in_ok-view.ensures c.in_ok-copied.ensures
+
+pub replace-requires-clause-ordered : goal.replace-requires-clause-ordered
+replace-requires-clause-ordered c = start-ordered (rw c.in-Some.is at c.in_ok-headed.ensures.gives)
 
 pub replace-requires-clause-within : goal.replace-requires-clause-within
 replace-requires-clause-within c =
@@ -24,7 +27,8 @@ loop-copied-preserved-in_ok-replace c =
     let is = ap (λ w. is_some (value_of listed (outcome_of w))) (sym c.line.ensures) ∙ ap is_some (sym c.in_ok-value_of.ensures)
     ∙ sym c.is_some.ensures ∙ c.if-is_some.true in
     let has = listed-one (map characters c.args.keys.now) listed c.next_headed.new.view.group c.in_ok-listed.ensures is in
-    section-left_out c.in-Some.headed c.loop-copied.invariant takes c.in_ok-replace.ensures (inl (has, refl))
+    section-left_out c.in-Some.headed c.loop-copied.invariant takes c.in_ok-replace.ensures
+    (inl (has, (takes.above, takes.comment, takes.is_comment, refl)))
 
 pub loop-copied-preserved : goal.loop-copied-preserved
 loop-copied-preserved c =

@@ -1,7 +1,7 @@
 use Rattle.std.proofs.Common.{refl, sym, ap, ◌∙◌}
 use Rattle.std.specs.Str.{chars}
 use Rattle.java_properties.specs.Private.PassedGroups.{after_other, passed_texts}
-use Rattle.java_properties.proofs.KeyComments.{line-comment, passed-pair, shown-comment}
+use Rattle.java_properties.proofs.KeyComments.{line-comment, passed-added, passed-pair, shown-comment}
 use Rattle.java_properties.proofs.comments.Passed.pass.Goals as goal
 use Rattle.java_properties.proofs.comments.Passed.pass.Goals.{then-branch, else-branch}
 
@@ -10,11 +10,21 @@ add_line-requires c =
     let line = line-comment c.args.group.kind c.args.group.line_count (sym c.is_comment_line.ensures ∙ c.if-is_comment_line.true) in
     shown-comment c.args.group.kind (chars c.args.line.now) c.requires.kind line
 
+pub separate-requires : goal.separate-requires
+separate-requires c = λ on. shown-comment c.args.group.kind (chars c.args.line.now) c.requires.kind (line-comment c.args.group.kind c.args.group.line_count on)
+
+pub returns-then-is_comment_line : goal.returns-then-is_comment_line
+returns-then-is_comment_line c =
+    let on = sym c.is_comment_line.ensures ∙ c.if-is_comment_line.true in
+    passed-added (chars c.args.key.now) (chars c.args.line.now) _ (passed_texts c.args.self.now) (passed_texts c.separate.new.self) (passed_texts c.add_line.new.self) on
+    c.separate.ensures c.in_ok-add_line.ensures
+
 pub returns : goal.returns
 returns c =
+    let left = passed_texts c.separate.new.self in
     let other = sym c.is_comment_line.ensures ∙ c.if-is_comment_line.false in
-    passed-pair (chars c.args.key.now) (chars c.args.line.now) _ c.in_ok-has_key.field-0 (passed_texts c.args.self.now) (passed_texts c.if-branch.self) other
+    (left, c.separate.ensures, passed-pair (chars c.args.key.now) (chars c.args.line.now) _ c.in_ok-has_key.field-0 left (passed_texts c.if-branch.self) other
     c.in_ok-has_key.ensures (elim c.if-branch.branch [
-      | then-branch w ↦ ap passed_texts w.self-is ∙ w.keep.ensures ∙ sym (ap (λ b. after_other b (passed_texts c.args.self.now)) w.if-branch.true)
+      | then-branch w ↦ ap passed_texts w.self-is ∙ w.keep.ensures ∙ sym (ap (λ b. after_other b left) w.if-branch.true)
       | else-branch w ↦ ap passed_texts w.self-is ∙ (rw (w.clear.ensures.items, w.if-branch.false) refl)
-    ])
+    ]))
