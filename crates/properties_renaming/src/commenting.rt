@@ -50,11 +50,12 @@ pub struct NewComment {
 /// the result is a copy of the source. Otherwise new lines replace the old ones, and every other byte stays.
 ///
 /// New lines look like the first old one that has a text: its indentation, its sign, the blank after it or none, and its
-/// line ending. Directly below a separator they have the other sign, so that it stays one. If there is none, they have the indentation of the pair, `# `, and the line ending of the pair. If the
+/// line ending. If there is none, they have the indentation of the pair, `# `, and the line ending of the pair. If the
 /// pair has none, since the source ends there, they have the last line ending of the source, or a line feed if it has
-/// none at all. No blank is before an empty text, and one always is before a text that begins with a blank, so that it
-/// is read as it is. Characters that these options don't let stand are written as escapes, and no others: a backslash
-/// stays. If the source has no byte order mark and the result would begin like one, a line feed is inserted before it.
+/// none at all. Directly below a separator they have the sign that it doesn't have, so that it stays one. No blank is
+/// before an empty text, and one always is before a text that begins with a blank, so that it is read as it is.
+/// Characters that these options don't let stand are written as escapes, and no others: a backslash stays. If the source
+/// has no byte order mark and the result would begin like one, a line feed is inserted before it.
 ///
 /// The source is read three times.
 ///

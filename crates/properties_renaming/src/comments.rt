@@ -22,9 +22,10 @@ use std::slice;
 
 /// Returns the source without the pairs that have a key, and without the comment lines directly above each of them.
 ///
-/// No blank line, no pair and no separator of Spring's documents is between a pair and its comment lines. Every pair with the key is left out, with its
-/// line endings. Every other byte stays as it is, with one exception: if the source has no byte order mark and the rest
-/// would begin like one, a line feed is inserted before it. If no pair has the key, the result is a copy of the source.
+/// No blank line, no pair and no separator of Spring's documents is between a pair and its comment lines. Every pair
+/// with the key is left out, with its line endings. Every other byte stays as it is, with one exception: if the source
+/// has no byte order mark and the rest would begin like one, a line feed is inserted before it. If no pair has the key,
+/// the result is a copy of the source.
 ///
 /// The source is read twice. It is refused with the error of [`edit_with`].
 ///
