@@ -389,8 +389,8 @@ int todrenval_rename_key(uint8_t const *source, size_t source_length, uint32_t e
                          uint8_t *out, size_t room, size_t *length, size_t *line);
 
 /* Writes the source without the pairs that have a key, and without the comment lines directly above each of them: no
- * blank line, no other pair and no separator `#---` of Spring's documents is between. Every other byte stays. If no pair has the key, nothing changes. If what is
- * left would begin like a byte order mark, a line feed comes first.
+ * blank line, no other pair and no separator `#---` of Spring's documents is between. Every other byte stays. If no
+ * pair has the key, nothing changes. If what is left would begin like a byte order mark, a line feed comes first.
  *
  * Returns what todrenval_edit returns, but for _BAD_LIST, _NO_KEY and _KEY_TAKEN. */
 int todrenval_remove_with_comment(uint8_t const *source, size_t source_length, uint32_t encoding, uint32_t flags,
@@ -398,8 +398,9 @@ int todrenval_remove_with_comment(uint8_t const *source, size_t source_length, u
                                   size_t *line);
 
 /* Writes the comment of a key: the text of each comment line directly above the last pair with it, down from the last
- * separator `#---` of Spring's documents, in UTF-8, and a line feed after each. A text is what follows the sign and one blank, as it stands, and has no line feed. If there is no
- * such line, *length is 0. Malformed escapes in comments are no error. Of the flags it takes TODRENVAL_STRICT.
+ * separator `#---` of Spring's documents, in UTF-8, and a line feed after each. A text is what follows the sign and one
+ * blank, as it stands, and has no line feed. If there is no such line, *length is 0. Malformed escapes in comments are
+ * no error. Of the flags it takes TODRENVAL_STRICT.
  *
  * Returns TODRENVAL_OK, _NO_ROOM, _NO_KEY, _NO_MEMORY, _UNKNOWN_ENCODING, _UNKNOWN_FLAGS, _NOT_UTF_8 (of the key),
  * _NOT_TEXT, _UNSUPPORTED, or _NOT_ENOUGH_DIGITS, _NOT_HEX or _INVALID_CHARACTER of a pair. */
@@ -413,9 +414,10 @@ int todrenval_comment(uint8_t const *source, size_t source_length, uint32_t enco
  *
  * New lines look like the first old one that has a text: its indent, its sign, the blank after it or none, and its line
  * ending. If there is none, they have the indent of the pair, `# `, and the line ending of the pair. If the pair has
- * none, they have the last one of the source, or a line feed. A blank is put before a text that begins with one, and
- * none before an empty one. Characters are escapes as in todrenval_edit with these flags; a backslash stays. If the
- * result would begin like a byte order mark, a line feed comes first.
+ * none, they have the last one of the source, or a line feed. Directly below a separator `#---` the sign is `!`, and
+ * below `!---` it is `#`. A blank is put before a text that begins with one, and none before an empty one. Characters
+ * are escapes as in todrenval_edit with these flags; a backslash stays. If the result would begin like a byte order
+ * mark, a line feed comes first.
  *
  * Returns what todrenval_edit returns, but for _BAD_LIST and _KEY_TAKEN. If all else is well, it returns _NO_KEY if no
  * pair has the key. */

@@ -818,7 +818,8 @@ def set_comment(
 
     New lines look like the first old one that has a text: its indent, its sign, the blank after it or none, and its line
     ending. If there is none, they have the indent of the pair, "# ", and the line ending of the pair. If the pair has none,
-    they have the last one of the file, or a line feed. A backslash stays.
+    they have the last one of the file, or a line feed. Directly below a separator "#---" the sign is "!", and below "!---" it
+    is "#". A backslash stays.
 
     Raises what `set_value` raises, and then KeyError if no pair has the key.
 

@@ -108,8 +108,9 @@ pub fn rename_key(
     Ok(renamed)
 }
 
-/// Removes the pairs with a key from the bytes of a file, and the comment lines directly above each of them: no blank line,
-/// no other pair and no separator `#---` of Spring's documents is between. Every other byte stays. If no pair has the key, nothing changes.
+/// Removes the pairs with a key from the bytes of a file, and the comment lines directly above each of them: no blank line, no
+/// other pair and no separator `#---` of Spring's documents is between. Every other byte stays. If no pair has the key, nothing
+/// changes.
 ///
 /// ```
 /// use todrenval::{remove_with_comment, UTF_8};
@@ -181,7 +182,8 @@ pub fn comment_of(
 ///
 /// New lines look like the first old one that has a text: its indent, its sign, the blank after it or none, and its line
 /// ending. If there is none, they have the indent of the pair, `# `, and the line ending of the pair. If the pair has none,
-/// they have the last one of the file, or a line feed. A backslash stays.
+/// they have the last one of the file, or a line feed. Directly below a separator `#---` the sign is `!`, and below `!---` it is
+/// `#`. A backslash stays.
 ///
 /// ```
 /// use todrenval::{set_comment, UTF_8};
