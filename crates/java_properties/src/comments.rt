@@ -20,9 +20,10 @@ use std::mem;
 /// Returns the comment of a key: the texts of the comment lines directly above the last pair with the key, or `None` if
 /// no pair has it.
 ///
-/// No blank line, no pair and no separator of Spring's documents is between them: a line `#---` or `!---`, unless a comment
-/// line with the same sign is directly above or below it. A text is what follows the sign and one blank, as it is written: escapes
-/// stay, since Java resolves none in a comment. A byte order mark at the front overrides the encoding.
+/// No blank line, no pair and no separator of Spring's documents is between them: a line `#---` or `!---`, unless a
+/// comment line with the same sign is directly above or below it. A text is what follows the sign and one blank, as it
+/// is written: escapes stay, since Java resolves none in a comment. A byte order mark at the front overrides the
+/// encoding.
 ///
 /// UTF-16 is refused. A source with a malformed escape in a pair is refused with the error of the first one; a comment
 /// may have any text.

@@ -22,9 +22,12 @@ returns-then-is_comment_line c =
 pub returns : goal.returns
 returns c =
     let left = passed_texts c.separate.new.self in
-    let other = sym c.is_comment_line.ensures ∙ c.if-is_comment_line.false in
-    (left, c.separate.ensures, passed-pair (chars c.args.key.now) (chars c.args.line.now) _ c.in_ok-has_key.field-0 left (passed_texts c.if-branch.self) other
-    c.in_ok-has_key.ensures (elim c.if-branch.branch [
-      | then-branch w ↦ ap passed_texts w.self-is ∙ w.keep.ensures ∙ sym (ap (λ b. after_other b left) w.if-branch.true)
-      | else-branch w ↦ ap passed_texts w.self-is ∙ (rw (w.clear.ensures.items, w.if-branch.false) refl)
-    ]))
+    let other = sym c.is_comment_line.ensures ∙ c.if-is_comment_line.false in (
+      left,
+      c.separate.ensures,
+      passed-pair (chars c.args.key.now) (chars c.args.line.now) _ c.in_ok-has_key.field-0 left (passed_texts c.if-branch.self) other
+          c.in_ok-has_key.ensures (elim c.if-branch.branch [
+            | then-branch w ↦ ap passed_texts w.self-is ∙ w.keep.ensures ∙ sym (ap (λ b. after_other b left) w.if-branch.true)
+            | else-branch w ↦ ap passed_texts w.self-is ∙ (rw (w.clear.ensures.items, w.if-branch.false) refl)
+          ]),
+    )
