@@ -3,7 +3,7 @@
 use crate::command_line::{CommandName, CommandRow, OptionName, command_named};
 use crate::mistake::NoRequest;
 use crate::options::{Options, STANDARD_INPUT, options_in};
-use crate::shell::Quoted;
+use crate::parse::around_dashes;
 use crate::typed::{TypedEdit, is_option_of};
 use crate::wrong_edits::Shown;
 use properties_tools::messages::Escaped;
@@ -48,21 +48,15 @@ fn note_on_option(
     row: &'static CommandRow,
     keys: &[String],
 ) -> Result<Option<Note>, AllocError> {
-    for key in keys {
-        if key.as_str() == "--" {
-            break;
-        }
-        if is_option_of(key.as_str(), row) {
-            let shown = Escaped(key.as_str());
-            return Ok(Some(Note {
-                doubt: Doubt::Key(key.clone()?, Vec::new(alloc)),
-                line: format!(in alloc;
-                    "propedit: no pair has the key '{shown}'; options come before the first KEY\n"
-                )?,
-            }));
-        }
-    }
-    Ok(None)
+    let (keys, _) = around_dashes(keys);
+    let Some(key) = keys.iter().find(|key| is_option_of(key.as_str(), row)) else {
+        return Ok(None);
+    };
+    let shown = Escaped(key.as_str());
+    let said = "options come before the first KEY";
+    let line = format!(in alloc; "propedit: no pair has the key '{shown}'; {said}\n")?;
+    let doubt = Doubt::Key(key.clone()?, Vec::new(alloc));
+    Ok(Some(Note { doubt, line }))
 }
 
 // Returns the note on a PREFIX that looks like a pattern.
@@ -71,17 +65,14 @@ fn note_on_prefix(alloc: Global, prefix: &String) -> Result<Option<Note>, AllocE
     let Some(front) = text.strip_suffix('*').or(text.strip_prefix('^')) else {
         return Ok(None);
     };
-    let shown = Escaped(text);
-    let line = if front.is_empty() {
-        format!(in alloc;
-            "propedit: no key begins with '{shown}'; a PREFIX is not a pattern: did you mean 'list'?\n"
-        )?
+    let meant = if front.is_empty() {
+        String::from_str(alloc, "list")?
     } else {
-        let list = Shown("list", front, None);
-        format!(in alloc;
-            "propedit: no key begins with '{shown}'; a PREFIX is not a pattern: did you mean '{list}'?\n"
-        )?
+        format!(in alloc; "{}", Shown("list", front, None))?
     };
+    let shown = Escaped(text);
+    let said = "a PREFIX is not a pattern: did you mean";
+    let line = format!(in alloc; "propedit: no key begins with '{shown}'; {said} '{meant}'?\n")?;
     let doubt = Doubt::Prefix(prefix.clone()?, String::from_str(alloc, front)?);
     Ok(Some(Note { doubt, line }))
 }

@@ -195,8 +195,8 @@ fn file_hint(rest: &[String]) -> Hint {
     }
 }
 
-// Returns the arguments before a first `--`, and those after it.
-fn around_dashes(words: &[String]) -> (&[String], &[String]) {
+/// Returns the arguments before a first `--`, and those after it.
+pub(crate) fn around_dashes(words: &[String]) -> (&[String], &[String]) {
     match words.iter().position(|word| word.as_str() == "--") {
         Some(at) => (
             words.get(..at).unwrap_or(&[]),

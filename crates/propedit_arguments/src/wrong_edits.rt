@@ -44,8 +44,8 @@ pub(crate) fn show_no_edit<W: fmt::Write>(
             write!(f, "unknown edit '{}'", Escaped(word))?;
             show_meant(f, "", row.name)
         }
-        (Some(row), _) if row.name == word => show_any(f, word),
-        (_, Some(stray)) => show_stray(f, word, stray),
+        (None, Some(stray)) if word != "--" => show_stray(f, word, stray),
+        (Some(row), Some(stray)) if row.name != word => show_stray(f, word, stray),
         _ => show_any(f, word),
     }
 }
