@@ -80,7 +80,8 @@ fn show_stray<W: fmt::Write>(
             let meant = "'--' goes before the KEY; did you mean";
             write!(f, "{meant} '{name} -- {key} {text}'?")
         }
-        [key, sign] if name == "set" && matches!(sign.as_str(), "=" | ":") => {
+        [_, sign] if is_sign(sign.as_str()) && stray.edit.run().len() > 1 => show_any(f, word),
+        [key, sign] if name == "set" && is_sign(sign.as_str()) => {
             let (shown, meant) = (Escaped(key.as_str()), Shown(name, key.as_str(), Some(word)));
             write!(
                 f,
@@ -95,6 +96,10 @@ fn show_stray<W: fmt::Write>(
         [key, text] if name != "rename" => show_quotes(f, key.as_str(), text.as_str(), stray),
         _ => show_any(f, word),
     }
+}
+
+fn is_sign(text: &str) -> bool {
+    matches!(text, "=" | ":")
 }
 
 // Prints how the file is named that an argument is.
