@@ -163,14 +163,14 @@ def edits(draw):
     """Two to twelve edits of few keys."""
     value = lambda: draw.choice(["", "v", "a new value", " é \\ = 日", "v" * draw.randrange(70)])
     return [word for _ in range(draw.randint(2, 12))
-            for word in draw.choice([["set", draw.choice(KEYS), value()], ["remove", draw.choice(KEYS)]])]
+            for word in draw.choice([["set", "--", draw.choice(KEYS), value()], ["remove", draw.choice(KEYS)]])]
 
 
 def asked(draw):
     """What propedit is asked for."""
     return [["check"], ["-v", "-z", "list"], ["convert", draw.choice(["utf-8", "windows-1252", "ascii"])],
             ["-r", "convert", draw.choice(["utf-8", "windows-1252"])], ["get", *draw.choices(KEYS, k=2)], edits(draw), edits(draw),
-            ["-a", *edits(draw)], ["set", draw.choice(KEYS), "é v"], ["remove", draw.choice(KEYS)]]
+            ["-a", *edits(draw)], ["set", "--", draw.choice(KEYS), "é v"], ["remove", draw.choice(KEYS)]]
 
 
 class Comparison:

@@ -230,7 +230,7 @@ gives 1 '' ''
 run comment app.properties
 gives 1 '' "propedit: no pair has the key 'app.properties'; a file is named by -f\n"
 run comment -f app.properties app.properties
-gives 1 '' ''
+gives 1 '' "propedit: no pair has the key 'app.properties'; a file is named by -f\n"
 given '# one\nport = \\u12\n'
 run comment port
 gives 2 '' 'propedit: standard input:2: Malformed \\uxxxx encoding: not enough digits.\n'
@@ -302,7 +302,7 @@ gives 1 '' "propedit: no key begins with 'app.properties'; a file is named by -f
 run get port folder nowhere
 gives 1 '80\n' ''
 run -f app.properties get port app.properties
-gives 1 '80\n' ''
+gives 1 '80\n' "propedit: no pair has the key 'app.properties'; a file is named by -f\n"
 run -f - get port app.properties
 gives 1 '80\n' ''
 is_refused "the KEY 'app.properties' is the name of a file; '-f app.properties' reads it, and '-f -' standard input" \
@@ -1306,7 +1306,7 @@ is_refused "unexpected '-h': 'help' takes one argument" "$(shape help)" help get
 is_refused "'set a=1 b=2': did you mean 'set a 1 set b 2'? For the key 'a=1', write 'set -- a=1 b=2'" "$(shape set)" \
     set -i app.properties a=1 b=2
 run get k -z
-gives 1 '' ''
+gives 1 '' "propedit: no pair has the key '-z'; options come before the first KEY\n"
 run check app.properties -z
 gives 2 '' 'propedit: -z: No such file or directory (os error 2)\n'
 run check -- -z
@@ -1356,16 +1356,13 @@ run set -- a=1 b=2
 gives 0 'a = 1\na\\=1 = b=2\n' ''
 run set -f app.properties -- a=1 b=2
 gives 0 'a = 1\na\\=1 = b=2\n' ''
-run set a=1 b set a '=2' set '=c' b=2 set 'd e=' b=2
+run set a=1 b set a '=2' set '=c' b=2 set -- 'd e=' b=2
 gives 0 'a = =2\na\\=1 = b\n\\=c = b=2\nd\\ e\\= = b=2\n' ''
 run set -- -- 1 set -- set remove remove -- a
 gives 0 '-- = 1\nset = remove\n' ''
 edit="each edit begins with set, remove, rename or set-comment, $first, and a text of several words needs quotes"
 is_refused "unknown edit 'get': $edit" "$edits" set a 1 get a
-is_refused "unknown edit 'host': $edit" "$edits" -i app.properties set port 1 host 2
-is_refused "unknown edit '-i': $edit" "$edits" set a 1 -i app.properties
-is_refused "unknown edit 'app.properties': $edit" "$edits" set port=8080 -i app.properties
-is_refused "unknown edit 'front': $edit" "$edits" set-comment port the front door
+is_refused "unknown edit 'c': $edit" "$edits" rename a b c
 for option in '-f FILE' '-i FILE' '-e NAME' '-d VALUE'; do
     is_refused "the option '$option' requires a ${option#* }" "$all" ${option% *}
 done

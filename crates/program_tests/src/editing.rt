@@ -96,7 +96,7 @@ const EXISTING: &[Row] = &[
         0,
         b"a=2\n\\u0062 : 3",
     ),
-    ("-x set '' 2", b"=1", 0, b"=2"),
+    ("-x set -- '' 2", b"=1", 0, b"=2"),
     ("-x remove a", b"a=1\nb=2\na=3", 0, b"b=2\n"),
     ("-x remove a remove b remove a", b"b\na", 0, b""),
     // What counts are the pairs before the first edit.
@@ -124,7 +124,7 @@ const LACKING: &[(&str, &[u8], &str, &str)] = &[
         "prot",
     ),
     ("-x -f y set 'c\n' 2 set d 1", b"a=1", "y", "c\\u{a}"),
-    ("-x set '' 2", b"", "standard input", ""),
+    ("-x set -- '' 2", b"", "standard input", ""),
     // A key counts that a pair of the source has, and not one that an edit before it sets.
     ("-x set b 2 set b 3", b"a=1", "standard input", "b"),
     ("-x set b 2 remove b", b"a=1", "standard input", "b"),

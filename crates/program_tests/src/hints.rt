@@ -62,7 +62,7 @@ const GET: &[Run<'static>] = &[
         "",
     ),
     ("-d 80 get app.properties port", b"", 0, b"80\n80\n", ""),
-    ("-f x get app.properties", b"", 1, b"", ""),
+    ("-f x get app.properties", b"", 1, b"", NO_KEY),
     ("-f - get app.properties", b"", 1, b"", ""),
     (
         "-d 80 -f - get port app.properties",
@@ -83,7 +83,7 @@ const COMMENT: &[Run<'static>] = &[
     ("comment -- app.properties", b"", 1, b"", NO_KEY),
     ("comment port", b"", 1, b"", ""),
     ("comment b", b"# a\nb=1", 0, b"a\n", ""),
-    ("-f x comment app.properties", b"", 1, b"", ""),
+    ("-f x comment app.properties", b"", 1, b"", NO_KEY),
     ("-f - comment app.properties", b"", 1, b"", ""),
 ];
 
@@ -135,7 +135,13 @@ const LIST: &[Run<'static>] = &[
     ("list -- -v", b"-v=80", 0, b"-v\n", ""),
     ("list", b"", 1, b"", ""),
     ("-v list ''", b"", 1, b"", ""),
-    ("-f x list app.properties", b"", 1, b"", ""),
+    (
+        "-f x list app.properties",
+        b"",
+        1,
+        b"",
+        "propedit: no key begins with 'app.properties'; a file is named by -f\n",
+    ),
     ("-f - -v list app.properties", b"", 1, b"", ""),
 ];
 

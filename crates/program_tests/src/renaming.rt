@@ -38,7 +38,7 @@ const RENAMING: &[Row] = &[
         0,
         b"\xef\xbb\xbf\\ufeffb=1",
     ),
-    ("rename a ''", b"a=1\na 2\na", 0, b"=1\n= 2\n="),
+    ("rename -- a ''", b"a=1\na 2\na", 0, b"=1\n= 2\n="),
     ("rename '' a", b"=1", 0, b"a=1"),
     // A key that has the name already changes nothing.
     ("rename a a", b"\\u0061=1\na", 0, b"\\u0061=1\na"),

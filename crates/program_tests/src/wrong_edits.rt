@@ -1,6 +1,6 @@
 // What `propedit` prints for arguments that are no edits.
 
-use crate::refusals::{Filled, Refusal, check_filled, check_refusals};
+use crate::refusals::{Refusal, check_refusals};
 use std::test::Fail;
 
 const EDITS: &[Refusal] = &[
@@ -119,21 +119,40 @@ fn edits_that_are_not_whole_are_named(rt: HostRuntime) -> Result<(), Fail> {
 }
 
 // Arguments in place of an edit.
-const NO_EDITS: &[Filled] = &[
-    ("set a 1 set -i x y", "y", ""),
-    ("set a 1 -i x", "-i", ""),
-    ("set port=8080 -i x", "x", ""),
-    ("-i x set port 1 host 2", "host", ""),
-    ("set -e -i x a 1", "1", ""),
+const NO_EDITS: &[Refusal] = &[
+    (
+        "set a 1 set -i x y",
+        "'-i' is an option; write it before 'a'",
+    ),
+    ("set a 1 -i x", "'-i' is an option; write it before 'a'"),
+    (
+        "set port=8080 -i x",
+        "'-i' is an option; write it before 'port=8080'",
+    ),
+    (
+        "-i x set port 1 host 2",
+        "unknown edit 'host'; did you mean 'set port 1 set host 2', or quotes around '1 host 2'?",
+    ),
+    (
+        "set -e -i x a 1",
+        "unknown edit '1'; put quotes around 'a 1'",
+    ),
     // A text without quotes.
-    ("set-comment port the front door", "front", ""),
-    ("set greeting hello world", "world", ""),
-    ("remove b set-comment -- port the front", "front", ""),
+    (
+        "set-comment port the front door",
+        "unknown edit 'front'; put quotes around 'the front door'",
+    ),
+    (
+        "set greeting hello world",
+        "unknown edit 'world'; put quotes around 'hello world'",
+    ),
+    (
+        "remove b set-comment -- port the front",
+        "unknown edit 'front'; put quotes around 'the front'",
+    ),
 ];
 
 #[test]
 fn words_that_are_no_edit_are_named(rt: HostRuntime) -> Result<(), Fail> {
-    let pattern = "unknown edit '*': each edit begins with set, remove, rename or set-comment, \
-        options come before the first KEY, and a text of several words needs quotes*";
-    check_filled(&rt, pattern, NO_EDITS)
+    check_refusals(&rt, NO_EDITS)
 }

@@ -2,22 +2,26 @@
 #![tactic(auto)]
 
 use counted_io::{Counted, CountedWrite};
-use propedit_arguments::mistake::Mistake;
+use java_properties::{Encoding, read_source};
+use propedit_arguments::doubts::{Note, note_on};
+use propedit_arguments::mistake::{Mistake, NoRequest};
 use propedit_arguments::parse::explain_mistake;
 use propedit_arguments::{
-    asked_for, explain, explain_name, explain_not_utf_8, marked_words, name_of_marked,
+    asked_for, explain, explain_directory, explain_name, explain_not_utf_8, marked_words,
+    name_of_marked,
 };
 use properties_tools::arguments::words;
+use properties_tools::messages::print_line;
 use properties_tools::propedit::against::Base;
 use properties_tools::propedit::answers::name;
 use properties_tools::propedit::base_run::run_base;
 use properties_tools::propedit::diff::run_diff;
 use properties_tools::propedit::error::Failure;
-use properties_tools::propedit::hint::{possible_files, print_reading, refused_file};
+use properties_tools::propedit::hint::{bears_out, possible_files, print_reading, refused_file};
 use properties_tools::propedit::in_place::edit_file;
 use properties_tools::propedit::merge::{Merged, read_merge};
 use properties_tools::propedit::request::{
-    CheckedBase, CheckedFiles, Command, Comparison, Job, Merge, Request, Source,
+    CheckedBase, CheckedFiles, Command, Comparison, Doubt, FileChange, Job, Merge, Request, Source,
 };
 use properties_tools::propedit::same_file::{INPUT, refuse_output};
 use properties_tools::propedit::streams::Sinks;
@@ -57,13 +61,43 @@ fn status<W: CountedWrite, E: CountedWrite>(
     let Some(words) = words else {
         return check_or_explain(rt, alloc, sinks);
     };
-    match asked_for(alloc, words.as_slice()) {
-        Ok(Request::Job(job)) => Ok(do_job(rt, alloc, &job, sinks)),
+    let words = words.as_slice();
+    match asked_for(alloc, words) {
+        Ok(Request::Job(mut job)) => {
+            Ok(do_job(rt, alloc, &mut job, note_among(rt, alloc, words), sinks))
+        }
         Ok(Request::CheckFiles(files)) => Ok(check_files(rt, alloc, files, sinks)),
-        Ok(Request::EditFile(file)) => Ok(edit_file(rt, alloc, &file, &mut sinks.errors)),
+        Ok(Request::EditFile(file)) => {
+            let note = note_among(rt, alloc, words);
+            Ok(edit_noted(rt, alloc, &file, note, &mut sinks.errors))
+        }
         Ok(Request::Merge(asked)) => Ok(merge(rt, alloc, asked, sinks)),
         Ok(Request::Diff(sources)) => Ok(compare(rt, alloc, &sources, sinks)),
-        Err(error) => Ok(explain(alloc, error, &mut sinks.output, &mut sinks.errors)),
+        Err(error) => {
+            let error = with_file(rt, error);
+            Ok(explain(alloc, error, &mut sinks.output, &mut sinks.errors))
+        }
+    }
+}
+
+// Returns why arguments ask for nothing, with the first of them that is a file by mistake.
+fn with_file<'a>(rt: &HostRuntime, error: NoRequest<'a>) -> NoRequest<'a> {
+    for (name, error) in error.if_files().iter().flatten() {
+        if is_file(rt, name) {
+            return *error;
+        }
+    }
+    error
+}
+
+// Returns what may be meant otherwise, if it is not about a file that isn't there. Without memory there is none.
+fn note_among(rt: &HostRuntime, alloc: Global, words: &[String]) -> Option<Note> {
+    let Ok(Some(note)) = note_on(alloc, words) else {
+        return None;
+    };
+    match &note.doubt {
+        Doubt::Value(Some(name)) if !is_file(rt, name.as_str()) => None,
+        _ => Some(note),
     }
 }
 
@@ -79,7 +113,7 @@ fn merge<W: CountedWrite, E: CountedWrite>(
         Err(status) => return status,
     };
     match read_merge(alloc, asked, &mut pairs, &mut sinks.errors) {
-        Ok(Merged::Printed(job)) => do_job(rt, alloc, &job, sinks),
+        Ok(Merged::Printed(mut job)) => do_job(rt, alloc, &mut job, None, sinks),
         Ok(Merged::InPlace(file)) => edit_file(rt, alloc, &file, &mut sinks.errors),
         Err(status) => status,
     }
@@ -102,37 +136,89 @@ fn check_or_explain<W: CountedWrite, E: CountedWrite>(
 fn do_job<W: CountedWrite, E: CountedWrite>(
     rt: &HostRuntime,
     alloc: Global,
-    job: &Job,
+    job: &mut Job,
+    note: Option<Note>,
     sinks: &mut Sinks<W, E>,
 ) -> u8 {
     let mut input = match opened_or_explain(rt, alloc, &job.source, &mut sinks.errors) {
         Ok(input) => input,
         Err(status) => return status,
     };
-    match &job.source {
-        Source::StandardInput => run_unnamed(rt, alloc, job, sinks),
-        Source::Dash | Source::File(_) => run(alloc, job, &[], &mut input, sinks),
-    }
-}
-
-// Runs a command on standard input, where no file is named.
-fn run_unnamed<W: CountedWrite, E: CountedWrite>(
-    rt: &HostRuntime,
-    alloc: Global,
-    job: &Job,
-    sinks: &mut Sinks<W, E>,
-) -> u8 {
     let Ok(files) = files_among(rt, alloc, possible_files(job)) else {
         return print_out_of_memory(&mut sinks.errors);
     };
     if let Some(file) = refused_file(job, &files) {
         return explain_mistake(alloc, Mistake::FileAsKey(file), &mut sinks.errors);
     }
-    let input = rt.stdin();
-    if input.is_terminal() {
+    if matches!(job.source, Source::StandardInput) && rt.stdin().is_terminal() {
         print_reading(&mut sinks.errors);
     }
-    run(alloc, job, &files, &mut Counted::new(input), sinks)
+    match note {
+        Some(note) => run_noted(alloc, job, &note, &mut input, sinks),
+        None => run(alloc, job, &files, &mut input, sinks),
+    }
+}
+
+// Runs a command, and prints a note after its answer, if the source bears it out.
+fn run_noted<W: CountedWrite, E: CountedWrite>(
+    alloc: Global,
+    job: &mut Job,
+    note: &Note,
+    input: &mut Counted<Input>,
+    sinks: &mut Sinks<W, E>,
+) -> u8 {
+    let source = match read_source(alloc, input, job.encoding) {
+        Ok(source) => source,
+        Err(error) => {
+            let failed = Err(Failure::from(error));
+            return exit_status(alloc, &mut sinks.errors, name(&job.source), failed);
+        }
+    };
+    let is_right = is_right(alloc, note, &source, job.encoding);
+    if is_right && matches!(job.source, Source::StandardInput) {
+        // No other hint on the argument is printed.
+        job.source = Source::Dash;
+    }
+    let status = run(alloc, job, &[], &mut source.as_slice(), sinks);
+    let is_done = status == 0 || status == 1 && !matches!(job.command, Command::Change(_));
+    if is_right && is_done {
+        print_line(&mut sinks.errors, note.line.as_str());
+    }
+    status
+}
+
+// Changes a file, and prints a note, if the file bore it out.
+fn edit_noted<E: CountedWrite>(
+    rt: &HostRuntime,
+    alloc: Global,
+    file: &FileChange,
+    note: Option<Note>,
+    errors: &mut E,
+) -> u8 {
+    let Some(note) = note else {
+        return edit_file(rt, alloc, file, errors);
+    };
+    let source = bytes_of(rt, alloc, file).unwrap_or(Vec::new(alloc));
+    let is_right = is_right(alloc, &note, &source, file.encoding);
+    let status = edit_file(rt, alloc, file, errors);
+    if is_right && status == 0 {
+        print_line(errors, note.line.as_str());
+    }
+    status
+}
+
+// Returns the bytes of a file that can be read.
+fn bytes_of(rt: &HostRuntime, alloc: Global, file: &FileChange) -> Option<Vec<u8>> {
+    let path = file.path.as_str();
+    if !is_file(rt, path) {
+        return None;
+    }
+    let mut input = Counted::new(File::open(rt, path).ok()?);
+    read_source(alloc, &mut input, file.encoding).ok()
+}
+
+fn is_right(alloc: Global, note: &Note, source: &[u8], encoding: Encoding) -> bool {
+    matches!(bears_out(alloc, source, encoding, &note.doubt), Ok(true))
 }
 
 // Returns the names that files have.
@@ -202,7 +288,7 @@ fn check_files<W: CountedWrite, E: CountedWrite>(
     };
     for path in paths {
         job.source = source_named(path);
-        highest = highest.max(check_file(rt, alloc, &job, sinks));
+        highest = highest.max(check_file(rt, alloc, &mut job, sinks));
     }
     highest
 }
@@ -230,16 +316,28 @@ fn source_named(path: String) -> Source {
     }
 }
 
-// Checks a file, unless its name is not UTF-8: no such file can be opened.
+// Checks a file, unless its name is not UTF-8, or is that of a directory: no such file can be read.
 fn check_file<W: CountedWrite, E: CountedWrite>(
     rt: &HostRuntime,
     alloc: Global,
-    job: &Job,
+    job: &mut Job,
     sinks: &mut Sinks<W, E>,
 ) -> u8 {
-    match marked_name(&job.source) {
-        Some(name) => explain_name(alloc, name, &mut sinks.errors),
-        None => do_job(rt, alloc, job, sinks),
+    if let Some(name) = marked_name(&job.source) {
+        return explain_name(alloc, name, &mut sinks.errors);
+    }
+    match &job.source {
+        Source::File(path) if is_directory(rt, path.as_str()) => {
+            explain_directory(alloc, path.as_str(), &mut sinks.errors)
+        }
+        _ => do_job(rt, alloc, job, None, sinks),
+    }
+}
+
+fn is_directory(rt: &HostRuntime, name: &str) -> bool {
+    match fs::metadata(rt, name) {
+        Ok(metadata) => metadata.is_dir(),
+        Err(_) => false,
     }
 }
 

@@ -6,9 +6,9 @@ use Rattle.std.specs.declared.string.String.{String}
 use Rattle.std.specs.List.{list_any}
 use Rattle.std.proofs.lemmas.Grind.{common_steps}
 use Rattle.std.proofs.lemmas.List.{length-append, length-map, map-append, nil_from_length}
-use Rattle.propedit_arguments.specs.Private.Edits.{Edit, Meant, set, remove, rename, set_comment, Form, plain, literal, WrittenEdit, MayBeWritten, IsAssignment}
+use Rattle.propedit_arguments.specs.Private.Edits.{Edit, Meant, set, remove, rename, set_comment, Form, plain, literal, text_words, WrittenEdit, MayBegin, MayBeWritten, IsAssignment}
 use Rattle.propedit_arguments.specs.Private.Edits.{asked_edit, asked_edits, meant_edit, edit_words, written_words, IsMistakeAt, no_edit, no_key, no_value, no_new_key, no_text}
-use Rattle.propedit_arguments.specs.Private.Edits.{AreWrong, assignments, is_sign}
+use Rattle.propedit_arguments.specs.Private.Edits.{AreWrong, assignments, is_odd, is_sign, odd_key, odd_name}
 use Rattle.propedit_arguments.proofs.Assignments.{has-sign}
 use Rattle.propedit_arguments.specs.declared.edits.AskedEdit.{AskedEdit}
 use Rattle.propedit_arguments.specs.declared.mistake.Mistake.{Mistake}
@@ -52,8 +52,8 @@ same-rest f g (remove k) (set_comment l w) a b p q e = absurd (cc)
 same-rest f g (rename k v) (set l w) a b p q e = absurd (cc)
 same-rest f g (rename k v) (remove l) a b p q e = absurd (two-commands (sym (ap first-word e)))
 same-rest plain plain (rename k v) (rename l w) a b p q e = cc
-same-rest plain literal (rename k v) (rename l w) a b p q e = absurd (p (cc))
-same-rest literal plain (rename k v) (rename l w) a b p q e = absurd (q (cc))
+same-rest plain literal (rename k v) (rename l w) a b p q e = absurd (p.0 (cc))
+same-rest literal plain (rename k v) (rename l w) a b p q e = absurd (q.0 (cc))
 same-rest literal literal (rename k v) (rename l w) a b p q e = cc
 same-rest f g (rename k v) (set_comment l w) a b p q e = absurd (cc)
 same-rest f g (set_comment k v) (set l w) a b p q e = absurd (set-commands (sym (ap first-word e)))
@@ -94,10 +94,41 @@ module _ {Z : Type 0} where
   first (a ∷ texts) text other some is = grind (arith, common_steps)
 
   pub first-two : (texts : List (String Z)) (text next other another : String Z) → 2 ≤ length texts → text ≡ get_or texts 0 other
-      → next ≡ get_or texts 1 another → (others : List (String Z)) × (texts ≡ text ∷ (next ∷ others))
+      → next ≡ get_or texts 1 another → texts ≡ text ∷ (next ∷ take (length texts - 2) (drop 2 texts))
   first-two [] text next other another some is at = absurd (omega arith)
   first-two (a ∷ []) text next other another some is at = absurd (omega arith)
-  first-two (a ∷ b ∷ texts) text next other another some is at = (texts, ap (λ v. v ∷ (b ∷ texts)) (sym is) ∙ ap (λ v. text ∷ (v ∷ texts)) (sym at))
+  first-two (a ∷ b ∷ texts) text next other another some is at = grind (arith, common_steps)
+
+  -- the same of arguments, of which two are borrowed
+  pub two-words : (texts : List (String Z)) (text next other another : String Z) (a b : List ℕ) → 2 ≤ length texts → text ≡ get_or texts 0 other
+      → next ≡ get_or texts 1 another → a ≡ string_bytes text → b ≡ string_bytes next
+      → map string_bytes texts ≡ a ∷ (b ∷ map string_bytes (take (length texts - 2) (drop 2 texts)))
+  two-words texts text next other another a b some is at one two =
+      let others = map string_bytes (take (length texts - 2) (drop 2 texts)) in
+      ap (map string_bytes) (first-two texts text next other another some is at) ∙ ap (λ v. v ∷ (string_bytes next ∷ others)) (sym one)
+      ∙ ap (λ v. a ∷ (v ∷ others)) (sym two)
+
+-- The arguments begin with a setting, if no slip is at their front.
+pub takes-set : (form : Form) (words texts : List (List ℕ)) (key value : List ℕ) (others : List (List ℕ)) → words ≡ text_words form texts
+    → MayBegin form texts → texts ≡ key ∷ (value ∷ others)
+    → ((k v : List ℕ) (o : List (List ℕ)) → words ≡ k ∷ (v ∷ o) → (IsAssignment k → IsAssignment v → ⊥) × (is_odd k ≡ false))
+    → (x : Form) × MayBeWritten x (set key value) × (codes "set" ∷ words ≡ edit_words x (set key value) ++ others)
+takes-set plain words texts key value others is may front refuses =
+    let sound = refuses key value others (is ∙ front) in
+    (plain, ((λ e. may (value ∷ others) (front ∙ ap (λ k. k ∷ (value ∷ others)) e)), sound.0, sound.1), ap (λ v. codes "set" ∷ v) (is ∙ front))
+takes-set literal words texts key value others is may front refuses =
+    (literal, tt, ap (λ v. codes "set" ∷ v) (is ∙ ap (λ v. codes "--" ∷ v) front))
+
+-- They begin with a renaming, if the new name isn't odd.
+pub takes-renaming : (form : Form) (words texts : List (List ℕ)) (old new : List ℕ) (others : List (List ℕ)) → words ≡ text_words form texts
+    → MayBegin form texts → texts ≡ old ∷ (new ∷ others)
+    → ((a b : List ℕ) (o : List (List ℕ)) → words ≡ a ∷ (b ∷ o) → a ≢ codes "--" → is_odd b ≡ false)
+    → (x : Form) × MayBeWritten x (rename old new) × (codes "rename" ∷ words ≡ edit_words x (rename old new) ++ others)
+takes-renaming plain words texts old new others is may front refuses =
+    let key : old ≢ codes "--" = λ e. may (new ∷ others) (front ∙ ap (λ k. k ∷ (new ∷ others)) e) in
+    (plain, (key, refuses old new others (is ∙ front) key), ap (λ v. codes "rename" ∷ v) (is ∙ front))
+takes-renaming literal words texts old new others is may front refuses =
+    (literal, tt, ap (λ v. codes "rename" ∷ v) (is ∙ ap (λ v. codes "--" ∷ v) front))
 
 -- some texts, by a test
 pub some-words : {Z : Type 0} (texts : List (String Z)) → (length texts == 0) ≡ false → map string_bytes texts ≢ []
@@ -185,7 +216,7 @@ none-at words mistake f (set k v) others may (no_new_key key g is first m) w = c
 none-at words mistake f (remove k) others may (no_new_key key g is first m) w = two-commands (ap first-word (sym w ∙ is))
 none-at words mistake plain (rename k v) others may (no_new_key key plain is first m) w = cc
 none-at words mistake literal (rename k v) others may (no_new_key key plain is first m) w = cc
-none-at words mistake plain (rename k v) others may (no_new_key key literal is first m) w = may (cc)
+none-at words mistake plain (rename k v) others may (no_new_key key literal is first m) w = may.0 (cc)
 none-at words mistake literal (rename k v) others may (no_new_key key literal is first m) w = cc
 none-at words mistake f (set_comment k v) others may (no_new_key key g is first m) w = cc
 none-at words mistake f (set k v) others may (no_text key g is first m) w = set-commands (ap first-word (sym w ∙ is))
@@ -204,6 +235,19 @@ none-at words mistake literal (set k v) others may (assignments key value rest i
 none-at words mistake f (remove k) others may (assignments key value rest is a b m) w = cc
 none-at words mistake f (rename k v) others may (assignments key value rest is a b m) w = cc
 none-at words mistake f (set_comment k v) others may (assignments key value rest is a b m) w = set-commands (ap first-word (sym is ∙ w))
+none-at words mistake plain (set k v) others may (odd_key key value rest is odd m) w =
+    let same : key.now ≡ k = cc in true≢false (sym odd ∙ ap is_odd same ∙ may.2)
+none-at words mistake literal (set k v) others may (odd_key key value rest is odd m) w =
+    let dashes : key.now ≡ codes "--" = cc in true≢false (sym odd ∙ ap is_odd dashes)
+none-at words mistake f (remove k) others may (odd_key key value rest is odd m) w = cc
+none-at words mistake f (rename k v) others may (odd_key key value rest is odd m) w = cc
+none-at words mistake f (set_comment k v) others may (odd_key key value rest is odd m) w = set-commands (ap first-word (sym is ∙ w))
+none-at words mistake f (set k v) others may (odd_name old new rest is key odd m) w = cc
+none-at words mistake f (remove k) others may (odd_name old new rest is key odd m) w = two-commands (ap first-word (sym w ∙ is))
+none-at words mistake plain (rename k v) others may (odd_name old new rest is key odd m) w =
+    let same : new.now ≡ v = cc in true≢false (sym odd ∙ ap is_odd same ∙ may.1)
+none-at words mistake literal (rename k v) others may (odd_name old new rest is key odd m) w = key (cc)
+none-at words mistake f (set_comment k v) others may (odd_name old new rest is key odd m) w = cc
 
 -- If something is wrong, there are arguments.
 some-wrong : (words : List (List ℕ)) (mistake : Mistake) → IsMistakeAt words mistake → words ≢ []
@@ -213,6 +257,8 @@ some-wrong words mistake (no_value key form is first m) e = cc
 some-wrong words mistake (no_new_key key form is first m) e = cc
 some-wrong words mistake (no_text key form is first m) e = cc
 some-wrong words mistake (assignments key value rest is a b m) e = cc
+some-wrong words mistake (odd_key key value rest is odd m) e = cc
+some-wrong words mistake (odd_name old new rest is key odd m) e = cc
 
 -- If something is wrong after some edits, the arguments are not those of edits.
 no-edits : (words : List (List ℕ)) (mistake : Mistake) → AreWrong words mistake → (all : List WrittenEdit) → words ≡ written_words all → ⊥

@@ -89,7 +89,7 @@ pub const COMMANDS: &[CommandRow] = &[
             OptionName::Default,
             OptionName::Null,
         ],
-        other_names: &["show", "print", "read"],
+        other_names: &["show", "print", "read", "has", "exists", "contains"],
         examples: "propedit get -f app.properties port\n  \
             propedit get -d 80 -- \"$key\" < app.properties",
         statuses: "0 each KEY was found, or -d is given; 1 one was not; 2 an error",
@@ -106,7 +106,7 @@ pub const COMMANDS: &[CommandRow] = &[
             OptionName::Values,
             OptionName::Json,
         ],
-        other_names: &["ls", "keys"],
+        other_names: &["ls", "keys", "find", "grep", "search", "count"],
         examples: "propedit list -f app.properties server.\n  \
             propedit list -v < app.properties",
         statuses: "0 a key was found; 1 none was; 2 an error",
@@ -117,7 +117,7 @@ pub const COMMANDS: &[CommandRow] = &[
         words: "KEY",
         help: "Prints the comment lines directly above a KEY",
         options: &[OptionName::File, OptionName::Encoding],
-        other_names: &["comments", "describe"],
+        other_names: &["describe"],
         examples: "propedit comment -f app.properties port\n  \
             propedit comment -- \"$key\" < app.properties",
         statuses: "0 a pair has KEY; 1 none has; 2 an error",
@@ -137,7 +137,7 @@ pub const COMMANDS: &[CommandRow] = &[
             OptionName::Quiet,
             OptionName::Json,
         ],
-        other_names: &["lint", "validate", "verify"],
+        other_names: &["lint", "validate", "verify", "test"],
         examples: "propedit check -a -- *.properties\n  \
             propedit check --base app.properties app_de.properties",
         statuses: "0 nothing was found; 1 something was; 2 an error",
@@ -159,7 +159,9 @@ pub const COMMANDS: &[CommandRow] = &[
         words: "KEY VALUE",
         help: "Sets a value, keeps its line's layout; edits may follow",
         options: EDIT_OPTIONS,
-        other_names: &["put", "add", "edit", "change", "update", "replace"],
+        other_names: &[
+            "put", "add", "append", "edit", "change", "update", "replace",
+        ],
         examples: "propedit set -i app.properties port 8080\n  \
             propedit set -x -i app.properties -- \"$key\" \"$value\"",
         statuses: "0 done; 1 no pair has a KEY, and -x is given; 2 an error",
@@ -193,7 +195,7 @@ pub const COMMANDS: &[CommandRow] = &[
         words: "KEY TEXT",
         help: "Sets the comment lines above a KEY; edits may follow",
         options: EDIT_OPTIONS,
-        other_names: &["setcomment", "set_comment", "comment-set", "annotate"],
+        other_names: &["comment-set", "annotate"],
         examples: "propedit set-comment -i app.properties port 'the front door'\n  \
             propedit set-comment port '' set port 80 < app.properties",
         statuses: "0 done; 1 no pair has KEY; 2 an error",
@@ -415,13 +417,32 @@ pub fn command_named(name: &str) -> Option<&'static CommandRow> {
 }
 
 /// Returns the row of the command that may be meant by an argument that names none: it is another word for it, or its
-/// name in capitals, cut short, or with a letter or two after it.
+/// name in capitals, or misspelt by one letter.
 pub fn command_meant(word: &str) -> Option<&'static CommandRow> {
-    COMMANDS.iter().find(|row| {
-        row.name.eq_ignore_ascii_case(word)
-            || row.other_names.contains(&word)
-            || is_continued(row.name, word) && word.len().abs_diff(row.name.len()) <= 2
-    })
+    let is_other = |row: &&CommandRow| {
+        row.name.eq_ignore_ascii_case(word) || row.other_names.contains(&word)
+    };
+    let is_misspelt = |row: &&CommandRow| is_misspelt(row.name.as_bytes(), word.as_bytes());
+    match COMMANDS.iter().find(is_other) {
+        Some(row) => Some(row),
+        None => COMMANDS.iter().find(is_misspelt),
+    }
+}
+
+// Returns whether one letter that is swapped with the next, lost, added or changed makes the word of the name.
+fn is_misspelt(name: &[u8], word: &[u8]) -> bool {
+    let is_same = |(one, other): &(&u8, &u8)| one == other;
+    let front = name.iter().zip(word).take_while(is_same).count();
+    match (
+        name.get(front..).unwrap_or(&[]),
+        word.get(front..).unwrap_or(&[]),
+    ) {
+        ([_, name @ ..], word) if name == word => true,
+        (name, [_, word @ ..]) if name == word => true,
+        ([_, name @ ..], [_, word @ ..]) if name == word => true,
+        ([a, b, name @ ..], [c, d, word @ ..]) => a == d && b == c && name == word,
+        _ => false,
+    }
 }
 
 /// Returns the row of the option with this letter. If it is that of several, it is the one that the command takes, or
@@ -554,6 +575,11 @@ impl CommandRow {
     /// Returns whether it edits.
     pub(crate) fn is_edit(&self) -> bool {
         self.command == CommandName::Remove || self.takes_two_texts()
+    }
+
+    /// Returns how many texts it has as an edit.
+    pub(crate) fn texts(&self) -> usize {
+        if self.takes_two_texts() { 2 } else { 1 }
     }
 
     /// Returns whether it is an edit of two texts.

@@ -1,10 +1,10 @@
 // The edits that arguments ask for.
 
-ghost use Rattle.std.specs.Prelude.{◌∷◌, ◌≡◌, codes, map, string_bytes, IfOk, MatchBool};
+ghost use Rattle.std.specs.Prelude.{◌∷◌, ◌≡◌, ◌≢◌, true, false, codes, map, string_bytes, IfOk, MatchBool};
 ghost use Rattle.std.specs.List.{list_any};
 ghost use Rattle.properties_format.specs.Text.{is_blank};
 ghost use Rattle.propedit_arguments.specs.Private.Edits.{asked_edit, borrowed_edit, meant_edit, IsAssignment};
-ghost use Rattle.propedit_arguments.specs.Private.Edits.{AreAfterDashes, GivesEdits, RefusesAssignments, TakesEdit};
+ghost use Rattle.propedit_arguments.specs.Private.Edits.{ends_key, is_odd, AreAfterDashes, GivesEdits, RefusesOddName, RefusesSlips, TakesEdit};
 
 use crate::mistake::Mistake;
 use java_properties::Edit;
@@ -89,7 +89,7 @@ fn edit_of<'a>(
         "remove" => next_removal(words),
         "rename" => next_renaming(words),
         "set-comment" => next_comment(words),
-        other => Err(Mistake::NoEdit(other)),
+        other => Err(Mistake::NoEdit(other, None)),
     }
 }
 
@@ -97,7 +97,7 @@ fn edit_of<'a>(
 fn next_set<'a>(words: &'a [String]) -> Result<(BorrowedEdit<'a>, &'a [String]), Mistake<'a>>
     ensures { TakesEdit (codes "set" ∷ map string_bytes words.now) result }
 {
-    refuse_assignments(words)?;
+    refuse_slips(words)?;
     match after_dashes(words) {
         [key, value, others @ ..] => Ok((BorrowedEdit::Set(key, value), others)),
         [key] => Err(Mistake::NoValue(key.as_str())),
@@ -119,6 +119,7 @@ fn next_removal<'a>(words: &'a [String]) -> Result<(BorrowedEdit<'a>, &'a [Strin
 fn next_renaming<'a>(words: &'a [String]) -> Result<(BorrowedEdit<'a>, &'a [String]), Mistake<'a>>
     ensures { TakesEdit (codes "rename" ∷ map string_bytes words.now) result }
 {
+    refuse_odd_name(words)?;
     match after_dashes(words) {
         [old, new, others @ ..] => Ok((BorrowedEdit::Rename(old, new), others)),
         [old] => Err(Mistake::NoNewKey(old.as_str())),
@@ -147,16 +148,54 @@ fn after_dashes(words: &[String]) -> &[String]
     }
 }
 
-// Fails if the arguments begin with a key and a value that both look like NAME=TEXT.
-fn refuse_assignments<'a>(words: &'a [String]) -> Result<(), Mistake<'a>>
-    ensures { RefusesAssignments (map string_bytes words.now) result }
+// Fails if the arguments begin with a key and a value that both look like NAME=TEXT, or with an odd key.
+fn refuse_slips<'a>(words: &'a [String]) -> Result<(), Mistake<'a>>
+    ensures { RefusesSlips (map string_bytes words.now) result }
 {
     match words {
         [key, value, ..] if is_assignment(key.as_str()) && is_assignment(value.as_str()) => {
             Err(Mistake::TwoAssignments(key.as_str(), value.as_str()))
         }
+        [key, value, ..] if is_odd(key.as_str()) => {
+            Err(Mistake::OddKey(key.as_str(), value.as_str()))
+        }
         _ => Ok(()),
     }
+}
+
+// Fails if the arguments begin with a key and its new name, which is odd.
+fn refuse_odd_name<'a>(words: &'a [String]) -> Result<(), Mistake<'a>>
+    ensures { RefusesOddName (map string_bytes words.now) result }
+{
+    match words {
+        [old, new, ..] if is_odd_name(old.as_str(), new.as_str()) => {
+            Err(Mistake::OddName(old.as_str(), new.as_str()))
+        }
+        _ => Ok(()),
+    }
+}
+
+// Returns whether the new name of a key is odd, if that key isn't `--`.
+fn is_odd_name(old: &str, new: &str) -> bool
+    ensures { MatchBool result ((old.now ≢ codes "--") × (is_odd new.now ≡ true)) (old.now ≢ codes "--" → is_odd new.now ≡ false) }
+{
+    old != "--" && is_odd(new)
+}
+
+/// Returns whether a key is hardly meant: it is empty, or ends in what ends a key in a file.
+pub(crate) fn is_odd(key: &str) -> bool
+    ensures { result ≡ is_odd key.now }
+{
+    match key.as_bytes().last() {
+        Some(byte) => ends_key(*byte),
+        None => true,
+    }
+}
+
+fn ends_key(byte: u8) -> bool
+    ensures { result ≡ ends_key byte }
+{
+    is_blank(byte) || byte == b'=' || byte == b':'
 }
 
 // Returns whether a text looks like NAME=TEXT.

@@ -12,6 +12,7 @@
 #![tactic(auto)]
 
 mod command_line;
+pub mod doubts;
 mod edits;
 mod kinds;
 mod labels;
@@ -19,9 +20,13 @@ pub mod mistake;
 mod not_utf_8;
 mod options;
 pub mod parse;
+mod shell;
+pub mod typed;
 mod wrong_edits;
 mod wrong_options;
 
 pub use command_line::{CommandName, CommandRow, OptionName, OptionRow, TypedOption};
-pub use not_utf_8::{explain_name, explain_not_utf_8, marked_words, name_of_marked};
+pub use not_utf_8::{
+    explain_directory, explain_name, explain_not_utf_8, marked_words, name_of_marked,
+};
 pub use parse::{asked_for, explain};

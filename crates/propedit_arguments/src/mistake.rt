@@ -3,9 +3,11 @@
 use crate::command_line::{CommandName, CommandRow, OptionName, TypedOption, Usage, command_named};
 use crate::kinds::show_no_kind;
 use crate::labels::{TARGETS, show_ascii_encoding, show_no_target, show_unknown_encoding};
+use crate::shell::Quoted;
+use crate::typed::Stray;
 use crate::wrong_edits::{
-    show_no_edit, show_no_new_key, show_no_text, show_no_value, show_option_for_key_of,
-    show_two_assignments,
+    Shown, show_no_edit, show_no_new_key, show_no_text, show_no_value, show_odd,
+    show_option_for_key_of, show_two_assignments, trimmed,
 };
 use crate::wrong_options::{
     show_not_with, show_option_after, show_option_for_key, show_taken, show_two_files,
@@ -43,10 +45,49 @@ impl<T: Drop> From<AllocFailed<T>> for NoRequest<'_> {
     }
 }
 
+impl<'a> NoRequest<'a> {
+    /// Returns the arguments that may be files by mistake, each with the error if it is one.
+    pub fn if_files(self) -> [Option<(&'a str, NoRequest<'a>)>; 2] {
+        match self {
+            NoRequest::Wrong(Mistake::NoEdit(word, Some(stray))) => {
+                let error = |(name, words)| {
+                    let file = Some(name);
+                    let mistake = Mistake::NoEdit(
+                        word,
+                        Some(Stray {
+                            words,
+                            file,
+                            ..stray
+                        }),
+                    );
+                    (name, NoRequest::Wrong(mistake))
+                };
+                [
+                    stray.after_first().map(error),
+                    stray.before_last().map(error),
+                ]
+            }
+            NoRequest::Wrong(Mistake::UnknownCommand(word, Hint::Alone)) => {
+                let mistake = Mistake::UnknownCommand(word, Hint::ListFile);
+                [Some((word, NoRequest::Wrong(mistake))), None]
+            }
+            _ => [None, None],
+        }
+    }
+}
+
 /// What may be meant by an argument that is no command.
 #[derive(Clone, Copy, Debug)]
 pub enum Hint {
     Nothing,
+    /// Nothing, but it is the only argument, and may be a file.
+    Alone,
+    /// A file, whose keys may be listed.
+    ListFile,
+    /// A list as JSON.
+    ListJson,
+    /// What no command does.
+    Never,
     Command(&'static CommandRow),
     /// The option with this long name.
     Option(&'static str),
@@ -112,8 +153,8 @@ pub enum Mistake<'a> {
     OptionAfter(&'a str, &'static CommandRow),
     /// This command has no use for this argument.
     Surplus(&'a str, &'static CommandRow),
-    /// This argument is no edit.
-    NoEdit(&'a str),
+    /// This argument, which stands there, is no edit.
+    NoEdit(&'a str, Option<Stray<'a>>),
     /// This edit has no key.
     NoKey(&'static str),
     /// The setting of this key has no value.
@@ -132,6 +173,10 @@ pub enum Mistake<'a> {
     FileAsKey(&'a str),
     /// The key and the value of a setting both look like NAME=TEXT.
     TwoAssignments(&'a str, &'a str),
+    /// The key of a setting, which has this value, is empty, or ends in what ends a key in a file.
+    OddKey(&'a str, &'a str),
+    /// The same of the new name of this key.
+    OddName(&'a str, &'a str),
     /// Memory ran out.
     Memory,
 }
@@ -167,11 +212,13 @@ impl Mistake<'_> {
             | Mistake::OptionAfter(_, row)
             | Mistake::Surplus(_, row) => Usage::Of(row),
             Mistake::NoKey(name) => usage_of(name),
-            Mistake::NoValue(_) | Mistake::TwoAssignments(_, _) => usage_of("set"),
-            Mistake::NoNewKey(_) => usage_of("rename"),
+            Mistake::NoValue(_) | Mistake::TwoAssignments(_, _) | Mistake::OddKey(_, _) => {
+                usage_of("set")
+            }
+            Mistake::NoNewKey(_) | Mistake::OddName(_, _) => usage_of("rename"),
             Mistake::NoText(_) | Mistake::SetThenComment => usage_of("set-comment"),
             Mistake::FileAsKey(_) => usage_of("get"),
-            Mistake::NoEdit(_) => Usage::Edits,
+            Mistake::NoEdit(_, _) => Usage::Edits,
             _ => Usage::All,
         }
     }
@@ -181,7 +228,8 @@ impl Hint {
     fn usage(self) -> Usage {
         match self {
             Hint::Command(row) | Hint::File(row) | Hint::Taken(_, row) => Usage::Of(row),
-            Hint::Nothing | Hint::Option(_) => Usage::All,
+            Hint::ListFile | Hint::ListJson => usage_of("list"),
+            Hint::Nothing | Hint::Alone | Hint::Never | Hint::Option(_) => Usage::All,
         }
     }
 }
@@ -284,7 +332,7 @@ impl fmt::Display for Mistake<'_> {
             Mistake::NothingToCheck(row) => show_nothing_to_check(f, row),
             Mistake::OptionAfter(word, row) => show_option_after(f, word, row),
             Mistake::Surplus(word, row) => show_surplus(f, word, row),
-            Mistake::NoEdit(word) => show_no_edit(f, word),
+            Mistake::NoEdit(word, stray) => show_no_edit(f, word, stray),
             Mistake::NoKey(name) => write!(f, "'{name}' requires a KEY"),
             Mistake::NoValue(key) => show_no_value(f, key),
             Mistake::NoNewKey(key) => show_no_new_key(f, key),
@@ -294,6 +342,14 @@ impl fmt::Display for Mistake<'_> {
             Mistake::OptionForKeyOf(key, row) => show_option_for_key_of(f, key, row),
             Mistake::FileAsKey(name) => show_file_as_key(f, name),
             Mistake::TwoAssignments(key, value) => show_two_assignments(f, key, value),
+            Mistake::OddKey(key, value) => {
+                let setting = |key| Shown("set", key, Some(value));
+                show_odd(f, key, setting(trimmed(key)), setting(key))
+            }
+            Mistake::OddName(old, new) => {
+                let renaming = |new| Shown("rename", old, Some(new));
+                show_odd(f, new, renaming(trimmed(new)), renaming(new))
+            }
             Mistake::Memory => f.write_str("Out of memory."),
         }
     }
@@ -306,9 +362,15 @@ fn show_unknown_command<W: fmt::Write>(
     hint: Hint,
 ) -> fmt::Result {
     let shown = Escaped(word);
+    if let Hint::ListFile = hint {
+        let name = Quoted(word);
+        return write!(f, "'{shown}' is a file; did you mean 'list -f {name}'?");
+    }
     write!(f, "unknown command '{shown}'")?;
     match hint {
-        Hint::Nothing => Ok(()),
+        Hint::Nothing | Hint::Alone | Hint::ListFile => Ok(()),
+        Hint::ListJson => show_meant(f, "", "list --json"),
+        Hint::Never => f.write_str("; propedit cannot sort, format or copy"),
         Hint::Command(row) => show_meant(f, "", row.name),
         Hint::Option(long) => show_meant(f, "--", long),
         Hint::File(row) if row.is_edit() => {

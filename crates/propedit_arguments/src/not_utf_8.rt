@@ -5,7 +5,9 @@ ghost use Rattle.counted_io.specs.Streams.{IsSameSink};
 
 use crate::mistake::{EscapedBytes, Mistake};
 use crate::parse::explain_mistake;
+use crate::shell::Quoted;
 use counted_io::CountedWrite;
+use properties_tools::messages::Escaped;
 use properties_tools::propedit::{print_out_of_memory, print_usage_error};
 use std::alloc::{AllocError, Global};
 use std::env::Env;
@@ -76,6 +78,23 @@ pub fn explain_name<E: CountedWrite>(alloc: Global, name: &str, errors: &mut E) 
     ensures same_error_sink { IsSameSink E.CountedWrite errors.old errors.new }
 {
     match format!(in alloc; "propedit: {name}: this name is not UTF-8\n") {
+        Ok(text) => print_usage_error(errors, text.as_str()),
+        Err(_) => print_out_of_memory(errors),
+    }
+}
+
+/// Prints on `errors` that a file to check is a directory, and how the files in it are checked, and returns the exit
+/// status of failures, 2. What can't be printed is dropped.
+pub fn explain_directory<E: CountedWrite>(alloc: Global, name: &str, errors: &mut E) -> u8
+    ensures status { result ≡ 2 }
+    ensures same_error_sink { IsSameSink E.CountedWrite errors.old errors.new }
+{
+    let front = if name.starts_with('-') { "./" } else { "" };
+    match format!(in alloc;
+        "propedit: {}: is a directory; use: find {front}{} -name '*.properties' -exec propedit check {{}} +\n",
+        Escaped(name),
+        Quoted(name)
+    ) {
         Ok(text) => print_usage_error(errors, text.as_str()),
         Err(_) => print_out_of_memory(errors),
     }

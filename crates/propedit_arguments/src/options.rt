@@ -339,6 +339,17 @@ impl<'a> Options<'a> {
         }
     }
 
+    /// Returns the name of the file that is edited or read, as messages have it.
+    pub fn name(&self) -> &'a str {
+        match self
+            .value(OptionName::InPlace)
+            .or(self.value(OptionName::File))
+        {
+            Some(STANDARD_INPUT) | None => "standard input",
+            Some(path) => path,
+        }
+    }
+
     /// Returns the request for a command over that source.
     pub fn job(
         &self,

@@ -5,12 +5,14 @@ ghost use Rattle.counted_io.specs.Streams.{IsSameSink};
 
 use crate::command_line::{
     CommandName, CommandRow, Help, HelpOf, OptionName, Version, command_meant, command_named,
-    option_in, target_named,
+    target_named,
 };
 use crate::edits::{AskedEdit, edits_in};
 use crate::kinds::ignored_in;
 use crate::mistake::{Hint, Mistake, NoRequest};
 use crate::options::{Options, STANDARD_INPUT, options_in, source_named};
+use crate::typed::{Stray, is_option_of};
+use crate::wrong_edits::KEY_ENDS;
 use counted_io::CountedWrite;
 use java_properties::{Edit, NewComment, Rename};
 use properties_tools::propedit::kinds::Ignored;
@@ -57,11 +59,33 @@ pub fn asked_for<'a>(alloc: Global, words: &'a [String]) -> Result<Request, NoRe
         CommandName::Diff => Ok(diff(alloc, row, &options, rest)?),
         CommandName::Set | CommandName::Remove | CommandName::Rename | CommandName::SetComment => {
             refuse_split_name(row, rest)?;
-            Ok(edit(alloc, row, &options, edits_in(alloc, row.name, rest)?)?)
+            Ok(edit(
+                alloc,
+                row,
+                &options,
+                edits_among(alloc, row, &options, rest)?,
+            )?)
         }
         CommandName::Merge => Ok(merge(alloc, row, &options, rest)?),
         CommandName::Convert => Ok(convert(alloc, row, &options, rest)?),
         CommandName::Help => Err(help(row, &options, rest)),
+    }
+}
+
+// Returns the edits that a command and the arguments after its options ask for. The mistake says what stands around an
+// argument that is no edit.
+fn edits_among<'a>(
+    alloc: Global,
+    row: &'static CommandRow,
+    options: &Options<'a>,
+    words: &'a [String],
+) -> Result<Vec<AskedEdit>, Mistake<'a>> {
+    match edits_in(alloc, row.name, words) {
+        Err(Mistake::NoEdit(word, _)) => {
+            let stray = Stray::of(row, options, words);
+            Err(Mistake::NoEdit(word, Some(stray)))
+        }
+        result => result,
     }
 }
 
@@ -72,7 +96,7 @@ fn refuse_option_for_key<'a>(
 ) -> Result<(), Mistake<'a>> {
     match (row.first_argument(), words) {
         (Some("key"), []) => Err(Mistake::OptionForKey(row)),
-        (_, [key]) if row.takes_two_texts() && !key.contains('=') && key.as_str() != "--" => {
+        (_, [key]) if row.takes_two_texts() && !key.contains(KEY_ENDS) && key.as_str() != "--" => {
             Err(Mistake::OptionForKeyOf(key.as_str(), row))
         }
         _ => Ok(()),
@@ -152,16 +176,18 @@ fn hint(options: &Options<'_>, word: &str, rest: &[String]) -> Hint {
     if let Some((option, row)) = options.command_taken() {
         return Hint::Taken(option, row);
     }
-    if word.eq_ignore_ascii_case("version") {
-        return Hint::Option("version");
+    match word {
+        "version" | "Version" | "VERSION" => Hint::Option("version"),
+        "json" | "to-json" => Hint::ListJson,
+        "sort" | "fmt" | "format" | "cp" | "copy" => Hint::Never,
+        _ => file_hint(rest),
     }
-    file_hint(rest)
 }
 
 // Returns that a file may be meant by the argument before these, if the first of them is a command.
 fn file_hint(rest: &[String]) -> Hint {
     let [next, ..] = rest else {
-        return Hint::Nothing;
+        return Hint::Alone;
     };
     match command_named(next.as_str()) {
         Some(row) if row.options.contains(&OptionName::File) => Hint::File(row),
@@ -169,8 +195,8 @@ fn file_hint(rest: &[String]) -> Hint {
     }
 }
 
-// Returns the arguments before a first `--`, and those after it.
-fn around_dashes(words: &[String]) -> (&[String], &[String]) {
+/// Returns the arguments before a first `--`, and those after it.
+pub(crate) fn around_dashes(words: &[String]) -> (&[String], &[String]) {
     match words.iter().position(|word| word.as_str() == "--") {
         Some(at) => (
             words.get(..at).unwrap_or(&[]),
@@ -264,14 +290,6 @@ fn required_word<'a>(
     match only_word(row, words)? {
         Some(word) => Ok(word),
         None => Err(Mistake::NoWord(row)),
-    }
-}
-
-// Returns whether an argument would be an option of a command that has some.
-fn is_option_of(word: &str, row: &'static CommandRow) -> bool {
-    match option_in(word, Some(row)) {
-        Some(option) => !row.options.is_empty() && row.takes(option.option),
-        None => false,
     }
 }
 

@@ -1,19 +1,19 @@
 -- The edits that arguments ask for.
-use Rattle.std.specs.Prelude.{◌≡◌, ◌≢◌, ◌==◌, Bool, false, ℕ, List, [], ◌∷◌, ◌++◌, Result, Ok, Err, codes, map, string_bytes}
+use Rattle.std.specs.Prelude.{◌≡◌, ◌≢◌, ◌==◌, ◌||◌, ◌-◌, length, get_or, Bool, true, false, ℕ, List, [], ◌∷◌, ◌++◌, Option, None, Result, Ok, Err, codes, map, string_bytes}
 use Rattle.std.specs.Borrow.{Bor}
 use Rattle.std.specs.Global.{Vec}
 use Rattle.std.specs.List.{list_any}
 use Rattle.std.specs.Str.{chars}
 use Rattle.std.specs.declared.string.String.{String}
 use Rattle.properties_format.specs.Edits as format
-use Rattle.properties_format.specs.Text.{is_blank}
+use Rattle.properties_format.specs.Text.{is_blank, is_separator}
 use Rattle.java_properties.specs.Editing.{edit_in}
 use Rattle.propedit_arguments.specs.declared.edits.AskedEdit.{AskedEdit}
 use Rattle.propedit_arguments.specs.declared.edits.AskedEdit.TheVariants as Asked
 use Rattle.propedit_arguments.specs.declared.edits.BorrowedEdit.{BorrowedEdit}
 use Rattle.propedit_arguments.specs.declared.edits.BorrowedEdit.TheVariants as Borrowed
 use Rattle.propedit_arguments.specs.declared.mistake.Mistake.{Mistake}
-use Rattle.propedit_arguments.specs.declared.mistake.Mistake.TheVariants.{Memory, NoEdit, NoKey, NoNewKey, NoText, NoValue, TwoAssignments}
+use Rattle.propedit_arguments.specs.declared.mistake.Mistake.TheVariants.{Memory, NoEdit, NoKey, NoNewKey, NoText, NoValue, OddKey, OddName, TwoAssignments}
 
 -- Arguments and texts are their UTF-8.
 
@@ -71,13 +71,22 @@ pub record IsAssignment (text : List ℕ) : Type 0 where
   pub some : name ≢ []
   pub whole : list_any is_blank name ≡ false
 
--- An edit may be written so. Plainly, its key isn't `--`, and key and value don't both look like NAME=TEXT.
+-- whether a character ends a key in a file
+abbrev pub ends_key : ℕ → Bool
+ends_key c = is_blank c || is_separator c
+
+-- whether a key is hardly meant: it is empty, or its last character ends a key
+abbrev pub is_odd : List ℕ → Bool
+is_odd key = length key == 0 || ends_key (get_or key (length key - 1) 0)
+
+-- An edit may be written so. Plainly, its key isn't `--`, key and value don't both look like NAME=TEXT, and a key that
+-- it writes isn't odd.
 abbrev pub MayBeWritten : Form → Edit → Type 0
 MayBeWritten literal edit = Unit {0}
 MayBeWritten plain (remove key) = key ≢ codes "--"
-MayBeWritten plain (rename old new) = old ≢ codes "--"
+MayBeWritten plain (rename old new) = (old ≢ codes "--") × (is_odd new ≡ false)
 MayBeWritten plain (set_comment key text) = key ≢ codes "--"
-MayBeWritten plain (set key value) = (key ≢ codes "--") × (IsAssignment key → IsAssignment value → ⊥)
+MayBeWritten plain (set key value) = (key ≢ codes "--") × (IsAssignment key → IsAssignment value → ⊥) × (is_odd key ≡ false)
 
 -- an edit as it is written
 pub record WrittenEdit : Type 0 where
@@ -120,10 +129,10 @@ pub record AreWordsOfEdits (words : List (List ℕ)) (edits : List Meant) : Type
 -- ---- arguments that ask for no edit
 
 -- This is what is wrong at the front of arguments that begin with no edit: the first is no command that edits; a key, a
--- value, a new key or a text is missing; or a key and a value both look like NAME=TEXT.
+-- value, a new key or a text is missing; a key and a value both look like NAME=TEXT; or a key that is written is odd.
 pub data IsMistakeAt (words : List (List ℕ)) (mistake : Mistake) : Type 0 where
   no_edit : (word : Bor (List ℕ)) (others : List (List ℕ)) → words ≡ word.now ∷ others → word.now ≢ codes "set" → word.now ≢ codes "remove"
-      → word.now ≢ codes "rename" → word.now ≢ codes "set-comment" → mistake ≡ NoEdit word → IsMistakeAt words mistake
+      → word.now ≢ codes "rename" → word.now ≢ codes "set-comment" → mistake ≡ NoEdit word None → IsMistakeAt words mistake
   no_key : (command : Bor (List ℕ)) (edit : Edit) (form : Form) → command.now ≡ command_of edit → words ≡ command_of edit ∷ text_words form []
       → mistake ≡ NoKey command → IsMistakeAt words mistake
   no_value : (key : Bor (List ℕ)) (form : Form) → words ≡ codes "set" ∷ text_words form (key.now ∷ []) → MayBegin form (key.now ∷ [])
@@ -134,6 +143,10 @@ pub data IsMistakeAt (words : List (List ℕ)) (mistake : Mistake) : Type 0 wher
       → mistake ≡ NoText key → IsMistakeAt words mistake
   assignments : (key value : Bor (List ℕ)) (others : List (List ℕ)) → words ≡ codes "set" ∷ (key.now ∷ (value.now ∷ others))
       → IsAssignment key.now → IsAssignment value.now → mistake ≡ TwoAssignments key value → IsMistakeAt words mistake
+  odd_key : (key value : Bor (List ℕ)) (others : List (List ℕ)) → words ≡ codes "set" ∷ (key.now ∷ (value.now ∷ others)) → is_odd key.now ≡ true
+      → mistake ≡ OddKey key value → IsMistakeAt words mistake
+  odd_name : (old new : Bor (List ℕ)) (others : List (List ℕ)) → words ≡ codes "rename" ∷ (old.now ∷ (new.now ∷ others)) → old.now ≢ codes "--"
+      → is_odd new.now ≡ true → mistake ≡ OddName old new → IsMistakeAt words mistake
 
 -- The arguments are those of edits up to some that begin with no edit, and this is what is wrong with those.
 pub record AreWrong (words : List (List ℕ)) (mistake : Mistake) : Type 0 where
@@ -168,7 +181,13 @@ TakesEdit words (Err mistake) = words ≢ [] → IsMistakeAt words mistake
 abbrev pub AreAfterDashes : List (List ℕ) → List (List ℕ) → Type 0
 AreAfterDashes words texts = (form : Form) × (words ≡ text_words form texts) × MayBegin form texts
 
--- No plain arguments begin with a key and a value that both look like NAME=TEXT; or the mistake names these.
-abbrev pub RefusesAssignments : List (List ℕ) → Result Unit Mistake → Type 0
-RefusesAssignments words (Ok _) = (key value : List ℕ) (others : List (List ℕ)) → words ≡ key ∷ (value ∷ others) → IsAssignment key → IsAssignment value → ⊥
-RefusesAssignments words (Err mistake) = IsMistakeAt (codes "set" ∷ words) mistake
+-- No plain arguments begin with a key and a value that both look like NAME=TEXT, or with an odd key; or the mistake names these.
+abbrev pub RefusesSlips : List (List ℕ) → Result Unit Mistake → Type 0
+RefusesSlips words (Ok _) = (key value : List ℕ) (others : List (List ℕ)) → words ≡ key ∷ (value ∷ others)
+    → (IsAssignment key → IsAssignment value → ⊥) × (is_odd key ≡ false)
+RefusesSlips words (Err mistake) = IsMistakeAt (codes "set" ∷ words) mistake
+
+-- No plain arguments begin with a key and an odd new name.
+abbrev pub RefusesOddName : List (List ℕ) → Result Unit Mistake → Type 0
+RefusesOddName words (Ok _) = (old new : List ℕ) (others : List (List ℕ)) → words ≡ old ∷ (new ∷ others) → old ≢ codes "--" → is_odd new ≡ false
+RefusesOddName words (Err mistake) = IsMistakeAt (codes "rename" ∷ words) mistake

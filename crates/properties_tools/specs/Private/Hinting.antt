@@ -1,12 +1,13 @@
 -- How the hint on an answer is found.
-use Rattle.std.specs.Prelude.{ℕ, List, Option, Result, Ok, Err}
+use Rattle.std.specs.Prelude.{ℕ, List, Bool, true, false, Option, Result, Ok, Err}
 use Rattle.std.specs.Global.{Global}
 use Rattle.std.specs.declared.string.String.{String}
 use Rattle.properties_format.specs.Encoding.{Encoding}
 use Rattle.properties_tools.specs.Propedit.{Answers}
 use Rattle.properties_tables.specs.Failures.{IsMemoryFailure}
-use Rattle.properties_tools.specs.Propedit.Hints.{hint_bytes, IsFileHint, IsHint}
-use Rattle.properties_tables.specs.Sources.{IsSound}
+use Rattle.properties_tools.specs.Propedit.Hints.{hint_bytes, HasPrefix, IsFileHint, IsHint}
+use Rattle.properties_changing.specs.Keys.{HoldsKeys, IsFirstAbsent}
+use Rattle.properties_tables.specs.Sources.{IsSound, IsUnsound}
 use Rattle.properties_tools.specs.declared.propedit.answer.Answer.{Answer}
 use Rattle.properties_tables.specs.declared.error.Failure.{Failure}
 use Rattle.properties_tools.specs.declared.propedit.request.Job.{Job}
@@ -20,3 +21,14 @@ FindsFileHint e source files (Err failure) = IsSound e source → IsMemoryFailur
 abbrev pub FindsHint : Job → List (List ℕ) → List ℕ → ℕ → Result (Option (String Global)) Failure → Type 0
 FindsHint job files source status (Ok hint) = IsHint job files source status (hint_bytes hint)
 FindsHint job files source status (Err failure) = (answer : Answer) → Answers job source (Ok answer) → Answers job source (Err failure)
+
+-- Whether one of the keys is lacking.
+abbrev pub FindsLack : Encoding → List ℕ → List (List ℕ) → Result Bool Failure → Type 0
+FindsLack e source keys (Ok true) = (key : List ℕ) × IsFirstAbsent e source keys key
+FindsLack e source keys (Ok false) = HoldsKeys e source keys
+FindsLack e source keys (Err failure) = IsSound e source → IsMemoryFailure failure
+
+-- Whether a key begins with a prefix.
+abbrev pub FindsPrefix : Encoding → List ℕ → List ℕ → Result Bool Failure → Type 0
+FindsPrefix e source prefix (Ok found) = HasPrefix e source prefix found
+FindsPrefix e source prefix (Err failure) = IsUnsound e source failure

@@ -2,14 +2,16 @@
 
 ghost use Rattle.std.specs.Prelude.{◌≡◌, map, IfOk, string_bytes};
 ghost use Rattle.std.specs.Option.{option_map};
+ghost use Rattle.std.specs.Str.{chars};
 ghost use Rattle.counted_io.specs.Streams.{IsSameSink};
 ghost use Rattle.java_properties.specs.Maps.{characters};
 ghost use Rattle.properties_text.specs.Encoding.{encoding_of};
 ghost use Rattle.properties_tables.specs.Messages.{HasPrintedLine};
-ghost use Rattle.properties_tools.specs.Private.Hinting.{FindsFileHint, FindsHint};
-ghost use Rattle.properties_tools.specs.Propedit.Hints.{borrowed_bytes, hint_bytes, key_line, possible_files, prefix_hint, prefix_line, reading_line, refused_file, without_first, PrintsHint};
+ghost use Rattle.properties_tools.specs.Private.Hinting.{FindsFileHint, FindsHint, FindsLack, FindsPrefix};
+ghost use Rattle.properties_tools.specs.Propedit.Hints.{borrowed_bytes, hint_bytes, key_line, possible_files, prefix_hint, prefix_line, prefix_of, reading_line, refused_file, without_first, PrintsHint, TellsDoubt};
 
-use crate::propedit::request::{Command, Job, Source};
+use crate::propedit::list::list;
+use crate::propedit::request::{Command, Doubt, Job, Source, Terminator};
 use counted_io::CountedWrite;
 use java_properties::Encoding;
 use properties_changing::change::first_absent;
@@ -22,8 +24,8 @@ const IS_A_FILE: &str = "a file is named by -f";
 
 const READING: &str = "propedit: reading standard input; '-f FILE' reads a file\n";
 
-/// Returns the KEYs of a job that may be files by mistake, if no file is named: those of `get`, but with a default not
-/// the first one, and that of `comment`.
+/// Returns the arguments of a job that may be files by mistake, unless standard input is named: the KEYs of `get`, or
+/// with a default all but the first one, if no file is named; the KEY of `comment`; and a PREFIX, if a file is named.
 ///
 /// ```text
 /// // For the arguments `get port app.properties` it returns both.
@@ -33,9 +35,22 @@ pub fn possible_files(job: &Job) -> &[String]
     ensures { result.now ≡ possible_files job.now.source job.now.command }
 {
     match (&job.source, &job.command) {
-        (Source::StandardInput, Command::Get(keys, None, _)) => keys.as_slice(),
+        (Source::Dash, _) => &[],
+        (_, Command::Get(keys, None, _)) => keys.as_slice(),
         (Source::StandardInput, Command::Get(keys, Some(_), _)) => without_first(keys.as_slice()),
-        (Source::StandardInput, Command::Comment(key)) => slice::from_ref(key),
+        (_, Command::Comment(key)) => slice::from_ref(key),
+        (Source::File(_), command) => prefix_of(command),
+        _ => &[],
+    }
+}
+
+fn prefix_of(command: &Command) -> &[String]
+    ensures { result.now ≡ prefix_of command.now }
+{
+    match command {
+        Command::List(prefix, _) | Command::ListValues(prefix, _) | Command::ListJson(prefix) => {
+            slice::from_ref(prefix)
+        }
         _ => &[],
     }
 }
@@ -80,7 +95,7 @@ pub fn print_reading<E: CountedWrite>(errors: &mut E)
 }
 
 /// Returns the line that says, of an answer with this status, which argument may have been meant as a file: a PREFIX
-/// that no key begins with, if no file is named, or a KEY that no pair has, if it is one of the `files`.
+/// that no key begins with, if no file is named or it is one of the `files`, or a KEY that no pair has, if it is one.
 pub(crate) fn hint(
     alloc: Global,
     job: &Job,
@@ -101,7 +116,7 @@ pub(crate) fn hint(
             files,
         ),
         Command::List(prefix, _) | Command::ListValues(prefix, _) | Command::ListJson(prefix) => {
-            Ok(prefix_hint(alloc, &job.source, prefix.as_str())?)
+            Ok(prefix_hint(alloc, &job.source, files, prefix.as_str())?)
         }
         Command::Check(_) | Command::CheckAgainst(_, _) | Command::Change(_) => Ok(None),
     }
@@ -140,12 +155,19 @@ fn key_line(alloc: Global, key: &str) -> Result<String, AllocError>
     format!(in alloc; "propedit: no pair has the key '{key}'; {IS_A_FILE}\n")
 }
 
-// Returns the hint on a PREFIX: that a file is named otherwise, if none is named.
-fn prefix_hint(alloc: Global, source: &Source, prefix: &str) -> Result<Option<String>, AllocError>
-    ensures { IfOk result (λ hint. hint_bytes hint ≡ prefix_hint source.now prefix.now) }
+// Returns the hint on a PREFIX: that a file is named otherwise, if none is named, or if it is one.
+fn prefix_hint(
+    alloc: Global,
+    source: &Source,
+    files: &[String],
+    prefix: &str,
+) -> Result<Option<String>, AllocError>
+    ensures { IfOk result (λ hint. hint_bytes hint ≡ prefix_hint source.now (map characters files.now) prefix.now) }
 {
-    match (prefix.as_bytes(), source) {
-        ([_, ..], Source::StandardInput) => Ok(Some(prefix_line(alloc, prefix)?)),
+    match (source, files, prefix.as_bytes()) {
+        (Source::StandardInput, _, [_, ..]) | (_, [_, ..], _) => {
+            Ok(Some(prefix_line(alloc, prefix)?))
+        }
         _ => Ok(None),
     }
 }
@@ -155,4 +177,65 @@ fn prefix_line(alloc: Global, prefix: &str) -> Result<String, AllocError>
 {
     let prefix = Escaped(prefix);
     format!(in alloc; "propedit: no key begins with '{prefix}'; {IS_A_FILE}\n")
+}
+
+/// Returns whether a source bears out that an argument may be meant otherwise: no pair has the KEY, and pairs have all
+/// keys that may be meant; or no key begins with the PREFIX, and one does with what it may mean. A VALUE tells by
+/// itself.
+///
+/// ```text
+/// let doubt = Doubt::Prefix(prefix, front); // `server.*` and `server.`
+/// bears_out(alloc, b"server.port = 80\n", Encoding::UTF_8, &doubt)?; // true
+/// ```
+pub fn bears_out(
+    alloc: Global,
+    source: &[u8],
+    encoding: Encoding,
+    doubt: &Doubt,
+) -> Result<bool, Failure>
+    ensures { TellsDoubt (encoding_of encoding) source.now doubt.now result }
+{
+    match doubt {
+        Doubt::Key(key, meant) => {
+            if !lacks_key(alloc, source, encoding, slice::from_ref(key))? {
+                return Ok(false);
+            }
+            Ok(!lacks_key(alloc, source, encoding, meant)?)
+        }
+        Doubt::Prefix(prefix, front) => {
+            if has_prefix(alloc, source, encoding, prefix.as_str())? {
+                return Ok(false);
+            }
+            has_prefix(alloc, source, encoding, front.as_str())
+        }
+        Doubt::Value(_) => Ok(true),
+    }
+}
+
+// Returns whether no pair of a source has one of these keys.
+fn lacks_key(
+    alloc: Global,
+    source: &[u8],
+    encoding: Encoding,
+    keys: &[String],
+) -> Result<bool, Failure>
+    ensures { FindsLack (encoding_of encoding) source.now (map characters keys.now) result }
+{
+    match first_absent(alloc, source, encoding, keys)? {
+        Some(_) => Ok(true),
+        None => Ok(false),
+    }
+}
+
+// Returns whether a key of a source begins with a prefix.
+fn has_prefix(
+    alloc: Global,
+    source: &[u8],
+    encoding: Encoding,
+    prefix: &str,
+) -> Result<bool, Failure>
+    ensures { FindsPrefix (encoding_of encoding) source.now (chars prefix.now) result }
+{
+    let answer = list(alloc, source, encoding, prefix, Terminator::LineFeed)?;
+    Ok(answer.status == 0)
 }

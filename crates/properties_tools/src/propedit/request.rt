@@ -137,6 +137,17 @@ pub enum Command {
     Change(Change),
 }
 
+/// An argument that may be meant otherwise.
+#[derive(Drop)]
+pub enum Doubt {
+    /// This KEY, and those that may be meant by it.
+    Key(String, Vec<String>),
+    /// This PREFIX, and what may be meant by it.
+    Prefix(String, String),
+    /// A VALUE, if this is the name of a file, or in any case.
+    Value(Option<String>),
+}
+
 /// What ends a text that is printed.
 #[derive(Clone, Copy, Debug, PartialEq, Eq)]
 pub enum Terminator {

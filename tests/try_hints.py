@@ -1,0 +1,116 @@
+#!/usr/bin/env python3
+"""Runs each hint that propedit gives in the rows of tests/rows as a command, in the files of its row.
+
+    tests/try_hints.py PROPEDIT [FILE ..]
+
+A hint stands in quotes after "did you mean", "use" or "write", or is all that comes after "use:". A shell runs it. If it is
+no command, it takes the place of the word that the message names; if it names no file, the row's -f or -i does. It has to be
+accepted, and edits have to make of the pairs of its file what they say.
+"""
+import pathlib
+import re
+import shlex
+import subprocess
+import sys
+import tempfile
+
+from try_rows import ROWS, make_files, rows_in
+
+COMMANDS = ["get", "list", "comment", "check", "diff", "set", "remove", "rename", "set-comment", "merge", "convert", "help"]
+HINT = re.compile(r"(?:did you mean|\buse|\bwrite) '([^']+)'")
+OTHER = re.compile(r"; use: (.*)$")
+
+
+def run(program, words, folder, data=b""):
+    return subprocess.run([program, *words], cwd=folder, input=data, capture_output=True, check=False)
+
+
+def named(words):
+    """The option of a row that names a file, and the file."""
+    for at, word in enumerate(words):
+        if re.match(r"-[fi]$", word) and at + 1 < len(words):
+            return words[at : at + 2]
+    return []
+
+
+def command_of(hint, message, words):
+    """The words of the command that a hint means."""
+    said = shlex.split(hint)
+    if said[0] not in COMMANDS or len(said) == 1 or said == ["list", "--json"]:
+        wrong = next(word for word in re.findall(r"'([^']*)'", message) if word in words)
+        at = words.index(wrong)
+        return words[:at] + said + words[at + 1 :]
+    return said if named(said) else said[:1] + named(words) + said[1:]
+
+
+def pairs_of(program, folder, data):
+    texts = run(program, ["list", "-v", "-z", "-f", "-"], folder, data).stdout.split(b"\0")
+    return dict(zip(texts[0::2], texts[1::2]))
+
+
+def edited(pairs, words):
+    """The pairs after edits, whose options come first."""
+    command, rest = words[0], words[1:]
+    while rest and rest[0].startswith("-") and rest[0] != "--":
+        rest = rest[2 if rest[0] in ("-f", "-i", "-e") else 1 :]
+    while command:
+        rest = rest[1:] if rest[0] == "--" else rest
+        key, text = (word.encode() for word in (rest + [""])[:2])
+        if command == "set":
+            pairs[key] = text
+        elif command == "remove":
+            pairs.pop(key, None)
+        elif command == "rename":
+            pairs[text] = pairs.pop(key)
+        rest = rest[1 if command == "remove" else 2 :]
+        command, rest = (rest[0], rest[1:]) if rest else (None, [])
+    return pairs
+
+
+def wrong_with(program, row, message, hint):
+    """What is wrong with a hint, if anything is."""
+    is_other = hint not in HINT.findall(message)
+    words = shlex.split(hint) if is_other else command_of(hint, message, [word.decode() for word in row.words])
+    option = named(words)
+    path = {"PATH": f"{program.parent}:/bin:/usr/bin"}
+    with tempfile.TemporaryDirectory() as name:
+        folder = pathlib.Path(name)
+        make_files(folder, row)
+        source = (folder / option[1]).read_bytes() if option and option[1] != "-" else row.input
+        line = hint if is_other else f"propedit {shlex.join(words)}"
+        done = subprocess.run(line, shell=True, cwd=folder, input=row.input, env=path, capture_output=True, check=False)
+        if done.returncode not in (0, 1):
+            return f"status {done.returncode}: {done.stderr!r:.200}"
+        if words[0] not in ("set", "remove", "rename") or done.returncode:
+            return None
+        result = (folder / option[1]).read_bytes() if option[:1] == ["-i"] else done.stdout
+        found, wanted = pairs_of(program, folder, result), edited(pairs_of(program, folder, source), words)
+        return None if found == wanted else f"{found}, and not {wanted}"
+
+
+def hints_of(program, row):
+    """The hints in what a row prints on standard error, each with its line."""
+    with tempfile.TemporaryDirectory() as name:
+        make_files(pathlib.Path(name), row)
+        said = run(program, row.words, name, row.input).stderr.decode(errors="replace")
+    for line in said.split("\n\n")[0].split("\n"):
+        for hint in [*HINT.findall(line), *OTHER.findall(line)]:
+            yield line, hint
+
+
+def main():
+    program = pathlib.Path(sys.argv[1]).resolve()
+    passed = failed = 0
+    for path in [pathlib.Path(name) for name in sys.argv[2:]] or sorted(ROWS.glob("*.txt")):
+        for row in rows_in(path):
+            for line, hint in hints_of(program, row):
+                wrong = wrong_with(program, row, line, hint)
+                passed, failed = passed + (wrong is None), failed + (wrong is not None)
+                if wrong is not None:
+                    print(f"{row.place}: {row.line}", line, f"{hint}: {wrong}", sep="\n    ")
+    print(f"{passed} passed, {failed} failed")
+    return min(failed, 1)
+
+
+if __name__ == "__main__":
+    sys.exit(main())
