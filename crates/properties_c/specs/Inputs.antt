@@ -15,7 +15,7 @@ use Rattle.properties_c.specs.declared.asked.Texts.{Texts}
 use Rattle.properties_c.specs.declared.asked.Texts.TheVariants.{PassedOver, Raw, Read}
 use Rattle.properties_c.specs.declared.encoding.Flags.{Flags}
 use Rattle.properties_c.specs.declared.status.Status.TheVariants.{UnknownEncoding, UnknownFlags, NotUtf8, NotText}
-use Rattle.properties_tables.specs.Lines.{IsFirstFlawed}
+use Rattle.properties_tables.specs.Lines.{starts_with_utf_32_mark, IsFirstFlawed}
 use Rattle.properties_tables.specs.Sources.{HasSoundBytes, IsFirstIllFormed}
 use Rattle.properties_tables.specs.declared.ill_formed.Flaw.TheVariants.{Zero}
 
@@ -115,9 +115,10 @@ options_for encoding f =
 -- ---- Sources that aren't text.
 
 -- This is the first line with U+0000, if UTF-8 is in force without a byte order mark; or, where there is none, the
--- first ill-formed line.
+-- first ill-formed line; or the first of all, which begins with the byte order mark of UTF-32.
 abbrev pub IsFirstUnsound : Encoding → List ℕ → ℕ → Type 0
-IsFirstUnsound e source number = IsFirstFlawed Zero e source (Some number) ⊎ IsFirstIllFormed e source number
+IsFirstUnsound e source number =
+    IsFirstFlawed Zero e source (Some number) ⊎ (IsFirstIllFormed e source number ⊎ (starts_with_utf_32_mark source ≡ true) × (number ≡ 1))
 
 -- what a call that is strict or isn't is told of a source: that it needn't be text, or is; or the first line that isn't
 abbrev pub TellsUnsound : Bool → Encoding → List ℕ → Option ℕ → Type 0

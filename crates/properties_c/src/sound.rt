@@ -27,6 +27,7 @@ fn line_of(failure: &Failure) -> Option<usize>
     ensures { result ≡ unsound_line failure.now }
 {
     match failure {
+        Failure::Utf32Mark => Some(1),
         Failure::HoldsZero(number)
         | Failure::NotUtf8(number)
         | Failure::NotUtf8ByMark(number)

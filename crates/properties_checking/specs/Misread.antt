@@ -1,11 +1,12 @@
 -- What Java reads otherwise than people think.
 -- Source: java.util.Properties of Java SE 7, load; The Unicode Standard, section 23.8 (byte order marks).
-use Rattle.std.specs.Prelude.{◌≡◌, ℕ, nat_eq, ◌==◌, ◌-◌, ◌||◌, ◌&&◌, Bool, false, if◌then◌else◌, List, [], ◌∷◌, ◌++◌, reverse, Option, Some, None, codes, map}
-use Rattle.std.specs.List.{flat_map, starts_with}
+use Rattle.std.specs.Prelude.{◌≡◌, ℕ, ◌==◌, ◌-◌, ◌&&◌, Bool, false, if◌then◌else◌, List, [], ◌∷◌, ◌++◌, reverse, Option, Some, None, codes, map}
+use Rattle.std.specs.List.{flat_map}
 use Rattle.properties_format.specs.Text.{begins, is_blank, is_empty, without_leading_blanks}
 use Rattle.properties_format.specs.Lines.{end, is_comment_line, is_open, lines_in, HasGroups, Line}
 use Rattle.properties_format.specs.Encoding.{Encoding}
-use Rattle.properties_tables.specs.Lines.{starts_with_bom, AreFlawedLines}
+use Rattle.properties_tables.specs.Failures.{utf_32_words}
+use Rattle.properties_tables.specs.Lines.{starts_with_bom, starts_with_utf_32_mark, AreFlawedLines}
 use Rattle.properties_tables.specs.declared.ill_formed.Flaw.TheVariants as flaw
 use Rattle.properties_checking.specs.declared.kinds.Kind.{Kind}
 use Rattle.properties_checking.specs.declared.kinds.Kind.TheVariants as kind
@@ -16,7 +17,7 @@ use Rattle.properties_checking.specs.declared.misread.Misread.TheVariants.{Mark,
 
 abbrev pub misread_words : Misread → List ℕ
 misread_words Mark = codes "begins with a byte order mark, which Java reads as part of a key"
-misread_words Utf32Mark = codes "begins with the byte order mark of UTF-32, which is not read as UTF-32"
+misread_words Utf32Mark = utf_32_words
 misread_words MarkInside = codes "has U+FEFF, a byte order mark that is not at the front"
 misread_words BlankAfterBackslash = codes "ends in a backslash and a blank, so the next line does not continue it"
 misread_words OpenAtEnd = codes "ends in a backslash that continues nothing"
@@ -29,11 +30,6 @@ misread_kind BlankAfterBackslash = kind.BlankAfterBackslash
 misread_kind OpenAtEnd = kind.BackslashAtEnd
 
 -- ---- at the front
-
--- whether a source begins with the byte order mark of UTF-32, in either order of bytes
-abbrev pub starts_with_utf_32_mark : List ℕ → Bool
-starts_with_utf_32_mark source =
-    starts_with nat_eq source (255 ∷ 254 ∷ 0 ∷ 0 ∷ []) || starts_with nat_eq source (0 ∷ 0 ∷ 254 ∷ 255 ∷ [])
 
 -- the byte order mark at the front that Java reads as text
 abbrev pub misread_mark : List ℕ → Option Misread

@@ -2,14 +2,15 @@
 
 ghost use Rattle.std.specs.Prelude.{◌≡◌, ◌++◌, OnOk};
 ghost use Rattle.properties_text.specs.Encoding.{encoding_of};
-ghost use Rattle.properties_checking.specs.Misread.{misread_at, misread_kind, misread_mark, misread_words, starts_with_utf_32_mark};
+ghost use Rattle.properties_checking.specs.Misread.{misread_at, misread_kind, misread_mark, misread_words};
 ghost use Rattle.properties_checking.specs.Private.Checking.{misread_finding, FindsMisread};
 
 use crate::check::{Finding, FindingKind, push_all};
 use crate::kinds::Kind;
 use crate::open_lines::push_ends;
 use java_properties::{Encoding, PropertiesError};
-use properties_tables::ill_formed::{Flaw, flawed_lines, has_byte_order_mark};
+use properties_tables::error::UTF_32_MARK;
+use properties_tables::ill_formed::{Flaw, flawed_lines, has_byte_order_mark, has_utf_32_mark};
 use std::alloc::{AllocError, Global};
 
 // What Java reads otherwise than people think.
@@ -77,13 +78,6 @@ fn misread_mark(source: &[u8]) -> Option<Misread>
     }
 }
 
-// Returns whether a source begins with the byte order mark of UTF-32.
-fn has_utf_32_mark(source: &[u8]) -> bool
-    ensures { result ≡ starts_with_utf_32_mark source.now }
-{
-    source.starts_with(b"\xff\xfe\0\0") || source.starts_with(b"\0\0\xfe\xff")
-}
-
 impl Misread {
     // Returns its message.
     pub(crate) fn words(self) -> &'static str
@@ -91,9 +85,7 @@ impl Misread {
     {
         match self {
             Misread::Mark => "begins with a byte order mark, which Java reads as part of a key",
-            Misread::Utf32Mark => {
-                "begins with the byte order mark of UTF-32, which is not read as UTF-32"
-            }
+            Misread::Utf32Mark => UTF_32_MARK,
             Misread::MarkInside => "has U+FEFF, a byte order mark that is not at the front",
             Misread::BlankAfterBackslash => {
                 "ends in a backslash and a blank, so the next line does not continue it"

@@ -1,5 +1,5 @@
 -- The keys of a list, each once and in the order of their first places, as one after another comes.
-use Rattle.std.proofs.Common.{◌≡◌, ◌≢◌, ℕ, zero, suc, ◌<◌, List, [], ◌∷◌, ◌++◌, length, refl, ap, ◌∙◌, inl, inr, subst, arith, append_assoc}
+use Rattle.std.proofs.Common.{◌≡◌, ℕ, zero, suc, ◌<◌, List, [], ◌∷◌, ◌++◌, length, refl, ap, ◌∙◌, inl, inr, subst, arith, append_assoc}
 use Rattle.std.specs.Prelude.{◌⊎◌, All, AllPairs}
 use Rattle.std.proofs.Math.ListN.{get_or}
 use Rattle.std.proofs.lemmas.List.Elements.{All-append}

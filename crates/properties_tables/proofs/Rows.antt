@@ -1,6 +1,6 @@
 -- The rows of pairs, as one pair after another comes.
 use Rattle.std.proofs.Common.{◌≡◌, ◌≢◌, ℕ, zero, suc, ◌<◌, List, [], ◌∷◌, ◌++◌, length, refl, ap, sym, ◌∙◌, inl, inr, subst, arith, append_assoc}
-use Rattle.std.specs.Prelude.{◌⊎◌, All, None, Some, get_or}
+use Rattle.std.specs.Prelude.{All, Some, get_or}
 use Rattle.std.proofs.Math.ListN.{set}
 use Rattle.std.proofs.lemmas.Bool.{cases_eq, cases_lt}
 use Rattle.std.proofs.lemmas.Grind.{get_or-set_at}
@@ -17,9 +17,9 @@ use Rattle.properties_format.proofs.Keys.{contained, pair_key, pair_keys, are-ke
 use Rattle.java_properties.specs.Findings.{KeyPlace}
 use Rattle.properties_tables.specs.Private.Fold.{found_pairs, AreFindings, Finding}
 use Rattle.properties_tables.specs.Private.Table.{place_keys, FindsKey, HasPlaces, HoldPlaces, HoldRows, PutsKey, PutsRow}
-use Rattle.properties_tables.specs.Table.{row_keys, AreRows, HasRows, IsFirstLine, IsLastPair, IsRow, Row}
+use Rattle.properties_tables.specs.Table.{row_keys, HasRows, IsFirstLine, IsLastPair, IsRow, Row}
 use Rattle.properties_tables.proofs.SourceFindings.{findings-groups, pairs-groups}
-use Rattle.properties_tables.proofs.FirstKeys.{first-same, first-new, has_not, no-both}
+use Rattle.properties_tables.proofs.FirstKeys.{first-same, first-new, no-both}
 
 -- ---- lists
 

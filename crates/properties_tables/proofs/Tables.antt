@@ -1,8 +1,8 @@
 -- Tables with values.
-use Rattle.std.proofs.Common.{◌≡◌, ℕ, zero, suc, ◌+◌, ◌^◌, ◌<◌, List, [], ◌∷◌, ◌++◌, length, refl, ap, ap₂, sym, ◌∙◌, inl, inr, subst, arith, append-nil}
-use Rattle.std.specs.Prelude.{◌⊎◌, ◌-◌, All, None, Some, Result, Ok, Err, get_or, map}
+use Rattle.std.proofs.Common.{◌≡◌, ℕ, zero, suc, ◌^◌, ◌<◌, List, [], ◌∷◌, ◌++◌, length, refl, ap, ap₂, sym, ◌∙◌, inl, inr, subst, arith, append-nil}
+use Rattle.std.specs.Prelude.{All, None, Some, Result, Ok, Err, get_or, map}
 use Rattle.std.specs.List.{zip}
-use Rattle.std.specs.Str.{chars, IsUtf8}
+use Rattle.std.specs.Str.{chars}
 use Rattle.std.proofs.Math.ListN.{set}
 use Rattle.std.proofs.lemmas.List.{get_or-map, length-append, length-map, length-set, map-append, map-set}
 use Rattle.std.proofs.lemmas.List.Elements.{All-append, All-set}

@@ -17,7 +17,7 @@ use Rattle.properties_tables.specs.Messages.{escaped, printed_line, HasPrintedLi
 use Rattle.properties_tables.specs.declared.error.Failure.{Failure}
 use Rattle.properties_tables.specs.declared.error.TextFlaw.{TextFlaw}
 use Rattle.properties_tables.specs.declared.error.TextFlaw.TheVariants as flaw
-use Rattle.properties_tables.specs.declared.error.Failure.TheVariants.{Absent, KeyTaken, Texts, HoldsZero, NotUtf8, NotUtf8ByMark, NotUtf16, Malformed, Input, Output}
+use Rattle.properties_tables.specs.declared.error.Failure.TheVariants.{Absent, KeyTaken, Texts, Utf32Mark, HoldsZero, NotUtf8, NotUtf8ByMark, NotUtf16, Malformed, Input, Output}
 
 -- what is printed where memory runs out before a message, or for it
 abbrev pub memory_words : List ℕ
@@ -78,6 +78,10 @@ ill_formed_words = codes "not UTF-8; if it is in windows-1252 or Latin-1, -e win
 abbrev pub ill_formed_by_mark_words : List ℕ
 ill_formed_by_mark_words = codes "not UTF-8, though a byte order mark says so"
 
+-- of the byte order mark of UTF-32
+abbrev pub utf_32_words : List ℕ
+utf_32_words = codes "begins with the byte order mark of UTF-32, which is not read as UTF-32"
+
 -- of a line that is not UTF-16
 abbrev pub not_utf_16_words : List ℕ
 not_utf_16_words = codes "not UTF-16"
@@ -104,6 +108,7 @@ IsInputReason error words =
 
 -- The words are the reason of a failure.
 abbrev pub IsReasonOf : Failure → List ℕ → Type 0
+IsReasonOf Utf32Mark words = words ≡ utf_32_words
 IsReasonOf (HoldsZero number) words = words ≡ zero_words
 IsReasonOf (NotUtf8 number) words = words ≡ ill_formed_words
 IsReasonOf (NotUtf8ByMark number) words = words ≡ ill_formed_by_mark_words
@@ -119,6 +124,7 @@ IsReasonOf (Output error) words = IsInputReason error words
 
 -- the number of its line, where it is of one
 abbrev pub failure_line : Failure → Option ℕ
+failure_line Utf32Mark = Some 1
 failure_line (HoldsZero number) = Some number
 failure_line (NotUtf8 number) = Some number
 failure_line (NotUtf8ByMark number) = Some number

@@ -38,6 +38,11 @@ IsWellFormedUnits unit bytes = (characters : List (List ℕ)) × AreCharacters u
 abbrev pub starts_with_bom : List ℕ → Bool
 starts_with_bom source = starts_with nat_eq source (239 ∷ 187 ∷ 191 ∷ [])
 
+-- whether they begin with that of UTF-32, in either order of bytes
+abbrev pub starts_with_utf_32_mark : List ℕ → Bool
+starts_with_utf_32_mark source =
+    starts_with nat_eq source (255 ∷ 254 ∷ 0 ∷ 0 ∷ []) || starts_with nat_eq source (0 ∷ 0 ∷ 254 ∷ 255 ∷ [])
+
 -- ---- of the bytes of a line
 
 -- whether one of the bytes is this byte, such as 0, which is U+0000 in UTF-8

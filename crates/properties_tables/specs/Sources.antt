@@ -8,20 +8,23 @@ use Rattle.java_properties.specs.Errors.{IsBareError}
 use Rattle.java_properties.specs.Findings.{escape_record}
 use Rattle.properties_items.specs.declared.error.ErrorKind.TheVariants as kind
 use Rattle.properties_items.specs.declared.findings.MalformedEscape.{MalformedEscape}
-use Rattle.properties_tables.specs.Lines.{is_utf_16, starts_with_bom, AreFlawedLines, IsFirstFlawed}
+use Rattle.properties_tables.specs.Lines.{is_utf_16, starts_with_bom, starts_with_utf_32_mark, AreFlawedLines, IsFirstFlawed}
 use Rattle.properties_tables.specs.declared.error.Failure.{Failure}
-use Rattle.properties_tables.specs.declared.error.Failure.TheVariants.{HoldsZero, NotUtf8, NotUtf8ByMark, NotUtf16, Malformed, Input}
+use Rattle.properties_tables.specs.declared.error.Failure.TheVariants.{Utf32Mark, HoldsZero, NotUtf8, NotUtf8ByMark, NotUtf16, Malformed, Input}
 use Rattle.properties_tables.specs.declared.ill_formed.Flaw.TheVariants.{IllFormed, Zero}
 
 -- ---- refusals for bytes
 
--- No line has a byte 0, if UTF-8 is in force without a byte order mark, and none is ill-formed.
+-- The source doesn't begin with the byte order mark of UTF-32, no line has a byte 0, if UTF-8 is in force without a byte
+-- order mark, and none is ill-formed.
 pub record HasSoundBytes (e : Encoding) (source : List ℕ) : Type 0 where
+  pub not_utf_32 : starts_with_utf_32_mark source ≡ false
   pub without_zeros : AreFlawedLines Zero e source []
   pub well_formed : AreFlawedLines IllFormed e source []
 
--- This is the first ill-formed line, and no line has such a byte 0.
+-- This is the first ill-formed line, no line has such a byte 0, and there is no such mark.
 pub record IsFirstIllFormed (e : Encoding) (source : List ℕ) (number : ℕ) : Type 0 where
+  pub not_utf_32 : starts_with_utf_32_mark source ≡ false
   pub without_zeros : AreFlawedLines Zero e source []
   pub first : IsFirstFlawed IllFormed e source (Some number)
 
@@ -29,10 +32,11 @@ pub record IsFirstIllFormed (e : Encoding) (source : List ℕ) (number : ℕ) : 
 abbrev pub is_in_utf_16 : Encoding → List ℕ → Bool
 is_in_utf_16 e source = is_utf_16 (byte_order_mark e source).encoding
 
--- Why a source is refused for its bytes: its first line with a byte 0, if no byte order mark says that it is UTF-8; where
--- there is none, its first ill-formed line.
+-- Why a source is refused for its bytes: the byte order mark of UTF-32; where there is none, its first line with a byte 0,
+-- if no byte order mark says that it is UTF-8; where there is none, its first ill-formed line.
 abbrev pub HasUnsoundBytes : Encoding → List ℕ → Failure → Type 0
-HasUnsoundBytes e source (HoldsZero number) = IsFirstFlawed Zero e source (Some number)
+HasUnsoundBytes e source Utf32Mark = starts_with_utf_32_mark source ≡ true
+HasUnsoundBytes e source (HoldsZero number) = IsFirstFlawed Zero e source (Some number) × (starts_with_utf_32_mark source ≡ false)
 HasUnsoundBytes e source (NotUtf8 number) = IsFirstIllFormed e source number × (is_in_utf_16 e source ≡ false) × (starts_with_bom source ≡ false)
 HasUnsoundBytes e source (NotUtf8ByMark number) = IsFirstIllFormed e source number × (is_in_utf_16 e source ≡ false) × (starts_with_bom source ≡ true)
 HasUnsoundBytes e source (NotUtf16 number) = IsFirstIllFormed e source number × (is_in_utf_16 e source ≡ true)

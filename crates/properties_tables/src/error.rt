@@ -33,6 +33,10 @@ pub const NOT_UTF_8_BY_MARK: &str = "not UTF-8, though a byte order mark says so
 /// The message for a line that is not UTF-16.
 pub const NOT_UTF_16: &str = "not UTF-16";
 
+/// The message for the byte order mark of UTF-32.
+pub const UTF_32_MARK: &str =
+    "begins with the byte order mark of UTF-32, which is not read as UTF-32";
+
 const NOT_ENDED: &str =
     "the last text has no zero byte after it; with -z, merge reads what list -v -z prints";
 
@@ -45,6 +49,8 @@ const UTF_16: &str = "this command does not support UTF-16; propedit convert utf
 /// Why a command fails.
 #[derive(Debug, Drop)]
 pub enum Failure {
+    /// The source begins with the byte order mark of UTF-32.
+    Utf32Mark,
     /// The line of this number has U+0000, though UTF-8 is in force without a byte order mark.
     HoldsZero(usize),
     /// The line of this number is not UTF-8, which is in force without a byte order mark.
@@ -133,6 +139,7 @@ impl Failure {
         ensures { result ≡ failure_line self.now }
     {
         match self {
+            Failure::Utf32Mark => Some(1),
             Failure::HoldsZero(number)
             | Failure::NotUtf8(number)
             | Failure::NotUtf8ByMark(number)
@@ -168,6 +175,7 @@ impl Failure {
         ensures { IfOk result (λ text. IsReasonOf self.now (string_bytes text)) }
     {
         match self {
+            Failure::Utf32Mark => String::from_str(alloc, UTF_32_MARK),
             Failure::HoldsZero(_) => String::from_str(alloc, HOLDS_ZERO),
             Failure::NotUtf8(_) => String::from_str(alloc, NOT_UTF_8),
             Failure::NotUtf8ByMark(_) => String::from_str(alloc, NOT_UTF_8_BY_MARK),

@@ -5,7 +5,7 @@ ghost use Rattle.properties_format.specs.Utf16.{is_high, is_low};
 ghost use Rattle.properties_text.specs.Encoding.{encoding_of};
 ghost use Rattle.properties_lines.specs.Scanner.{raw_line_bytes};
 ghost use Rattle.properties_tables.specs.Lines as spec;
-ghost use Rattle.properties_tables.specs.Lines.{FindsFlawed, IsFirstFlawed, IsFirstUtf8, starts_with_bom};
+ghost use Rattle.properties_tables.specs.Lines.{FindsFlawed, IsFirstFlawed, IsFirstUtf8, starts_with_bom, starts_with_utf_32_mark};
 ghost use Rattle.properties_tables.specs.Private.Flawed.{are_ascii, are_paired, holds_mark_unit, is_ascii, is_flawed, is_well_formed, unit_at, FindsFlawedLine, HasLinesOf, IsFoundLine, IsScanning};
 ghost use Rattle.properties_tables.specs.declared.ill_formed.Flaw.TheVariants.{Byte, IllFormed, MarkInside, NonAscii, Zero};
 
@@ -97,6 +97,13 @@ pub fn has_byte_order_mark(source: &[u8]) -> bool
     ensures { result ≡ starts_with_bom source.now }
 {
     source.starts_with(b"\xef\xbb\xbf")
+}
+
+/// Returns whether a source begins with the byte order mark of UTF-32, in either order of bytes.
+pub fn has_utf_32_mark(source: &[u8]) -> bool
+    ensures { result ≡ starts_with_utf_32_mark source.now }
+{
+    source.starts_with(b"\xff\xfe\0\0") || source.starts_with(b"\0\0\xfe\xff")
 }
 
 // Returns the encoding in force, and the bytes after a byte order mark, or no bytes if no line of them has this flaw.

@@ -5,7 +5,7 @@ ghost use Rattle.properties_text.specs.Encoding.{encoding_of};
 ghost use Rattle.properties_tables.specs.Sources.{is_in_utf_16, first_in_pair, RefusesBytes, RefusesUnsound};
 
 use crate::error::Failure;
-use crate::ill_formed::{Flaw, first_flawed_line, has_byte_order_mark};
+use crate::ill_formed::{Flaw, first_flawed_line, has_byte_order_mark, has_utf_32_mark};
 use java_properties::{Encoding, MalformedEscape, malformed_escapes};
 use properties_text::encoding::byte_order_mark::encoding_in_force;
 use std::alloc::Global;
@@ -35,12 +35,16 @@ fn first_in_pair(escapes: &[MalformedEscape]) -> Option<MalformedEscape>
     None
 }
 
-/// Refuses a source for its bytes: UTF-8 is in force without a byte order mark, and it has U+0000; or else a line is
-/// ill-formed in the encoding in force. The failure has the first such line. A source with U+0000 may be in UTF-16.
-/// That comes first, since it is often not UTF-8 either, and no other encoding reads it right.
+/// Refuses a source for its bytes: it begins with the byte order mark of UTF-32; or else UTF-8 is in force without a
+/// byte order mark, and it has U+0000; or else a line is ill-formed in the encoding in force. The failure has the first
+/// such line. A source with U+0000 may be in UTF-16. That comes before the last, since it is often not UTF-8 either, and
+/// no other encoding reads it right.
 pub fn refuse_bytes(source: &[u8], encoding: Encoding) -> Result<(), Failure>
     ensures { RefusesBytes (encoding_of encoding) source.now result }
 {
+    if has_utf_32_mark(source) {
+        return Err(Failure::Utf32Mark);
+    }
     if let Some(number) = first_flawed_line(source, encoding, Flaw::Zero) {
         return Err(Failure::HoldsZero(number));
     }

@@ -47,7 +47,7 @@ use Rattle.java_properties.specs.PropertiesWriter.{Writing, call_of, with_settin
 use Rattle.properties_c.specs.Private.Lists.{RefusesList}
 use Rattle.properties_c.specs.Writing.{AreGood, lines_before}
 use Rattle.properties_tables.specs.declared.error.Failure.{Failure}
-use Rattle.properties_tables.specs.declared.error.Failure.TheVariants.{HoldsZero, NotUtf8, NotUtf8ByMark, NotUtf16}
+use Rattle.properties_tables.specs.declared.error.Failure.TheVariants.{Utf32Mark, HoldsZero, NotUtf8, NotUtf8ByMark, NotUtf16}
 use Rattle.properties_c.specs.declared.status.Status.{Status}
 use Rattle.properties_c.specs.declared.status.Status.TheVariants.{NoMemory, BadPrefix, BadSeparator, EmptyKey}
 
@@ -155,6 +155,7 @@ AreNumbersOf v group numbers =
 
 -- the line of a failure, if it is one for the bytes of a source
 abbrev pub unsound_line : Failure → Option ℕ
+unsound_line Utf32Mark = Some 1
 unsound_line (HoldsZero number) = Some number
 unsound_line (NotUtf8 number) = Some number
 unsound_line (NotUtf8ByMark number) = Some number

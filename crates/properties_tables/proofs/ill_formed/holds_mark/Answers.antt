@@ -1,6 +1,5 @@
-use Rattle.std.proofs.Common.{◌∙◌, ◌-◌, ap, drop, length, sym, take}
+use Rattle.std.proofs.Common.{◌∙◌, drop, sym}
 use Rattle.std.proofs.lemmas.List.{take_rest}
-use Rattle.properties_tables.specs.Lines.{holds_mark}
 use Rattle.properties_tables.proofs.Marks.{mark-from, mark-here, mark-next, mark-nowhere}
 use Rattle.properties_tables.proofs.ill_formed.holds_mark.Goals as goal
 

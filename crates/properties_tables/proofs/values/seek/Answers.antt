@@ -4,7 +4,6 @@ use Rattle.std.specs.Str.{chars}
 use Rattle.std.proofs.lemmas.List.{map_more}
 use Rattle.java_properties.specs.Maps.{characters}
 use Rattle.properties_tables.specs.Private.Sought.{Seeks}
-use Rattle.properties_tables.proofs.SoughtKeys.{seeks-none}
 use Rattle.properties_tables.proofs.values.seek.Goals as goal
 
 pub add-requires : goal.add-requires
