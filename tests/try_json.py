@@ -24,7 +24,7 @@ KINDS = ["byte-order-mark", "utf-32-mark", "u-feff", "non-ascii", "read-otherwis
 def listed(rows, prefix):
     """What `list` prints, and its status."""
     pairs = [(key, value) for key, (_, value) in rows.items() if key.startswith(prefix)]
-    return [pairs], 0 if pairs else 1
+    return [pairs], 0 if pairs or not prefix else 1
 
 
 def compared(old, new):

@@ -8,10 +8,11 @@ stands below, up to the next command or to the end of the block, is all that it 
 
 The commands of a page run in order, in one shell and one folder, which is empty at first. "$ cat FILE" makes a FILE that isn't
 there: it shows what a reader is to have. A command with "rt" runs at the root of the repository, and what it prints on standard
-error isn't compared.
+error isn't compared. One that runs java is left out if there is none.
 """
 import pathlib
 import re
+import shutil
 import subprocess
 import sys
 import tempfile
@@ -57,7 +58,7 @@ def commands(text):
 
 def run(page, programs):
     """Prints what differs, and returns whether nothing does."""
-    steps = commands(page.read_text())
+    steps = [step for step in commands(page.read_text()) if "| java " not in step[1] or shutil.which("java")]
     if not steps:
         return True
     with tempfile.TemporaryDirectory() as folder:

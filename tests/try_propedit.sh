@@ -287,7 +287,7 @@ run -f app.properties list -v -- -v
 gives 1 '' ''
 given ''
 run list
-gives 1 '' ''
+gives 0 '' ''
 run get a
 gives 1 '' ''
 

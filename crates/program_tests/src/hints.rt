@@ -133,8 +133,8 @@ const LIST: &[Run<'static>] = &[
     ("-f - list -", b"v=80", 1, b"", ""),
     // A PREFIX of keys, none, and a source that is named.
     ("list -- -v", b"-v=80", 0, b"-v\n", ""),
-    ("list", b"", 1, b"", ""),
-    ("-v list ''", b"", 1, b"", ""),
+    ("list", b"", 0, b"", ""),
+    ("-v list ''", b"", 0, b"", ""),
     (
         "-f x list app.properties",
         b"",

@@ -27,7 +27,7 @@ const PAIRS: &[u8] =
 
 const LIST_VALUES: &[Row] = &[
     ("-v list", b"a=1\nb=2\na = 3", 0, b"a=3\nb=2\n"),
-    ("-zv list", b"", 1, b""),
+    ("-zv list", b"", 0, b""),
     ("-v list -- --", b"--=1\na=2", 0, b"--=1\n"),
     ("-v list", PAIRS, 0, b"b.x=\xc3\xa9\nb.y=23\na=\nb=c=d\ne\n"),
     (

@@ -109,7 +109,7 @@ pub const COMMANDS: &[CommandRow] = &[
         other_names: &["ls", "keys", "find", "grep", "search", "count"],
         examples: "propedit list -f app.properties server.\n  \
             propedit list -v < app.properties",
-        statuses: "0 a key was found; 1 none was; 2 an error",
+        statuses: "0 printed; 1 no key begins with PREFIX; 2 an error",
     },
     CommandRow {
         command: CommandName::Comment,

@@ -31,32 +31,33 @@ flat [] = refl
 flat (p ∷ pairs) = let d = flat pairs in omega arith
 
 -- The members of these pairs were written in an object that isn't closed yet, and this is the status.
-pub record WroteMembers (pairs : List Pair) (w : Written) (status : ℕ) : Type 0 where
+pub record WroteMembers (prefix : List ℕ) (pairs : List Pair) (w : Written) (status : ℕ) : Type 0 where
   before : w.before ≡ []
   tokens : w.tokens ≡ begin_object ∷ flat_map pair_tokens pairs
-  pub told : status ≡ list_status pairs
+  pub told : status ≡ list_status prefix pairs
 
-pub began : {E : Type 0} {done : Unit {0}} {w w' : Written} → w.before ≡ [] → w.tokens ≡ [] → Writes {E = E} (Ok done) w w' begin_object
-    → WroteMembers [] w' 1
-began before none wrote = record { before = wrote.room.0 ∙ before; tokens = wrote.ok ∙ ap (λ ts. ts ++ begin_object ∷ []) none; told = refl }
+pub began : {E : Type 0} {done : Unit {0}} {prefix : List ℕ} {w w' : Written} {status : ℕ} → w.before ≡ [] → w.tokens ≡ []
+    → Writes {E = E} (Ok done) w w' begin_object → status ≡ list_status {X = Pair} prefix [] → WroteMembers prefix [] w' status
+began before none wrote told = record { before = wrote.room.0 ∙ before; tokens = wrote.ok ∙ ap (λ ts. ts ++ begin_object ∷ []) none; told = told }
 
-some-listed : (pairs : List Pair) (p : Pair) → 0 ≡ list_status (pairs ++ p ∷ [])
-some-listed [] p = refl
-some-listed (q ∷ pairs) p = refl
+some-listed : (prefix : List ℕ) (pairs : List Pair) (p : Pair) → 0 ≡ list_status prefix (pairs ++ p ∷ [])
+some-listed prefix [] p = refl
+some-listed prefix (q ∷ pairs) p = refl
 
-pub one-more : {E F : Type 0} {done done' : Unit {0}} {pairs : List Pair} {w w' w'' : Written} {status : ℕ} {name value : List ℕ} (p : Pair)
-    → WroteMembers pairs w status → Writes {E = E} (Ok done) w w' (key name) → Writes {E = F} (Ok done') w' w'' (string value)
-    → name ≡ encode_utf8_all p.0 → value ≡ encode_utf8_all p.1 → WroteMembers (pairs ++ p ∷ []) w'' 0
-one-more {pairs = pairs} {w = w} {name = name} {value = value} p h first second is_name is_value = record {
+pub one-more : {E F : Type 0} {done done' : Unit {0}} {prefix : List ℕ} {pairs : List Pair} {w w' w'' : Written} {status : ℕ} {name value : List ℕ}
+    (p : Pair) → WroteMembers prefix pairs w status → Writes {E = E} (Ok done) w w' (key name) → Writes {E = F} (Ok done') w' w'' (string value)
+    → name ≡ encode_utf8_all p.0 → value ≡ encode_utf8_all p.1 → WroteMembers prefix (pairs ++ p ∷ []) w'' 0
+one-more {prefix = prefix} {pairs = pairs} {w = w} {name = name} {value = value} p h first second is_name is_value = record {
   before = second.room.0 ∙ first.room.0 ∙ h.before;
   tokens = second.ok ∙ ap (λ ts. ts ++ string value ∷ []) first.ok ∙ append_assoc w.tokens (key name ∷ []) (string value ∷ [])
       ∙ ap₂ (λ a b. w.tokens ++ (key a ∷ string b ∷ [])) is_name is_value ∙ ap (λ ts. ts ++ pair_tokens p) h.tokens
       ∙ ap (λ ts. begin_object ∷ ts) (sym (flat_map-append pair_tokens pairs (p ∷ [])));
-  told = some-listed pairs p;
+  told = some-listed prefix pairs p;
 }
 
-pub object-line : {E : Type 0} {done : Unit {0}} {pairs : List Pair} {w w' : Written} {status : ℕ} {line : List ℕ} → WroteMembers pairs w status
-    → Writes {E = E} (Ok done) w w' end_object → line ≡ (w'.before ++ print w'.tokens) ++ line_feed ∷ [] → IsJsonLine (object (pair_members pairs)) line
+pub object-line : {E : Type 0} {done : Unit {0}} {prefix : List ℕ} {pairs : List Pair} {w w' : Written} {status : ℕ} {line : List ℕ}
+    → WroteMembers prefix pairs w status → Writes {E = E} (Ok done) w w' end_object → line ≡ (w'.before ++ print w'.tokens) ++ line_feed ∷ []
+    → IsJsonLine (object (pair_members pairs)) line
 object-line {pairs = pairs} h wrote is =
     let tokens = wrote.ok ∙ ap (λ ts. ts ++ end_object ∷ []) h.tokens ∙ ap (λ ts. begin_object ∷ ts) (sym (object-tokens pairs)) in
     json-line (object (pair_members pairs)) _ (no-numbers pairs) (let d = flat pairs in omega arith)

@@ -21,16 +21,16 @@ pair_members [] = no_members
 pair_members (p ∷ pairs) = member (encode_utf8_all p.0) (text_value p.1) (pair_members pairs)
 
 -- These pairs are printed as one object.
-pub record PrintsObject (pairs : List Pair) (answer : Answer) : Type 0 where
+pub record PrintsObject (prefix : List ℕ) (pairs : List Pair) (answer : Answer) : Type 0 where
   pub text : IsJsonLine (object (pair_members pairs)) answer.text.items
-  pub status : answer.status ≡ list_status pairs
+  pub status : answer.status ≡ list_status prefix pairs
 
 -- The source is sound, and these of its pairs are printed.
 pub record ListsObject (e : Encoding) (source prefix : List ℕ) (answer : Answer) : Type 0 where
   pub sound : IsSound e source
   pub pairs : List Pair
   pub are : AreLastPairs e source pairs
-  pub prints : PrintsObject (listed_pairs prefix pairs) answer
+  pub prints : PrintsObject prefix (listed_pairs prefix pairs) answer
 
 -- What listing pairs as JSON returns.
 abbrev pub ListsJson : Encoding → List ℕ → List ℕ → Result Answer Failure → Type 0

@@ -1,6 +1,6 @@
 -- What `list` gives: the keys that begin with a prefix, each once, in the order of their first pairs; and with values, these
 -- keys with the values of their last pairs.
-use Rattle.std.specs.Prelude.{◌≡◌, ℕ, Bool, List, [], ◌∷◌, Result, Ok, Err, filter, nat_eq, ◌++◌, All, map}
+use Rattle.std.specs.Prelude.{◌≡◌, ℕ, Bool, List, [], ◌∷◌, Result, Ok, Err, cond, filter, nat_eq, ◌++◌, All, map}
 use Rattle.std.specs.List.{starts_with, flat_map}
 use Rattle.properties_format.specs.Edits.{ArePairs}
 use Rattle.properties_format.specs.Encoding.{Encoding}
@@ -12,7 +12,7 @@ use Rattle.properties_tools.specs.declared.propedit.answer.Answer.{Answer}
 use Rattle.properties_tools.specs.declared.propedit.request.Terminator.{Terminator}
 use Rattle.properties_tables.specs.declared.error.Failure.{Failure}
 use Rattle.properties_format.specs.Writing.{Pair}
-use Rattle.properties_format.specs.Text.{equals_sign}
+use Rattle.properties_format.specs.Text.{equals_sign, is_empty}
 use Rattle.properties_tools.specs.declared.propedit.request.Terminator.TheVariants.{LineFeed, Nul}
 
 -- These are the keys of a source, each once, in the order of their first pairs. Comments are passed over.
@@ -29,15 +29,15 @@ is_key_listed prefix key = starts_with nat_eq key prefix
 abbrev pub listed_keys : List ℕ → List (List ℕ) → List (List ℕ)
 listed_keys prefix keys = filter (is_key_listed prefix) keys
 
--- the status of what is listed: 1 where there is nothing
-abbrev pub list_status : {X : Type 0} → List X → ℕ
-list_status [] = 1
-list_status (thing ∷ things) = 0
+-- the status of what is listed: 1 where nothing begins with a prefix that isn't empty
+abbrev pub list_status : {X : Type 0} → List ℕ → List X → ℕ
+list_status prefix [] = cond (is_empty prefix) 0 1
+list_status prefix (thing ∷ things) = 0
 
 -- These keys or pairs are printed, each as these bytes.
-pub record PrintsAll {X : Type 0} (bytes_of : X → List ℕ) (things : List X) (answer : Answer) : Type 0 where
+pub record PrintsAll {X : Type 0} (prefix : List ℕ) (bytes_of : X → List ℕ) (things : List X) (answer : Answer) : Type 0 where
   pub text : answer.text.items ≡ flat_map bytes_of things
-  pub status : answer.status ≡ list_status things
+  pub status : answer.status ≡ list_status prefix things
 
 -- The source is sound, and these of its keys are printed, each with the byte that ends it.
 pub record ListsKeys (e : Encoding) (source prefix : List ℕ) (end : Terminator) (answer : Answer) : Type 0 where
@@ -45,7 +45,7 @@ pub record ListsKeys (e : Encoding) (source prefix : List ℕ) (end : Terminator
   pub keys : List (List ℕ)
   pub are : AreKeysOf e source keys
   pub only : (others : List (List ℕ)) → AreKeysOf e source others → others ≡ keys
-  pub prints : PrintsAll (ended end) (listed_keys prefix keys) answer
+  pub prints : PrintsAll prefix (ended end) (listed_keys prefix keys) answer
 
 -- What listing keys returns.
 abbrev pub Lists : Encoding → List ℕ → List ℕ → Terminator → Result Answer Failure → Type 0
@@ -86,7 +86,7 @@ pub record ListsPairs (e : Encoding) (source prefix : List ℕ) (end : Terminato
   pub sound : IsSound e source
   pub pairs : List Pair
   pub are : AreLastPairs e source pairs
-  pub prints : PrintsAll (ended_pair end) (listed_pairs prefix pairs) answer
+  pub prints : PrintsAll prefix (ended_pair end) (listed_pairs prefix pairs) answer
 
 -- What listing keys with their values returns.
 abbrev pub ListsValues : Encoding → List ℕ → List ℕ → Terminator → Result Answer Failure → Type 0

@@ -36,7 +36,7 @@ pub fn name(source: &Source) -> &str
 }
 
 /// Returns what a command gives for a source. The status is 1 if no pair has the key and there is no default, if no key
-/// is listed, or if the check finds something.
+/// begins with a prefix that isn't empty, or if the check finds something.
 ///
 /// ```text
 /// // If the job is to get the key `port`:

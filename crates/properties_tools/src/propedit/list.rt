@@ -1,7 +1,8 @@
 // The keys of a source.
 
-ghost use Rattle.std.specs.Prelude.{◌≡◌, IfOk};
+ghost use Rattle.std.specs.Prelude.{◌≡◌, cond, IfOk};
 ghost use Rattle.std.specs.Str.{chars};
+ghost use Rattle.properties_format.specs.Text.{is_empty};
 ghost use Rattle.properties_text.specs.Encoding.{encoding_of};
 ghost use Rattle.properties_tools.specs.Propedit.Listing.{is_key_listed, listed_keys, Lists, PrintsAll};
 ghost use Rattle.properties_tools.specs.Propedit.Texts.{ended};
@@ -15,7 +16,7 @@ use properties_tables::key_table::{Keys, keys_of_source};
 use std::alloc::{AllocError, Global};
 
 /// Returns the keys that begin with a prefix, each once and with the byte that ends it, in the order of their first
-/// pairs. If there is none, the status is 1.
+/// pairs. If there is none, and the prefix isn't empty, the status is 1.
 ///
 /// It refuses a source for its bytes: lines that are ill-formed in the encoding in force, or U+0000 if UTF-8 is in
 /// force without a byte order mark. It refuses a malformed escape in a pair too.
@@ -40,7 +41,7 @@ pub fn list(
 // Returns the keys that are listed, and the status.
 fn listed(alloc: Global, keys: &Keys, prefix: &str, end: Terminator) -> Result<Answer, AllocError>
     requires { HoldKeys keys.now }
-    ensures { IfOk result (PrintsAll (ended end) (listed_keys (chars prefix.now) (place_keys (places_in keys.now)))) }
+    ensures { IfOk result (PrintsAll (chars prefix.now) (ended end) (listed_keys (chars prefix.now) (place_keys (places_in keys.now)))) }
 {
     let mut text = Vec::new(alloc);
     for row in 0..keys.len() {
@@ -49,8 +50,16 @@ fn listed(alloc: Global, keys: &Keys, prefix: &str, end: Terminator) -> Result<A
             push_ended(&mut text, key, end)?;
         }
     }
-    let status = if text.is_empty() { 1 } else { 0 };
+    let status = if text.is_empty() { status_of_none(prefix) } else { 0 };
     Ok(Answer { text, status })
+}
+
+// Returns the status if no key begins with the prefix.
+#[inline(always)]
+pub(crate) fn status_of_none(prefix: &str) -> u8
+    ensures { result ≡ cond (is_empty (chars prefix.now)) 0 1 }
+{
+    if prefix.is_empty() { 0 } else { 1 }
 }
 
 // Returns whether a key begins with the prefix.

@@ -8,7 +8,7 @@ ghost use Rattle.properties_tools.specs.Propedit.Listing.{listed_pairs};
 ghost use Rattle.properties_tables.specs.Private.Table.{row_pair, rows_of, IsTable};
 
 use crate::propedit::answer::{Answer, json_line};
-use crate::propedit::list::is_listed;
+use crate::propedit::list::{is_listed, status_of_none};
 use java_properties::Encoding;
 use json::Writer;
 use properties_tables::error::Failure;
@@ -16,7 +16,7 @@ use properties_tables::table::{Table, table_of};
 use std::alloc::{AllocError, Global};
 
 /// Returns the keys that begin with a prefix, each with its last value, as the members of one JSON object on one line, in
-/// the order of their first pairs. If there is none, the object is empty, and the status is 1.
+/// the order of their first pairs. If there is none, the object is empty, and if the prefix isn't, the status is 1.
 ///
 /// It refuses a source as `list` does. The pairs are read once.
 ///
@@ -39,10 +39,10 @@ pub fn list_json(
 // Returns the object of the pairs that are listed, and the status.
 fn listed(alloc: Global, table: &Table, prefix: &str) -> Result<Answer, AllocError>
     requires { IsTable table.now }
-    ensures { IfOk result (PrintsObject (listed_pairs (chars prefix.now) (map row_pair (rows_of table.now)))) }
+    ensures { IfOk result (PrintsObject (chars prefix.now) (listed_pairs (chars prefix.now) (map row_pair (rows_of table.now)))) }
 {
     let mut writer = Writer::new(Vec::new(alloc));
-    let mut status = 1;
+    let mut status = status_of_none(prefix);
     writer.begin_object()?;
     for row in 0..table.len() {
         let key = table.key(row);

@@ -7,7 +7,7 @@ ghost use Rattle.properties_tools.specs.Propedit.Listing.{ended_pair, listed_pai
 ghost use Rattle.properties_tables.specs.Private.Table.{row_pair, rows_of, IsTable};
 
 use crate::propedit::answer::{Answer, push_ended, push_followed};
-use crate::propedit::list::is_listed;
+use crate::propedit::list::{is_listed, status_of_none};
 use crate::propedit::request::Terminator;
 use java_properties::Encoding;
 use properties_tables::error::Failure;
@@ -16,7 +16,7 @@ use properties_tables::texts::text_at;
 use std::alloc::{AllocError, Global};
 
 /// Returns the keys that begin with a prefix, each once and with its last value, in the order of their first pairs. If
-/// there is none, the status is 1.
+/// there is none, and the prefix isn't empty, the status is 1.
 ///
 /// A pair is printed as `KEY=VALUE` and a line feed, or as its key and its value, each with a zero byte. It refuses a
 /// source as `list` does. The pairs are read once.
@@ -41,7 +41,7 @@ pub fn list_values(
 // Returns the pairs that are listed, and the status.
 fn listed(alloc: Global, table: Table, prefix: &str, end: Terminator) -> Result<Answer, AllocError>
     requires { IsTable table }
-    ensures { IfOk result (PrintsAll (ended_pair end) (listed_pairs (chars prefix.now) (map row_pair (rows_of table)))) }
+    ensures { IfOk result (PrintsAll (chars prefix.now) (ended_pair end) (listed_pairs (chars prefix.now) (map row_pair (rows_of table)))) }
 {
     let separator = separator_of(end);
     let rows = table.len();
@@ -60,7 +60,7 @@ fn listed(alloc: Global, table: Table, prefix: &str, end: Terminator) -> Result<
             push_ended(&mut text, text_at(&values, lasts[row].value), end)?;
         }
     }
-    let status = if text.is_empty() { 1 } else { 0 };
+    let status = if text.is_empty() { status_of_none(prefix) } else { 0 };
     Ok(Answer { text, status })
 }
 

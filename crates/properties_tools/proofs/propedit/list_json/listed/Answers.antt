@@ -13,7 +13,8 @@ use Rattle.properties_tools.proofs.propedit.list_json.listed.Goals as goal
 use Rattle.properties_tools.proofs.propedit.list_json.listed.Goals.{then-is_listed+in_ok-key+in_ok-string, else-is_listed}
 
 pub loop-row-init : goal.loop-row-init
-loop-row-init c = began (c.new-writer.ensures.before ∙ c.new.ensures.items) c.new-writer.ensures.tokens c.in_ok-begin_object.ensures
+loop-row-init c =
+    began (c.new-writer.ensures.before ∙ c.new.ensures.items) c.new-writer.ensures.tokens c.in_ok-begin_object.ensures c.status_of_none-status.ensures
 
 pub loop-row-preserved : goal.loop-row-preserved
 loop-row-preserved c =

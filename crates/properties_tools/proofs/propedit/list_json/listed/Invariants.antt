@@ -6,4 +6,4 @@ use Rattle.properties_tools.proofs.PairObjects.{WroteMembers}
 use Rattle.properties_tools.proofs.propedit.list_json.listed.Given as goal
 
 abbrev pub invariant-loop-row : goal.invariant-loop-row
-invariant-loop-row l = WroteMembers (listed_pairs (chars l.prefix) (take l.row (map row_pair (rows_of l.table)))) l.writer l.status
+invariant-loop-row l = WroteMembers (chars l.prefix) (listed_pairs (chars l.prefix) (take l.row (map row_pair (rows_of l.table)))) l.writer l.status
