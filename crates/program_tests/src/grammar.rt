@@ -86,7 +86,7 @@ const PLACES: &[Placed] = &[
         0,
         b"a=\xc3\xa9",
     ),
-    ("-V", "get a", b"", 0, b"propedit 1.25.0\n"),
+    ("-V", "get a", b"", 0, b"propedit 1.26.0\n"),
 ];
 
 #[test]

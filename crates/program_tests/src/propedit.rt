@@ -191,8 +191,8 @@ fn files_are_asked_for(rt: HostRuntime) -> Result<(), Fail> {
 }
 
 const THE_VERSION: &[Row] = &[
-    ("--version", b"", 0, b"propedit 1.25.0\n"),
-    ("-i x -V", b"", 0, b"propedit 1.25.0\n"),
+    ("--version", b"", 0, b"propedit 1.26.0\n"),
+    ("-i x -V", b"", 0, b"propedit 1.26.0\n"),
 ];
 
 #[test]

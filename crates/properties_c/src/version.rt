@@ -10,10 +10,10 @@ pub extern "C" fn todrenval_version() -> u32
     4
 }
 
-/// Returns the release as a number: 1.25.0 is 12500.
+/// Returns the release as a number: 1.26.0 is 12600.
 #[unsafe(no_mangle)]
 pub extern "C" fn todrenval_release() -> u32
-    ensures { result ≡ 12500 }
+    ensures { result ≡ 12600 }
 {
-    12500
+    12600
 }
