@@ -403,6 +403,8 @@ const OPTIONS: &[OptionRow] = &[
     },
 ];
 
+const EDITED_ENCODINGS: &str = "utf-8 (default), iso-8859-1, windows-1252";
+
 const ABOUT: &str = "Reads, checks, compares, edits and converts Java properties files";
 
 const NOTES: &str = "Options come before or after the command, but before its first argument.\n\
@@ -546,6 +548,15 @@ impl CommandRow {
         match option {
             OptionName::Help | OptionName::Version => true,
             _ => self.options.contains(&option),
+        }
+    }
+
+    // Returns the help of an option. Edits and `comment` don't support UTF-16.
+    fn help_of(&self, row: &OptionRow) -> &'static str {
+        match (row.option, self.command) {
+            (OptionName::Encoding, CommandName::Comment | CommandName::Merge) => EDITED_ENCODINGS,
+            (OptionName::Encoding, _) if self.is_edit() => EDITED_ENCODINGS,
+            _ => row.help,
         }
     }
 
@@ -717,7 +728,7 @@ impl fmt::Display for Help {
         }
         f.write_str("\nOptions:\n")?;
         for row in OPTIONS {
-            show_option(f, row)?;
+            show_option(f, row, row.help)?;
         }
         write!(f, "\n{NOTES}")
     }
@@ -737,7 +748,7 @@ impl fmt::Display for HelpOf {
         f.write_str("\nOptions:\n")?;
         for row in OPTIONS {
             if command.takes(row.option) {
-                show_option(f, row)?;
+                show_option(f, row, command.help_of(row))?;
             }
         }
         if command.takes(OptionName::Ignore) {
@@ -751,14 +762,18 @@ impl fmt::Display for HelpOf {
     }
 }
 
-fn show_option<W: fmt::Write>(f: &mut fmt::Formatter<W>, row: &OptionRow) -> fmt::Result {
+fn show_option<W: fmt::Write>(
+    f: &mut fmt::Formatter<W>,
+    row: &OptionRow,
+    help: &str,
+) -> fmt::Result {
     match row.short {
         Some(letter) => write!(f, "  -{letter}, ")?,
         None => f.write_str("      ")?,
     }
     write!(f, "--{} {}", row.long, row.value)?;
     let width = row.long.len().saturating_add(row.value.len());
-    show_help(f, width.saturating_add(9), row.help)
+    show_help(f, width.saturating_add(9), help)
 }
 
 // Prints the help of a row in the second column, after so many characters.
