@@ -50,7 +50,11 @@ fn listed(alloc: Global, keys: &Keys, prefix: &str, end: Terminator) -> Result<A
             push_ended(&mut text, key, end)?;
         }
     }
-    let status = if text.is_empty() { status_of_none(prefix) } else { 0 };
+    let status = if text.is_empty() {
+        status_of_none(prefix)
+    } else {
+        0
+    };
     Ok(Answer { text, status })
 }
 

@@ -60,7 +60,11 @@ fn listed(alloc: Global, table: Table, prefix: &str, end: Terminator) -> Result<
             push_ended(&mut text, text_at(&values, lasts[row].value), end)?;
         }
     }
-    let status = if text.is_empty() { status_of_none(prefix) } else { 0 };
+    let status = if text.is_empty() {
+        status_of_none(prefix)
+    } else {
+        0
+    };
     Ok(Answer { text, status })
 }
 
