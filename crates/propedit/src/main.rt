@@ -92,13 +92,12 @@ fn with_file<'a>(rt: &HostRuntime, error: NoRequest<'a>) -> NoRequest<'a> {
 
 // Returns what may be meant otherwise, if it is not about a file that isn't there. Without memory there is none.
 fn note_among(rt: &HostRuntime, alloc: Global, words: &[String]) -> Option<Note> {
-    let Ok(Some(note)) = note_on(alloc, words) else {
-        return None;
+    let note = note_on(alloc, words).ok()??;
+    let is_there = match &note.doubt {
+        Doubt::Value(Some(name)) => is_file(rt, name.as_str()),
+        _ => true,
     };
-    match &note.doubt {
-        Doubt::Value(Some(name)) if !is_file(rt, name.as_str()) => None,
-        _ => Some(note),
-    }
+    if is_there { Some(note) } else { None }
 }
 
 // Reads the pairs of a file, and then sets them in a source.
@@ -326,18 +325,19 @@ fn check_file<W: CountedWrite, E: CountedWrite>(
     if let Some(name) = marked_name(&job.source) {
         return explain_name(alloc, name, &mut sinks.errors);
     }
-    match &job.source {
-        Source::File(path) if is_directory(rt, path.as_str()) => {
-            explain_directory(alloc, path.as_str(), &mut sinks.errors)
-        }
-        _ => do_job(rt, alloc, job, None, sinks),
+    if is_directory(rt, &job.source) {
+        return explain_directory(alloc, name(&job.source), &mut sinks.errors);
     }
+    do_job(rt, alloc, job, None, sinks)
 }
 
-fn is_directory(rt: &HostRuntime, name: &str) -> bool {
-    match fs::metadata(rt, name) {
-        Ok(metadata) => metadata.is_dir(),
-        Err(_) => false,
+fn is_directory(rt: &HostRuntime, source: &Source) -> bool {
+    match source {
+        Source::File(path) => match fs::metadata(rt, path.as_str()) {
+            Ok(metadata) => metadata.is_dir(),
+            Err(_) => false,
+        },
+        Source::StandardInput | Source::Dash => false,
     }
 }
 
