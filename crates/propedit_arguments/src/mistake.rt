@@ -49,24 +49,10 @@ impl<'a> NoRequest<'a> {
     /// Returns the arguments that may be files by mistake, each with the error if it is one.
     pub fn if_files(self) -> [Option<(&'a str, NoRequest<'a>)>; 2] {
         match self {
-            NoRequest::Wrong(Mistake::NoEdit(word, Some(stray))) => {
-                let error = |(name, words)| {
-                    let file = Some(name);
-                    let mistake = Mistake::NoEdit(
-                        word,
-                        Some(Stray {
-                            words,
-                            file,
-                            ..stray
-                        }),
-                    );
-                    (name, NoRequest::Wrong(mistake))
-                };
-                [
-                    stray.after_first().map(error),
-                    stray.before_last().map(error),
-                ]
-            }
+            NoRequest::Wrong(Mistake::NoEdit(word, Some(stray))) => [
+                if_file(word, stray, stray.after_first()),
+                if_file(word, stray, stray.before_last()),
+            ],
             NoRequest::Wrong(Mistake::UnknownCommand(word, Hint::Alone)) => {
                 let mistake = Mistake::UnknownCommand(word, Hint::ListFile);
                 [Some((word, NoRequest::Wrong(mistake))), None]
@@ -74,6 +60,21 @@ impl<'a> NoRequest<'a> {
             _ => [None, None],
         }
     }
+}
+
+// Returns an argument around one that is no edit, and the error if it is a file, given the arguments without it.
+fn if_file<'a>(
+    word: &'a str,
+    stray: Stray<'a>,
+    around: Option<(&'a str, &'a [String])>,
+) -> Option<(&'a str, NoRequest<'a>)> {
+    let (name, words) = around?;
+    let stray = Stray {
+        words,
+        file: Some(name),
+        ..stray
+    };
+    Some((name, NoRequest::Wrong(Mistake::NoEdit(word, Some(stray)))))
 }
 
 /// What may be meant by an argument that is no command.

@@ -34,10 +34,10 @@ impl fmt::Display for Shown<'_> {
 }
 
 /// Prints that an argument is no edit, and what may be meant, or what else is wrong around it.
-pub(crate) fn show_no_edit<W: fmt::Write>(
+pub(crate) fn show_no_edit<'a, W: fmt::Write>(
     f: &mut fmt::Formatter<W>,
-    word: &str,
-    stray: Option<Stray<'_>>,
+    word: &'a str,
+    stray: Option<Stray<'a>>,
 ) -> fmt::Result {
     match (command_meant(word), stray) {
         (Some(row), _) if row.is_edit() => {
@@ -61,10 +61,10 @@ fn show_any<W: fmt::Write>(f: &mut fmt::Formatter<W>, word: &str) -> fmt::Result
 }
 
 // Prints what may be meant by an argument after an edit.
-fn show_stray<W: fmt::Write>(
+fn show_stray<'a, W: fmt::Write>(
     f: &mut fmt::Formatter<W>,
-    word: &str,
-    stray: Stray<'_>,
+    word: &'a str,
+    stray: Stray<'a>,
 ) -> fmt::Result {
     if let Some(option) = stray.option() {
         let (option, first) = (Escaped(option), Escaped(stray.first()));
@@ -103,11 +103,11 @@ fn is_sign(text: &str) -> bool {
 }
 
 // Prints how the file is named that an argument is.
-fn show_file<W: fmt::Write>(
+fn show_file<'a, W: fmt::Write>(
     f: &mut fmt::Formatter<W>,
-    word: &str,
-    file: &str,
-    stray: Stray<'_>,
+    word: &'a str,
+    file: &'a str,
+    stray: Stray<'a>,
 ) -> fmt::Result {
     let shown = Escaped(file);
     match stray.named {
@@ -126,11 +126,11 @@ fn show_file<W: fmt::Write>(
 }
 
 // Prints that a text of several words needs quotes, or how several keys are set.
-fn show_quotes<W: fmt::Write>(
+fn show_quotes<'a, W: fmt::Write>(
     f: &mut fmt::Formatter<W>,
-    key: &str,
-    text: &str,
-    stray: Stray<'_>,
+    key: &'a str,
+    text: &'a str,
+    stray: Stray<'a>,
 ) -> fmt::Result {
     let (name, words) = (stray.edit.row.name, stray.edit.run());
     let put = match words {
