@@ -12,7 +12,7 @@ const RENAMING: &[Row] = &[
         b"# key\r\n  k\t= 1\\\r\n  key",
     ),
     // The new key is printed as `set` prints one.
-    ("rename a ' #:'", b"a=1", 0, b"\\ \\#\\:=1"),
+    ("rename -- a ' #:'", b"a=1", 0, b"\\ \\#\\:=1"),
     ("rename a \u{17c}", b"a=1", 0, b"\xc5\xbc=1"),
     (
         "-a rename \u{e9} \u{17c}",

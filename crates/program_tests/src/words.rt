@@ -182,8 +182,7 @@ const USAGES: &[(&str, &str, &str)] = &[
     ),
     (
         "set a 1 b",
-        "unknown edit 'b': each edit begins with set, remove, rename or set-comment, options come before the first KEY, \
-        and a text of several words needs quotes",
+        "unknown edit 'b'; put quotes around '1 b'",
         "set [OPTION ..] KEY VALUE [EDIT ..]\n       \
         propedit remove [OPTION ..] KEY [EDIT ..]\n       \
         propedit rename [OPTION ..] OLD NEW [EDIT ..]\n       \
