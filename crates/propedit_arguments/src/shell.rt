@@ -14,7 +14,8 @@ impl fmt::Display for Quoted<'_> {
         }
         f.write_str("\"")?;
         for part in self.0.split_inclusive(['"', '\\', '$', '`']) {
-            let (front, last) = part.split_at(part.trim_end_matches(['"', '\\', '$', '`']).len());
+            let front = part.trim_end_matches(['"', '\\', '$', '`']);
+            let last = part.strip_prefix(front).unwrap_or("");
             let backslash = if last.is_empty() { "" } else { "\\" };
             write!(f, "{}{backslash}{last}", Escaped(front))?;
         }

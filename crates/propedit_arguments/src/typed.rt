@@ -63,7 +63,7 @@ impl<'a> TypedEdit<'a> {
     }
 }
 
-fn edit_named(word: &str) -> Option<&'static CommandRow> {
+pub(crate) fn edit_named(word: &str) -> Option<&'static CommandRow> {
     command_named(word).filter(|row| row.is_edit())
 }
 

@@ -4,7 +4,7 @@ use crate::command_line::{CommandName, CommandRow, command_meant};
 use crate::edits::is_odd;
 use crate::mistake::show_meant;
 use crate::shell::Quoted;
-use crate::typed::Stray;
+use crate::typed::{Stray, TypedEdit, edit_named};
 use crate::wrong_options::show_dashes;
 use properties_tools::messages::Escaped;
 use std::fmt;
@@ -66,6 +66,12 @@ fn show_stray<'a, W: fmt::Write>(
     word: &'a str,
     stray: Stray<'a>,
 ) -> fmt::Result {
+    let (edit, name) = (stray.edit, stray.edit.row.name);
+    if let (None, Some(key)) = (stray.file, key_before_dashes(edit)) {
+        let (key, text) = (Quoted(key), Quoted(word));
+        let meant = "'--' goes before the KEY; did you mean";
+        return write!(f, "{meant} '{name} -- {key} {text}'?");
+    }
     if let Some(option) = stray.option() {
         let (option, first) = (Escaped(option), Escaped(stray.first()));
         return write!(f, "'{option}' is an option; write it before '{first}'");
@@ -73,14 +79,8 @@ fn show_stray<'a, W: fmt::Write>(
     if let Some(file) = stray.file {
         return show_file(f, word, file, stray);
     }
-    let name = stray.edit.row.name;
-    match stray.edit.texts {
-        [key, dashes] if dashes.as_str() == "--" && !stray.edit.is_literal => {
-            let (key, text) = (Quoted(key.as_str()), Quoted(word));
-            let meant = "'--' goes before the KEY; did you mean";
-            write!(f, "{meant} '{name} -- {key} {text}'?")
-        }
-        [_, sign] if is_sign(sign.as_str()) && stray.edit.run().len() > 1 => show_any(f, word),
+    match edit.texts {
+        [_, sign] if is_sign(sign.as_str()) && edit.run().len() > 1 => show_any(f, word),
         [key, sign] if name == "set" && is_sign(sign.as_str()) => {
             let (shown, meant) = (Escaped(key.as_str()), Shown(name, key.as_str(), Some(word)));
             write!(
@@ -88,6 +88,7 @@ fn show_stray<'a, W: fmt::Write>(
                 "the VALUE of 'set {shown}' is '{sign}'; did you mean '{meant}'?"
             )
         }
+        _ if has_no_text(edit) => show_any(f, word),
         [key] => {
             let (key, other) = (Shown(name, key.as_str(), None), Shown(name, word, None));
             let shown = Escaped(word);
@@ -96,6 +97,25 @@ fn show_stray<'a, W: fmt::Write>(
         [key, text] if name != "rename" => show_quotes(f, key.as_str(), text.as_str(), stray),
         _ => show_any(f, word),
     }
+}
+
+// Returns the key of an edit if `--` comes after it, and then one argument.
+fn key_before_dashes<'a>(edit: TypedEdit<'a>) -> Option<&'a str> {
+    match (edit.texts, edit.after) {
+        ([key, dashes], [_]) if dashes.as_str() == "--" && !edit.is_literal => Some(key.as_str()),
+        _ => None,
+    }
+}
+
+// Returns whether the text of an edit, or an argument after it, is hardly one: it is empty, looks like an option, or is
+// a command. A key that ends in a comma is one of a list.
+fn has_no_text(edit: TypedEdit<'_>) -> bool {
+    let is_listed = |key: &String| key.ends_with(',');
+    let is_none = |text: &String| {
+        text.is_empty() || text.starts_with('-') || edit_named(text.as_str()).is_some()
+    };
+    let mut texts = edit.texts.iter().skip(1).chain(edit.run());
+    texts.any(is_none) || edit.texts.iter().take(1).any(is_listed)
 }
 
 fn is_sign(text: &str) -> bool {
@@ -134,7 +154,7 @@ fn show_quotes<'a, W: fmt::Write>(
 ) -> fmt::Result {
     let (name, words) = (stray.edit.row.name, stray.edit.run());
     let put = match words {
-        [other, value, ..] if name == "set" && words.len() % 2 == 0 && !other.contains('=') => {
+        [other, value, ..] if name == "set" && words.len() % 2 == 0 && is_plain(other) => {
             let (other, value) = (other.as_str(), value.as_str());
             let (one, next) = (
                 Shown(name, key, Some(text)),
@@ -158,6 +178,11 @@ fn show_quotes<'a, W: fmt::Write>(
         write!(f, " {}", Escaped(word.as_str()))?;
     }
     write!(f, "'{put}")
+}
+
+// Returns whether a key is written without `--`.
+fn is_plain(key: &str) -> bool {
+    !key.contains('=') && !is_odd(key)
 }
 
 /// Prints that an edit of a key has no second text, and how to write a key that was taken for an option.
@@ -224,7 +249,7 @@ pub(crate) fn show_odd<W: fmt::Write>(
         }
         Some(_) => write!(f, "the KEY '{shown}' ends in a blank; ")?,
     }
-    if !trimmed(key).is_empty() {
+    if !trimmed(key).is_empty() && !meant.2.is_some_and(is_sign) {
         write!(f, "use '{meant}', or ")?;
     }
     write!(f, "for the key '{shown}' itself, write '{itself}'")
