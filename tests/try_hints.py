@@ -1,5 +1,5 @@
 #!/usr/bin/env python3
-"""Runs each hint that propedit gives in the rows of tests/rows as a command, in the files of its row.
+"""Runs each hint that propedit gives in the rows of slips as a command, in the files of its row.
 
     tests/try_hints.py PROPEDIT [FILE ..]
 
@@ -101,7 +101,7 @@ def hints_of(program, row):
 def main():
     program = pathlib.Path(sys.argv[1]).resolve()
     passed = failed = 0
-    for path in [pathlib.Path(name) for name in sys.argv[2:]] or sorted(ROWS.glob("*.txt")):
+    for path in [pathlib.Path(name) for name in sys.argv[2:]] or [ROWS / "slips.txt"]:
         for row in rows_in(path):
             for line, hint in hints_of(program, row):
                 wrong = wrong_with(program, row, line, hint)

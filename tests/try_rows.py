@@ -3,10 +3,11 @@
 
     tests/try_rows.py PROPEDIT [FILE ..] [--only TEXT]
 
-Without a FILE it runs all of tests/rows. With --only it runs the rows whose heading, title or command line has TEXT.
-It prints what differs, and "N passed, M failed". A row is a block of lines:
+Without a FILE it runs all of crates/program_vectors/data, as the crate does over the code of propedit. With --only it
+runs the rows whose heading, title or command line has TEXT. It prints what differs, and "N passed, M failed". A row is a
+block of lines:
 
-    = TITLE           what it shows; headings of several rows begin with "## ", comments with "#"
+    = TITLE           what it shows; may be left out; headings of several rows begin with "## ", comments with "#"
     $ WORD ..         the arguments, each bare or in quotes
     < NAME TEXT       a file before the run; "-" is standard input, which is empty otherwise; "folder" for TEXT is a directory
     ? STATUS          the exit status; without this line it is 0
@@ -14,8 +15,9 @@ It prints what differs, and "N passed, M failed". A row is a block of lines:
     2 TEXT            standard error; without this line it is empty; "2 .." is any; ".." after TEXT: other lines follow the first
     > NAME TEXT       a file after the run; each file without this line is as it was, and there is no other
 
-A TEXT is one or several texts in quotes, which are joined. In quotes \\n \\r \\t \\f \\" \\\\ are as in C, \\x80 is the byte
-80, and all else is UTF-8. N*"TEXT" is TEXT N times, in which {} is the number of the time, from 1 on.
+A TEXT is one or several texts in quotes, which are joined, and so are the texts of several lines that begin alike. In
+quotes \\n \\r \\t \\f \\" \\\\ are as in C, \\x80 is the byte 80, and all else is UTF-8. N*"TEXT" is TEXT N times, in which
+{} is the number of the time, from 1 on. The name "./-" is that of a file called "-".
 """
 import argparse
 import pathlib
@@ -24,7 +26,7 @@ import subprocess
 import sys
 import tempfile
 
-ROWS = pathlib.Path(__file__).resolve().parent / "rows"
+ROWS = pathlib.Path(__file__).resolve().parents[1] / "crates" / "program_vectors" / "data"
 ESCAPES = {b"n": b"\n", b"r": b"\r", b"t": b"\t", b"f": b"\f", b'"': b'"', b"\\": b"\\"}
 ESCAPE = re.compile(rb"\\(?:x([0-9a-f]{2})|(.))")
 PART = re.compile(r'(?:(\d+)\*)?"((?:[^"\\]|\\.)*)"|(\S+)')
@@ -54,16 +56,16 @@ class Row:
         elif sign == "?":
             self.status = int(rest)
         elif sign == "1":
-            self.output = text(rest)
+            self.output = joined(self.output, text(rest))
         elif sign == "2":
             self.only_first = rest.endswith(" ..")
-            self.errors = text(rest.removesuffix(" .."))
+            self.errors = joined(self.errors, text(rest.removesuffix(" ..")))
         elif sign in "<>" and line[1] == " ":
             name, data = rest.split(" ", 1)
             if sign == "<" and name == "-":
-                self.input = text(data)
+                self.input += text(data)
             else:
-                (self.before if sign == "<" else self.after)[parts(name)[0]] = DIRECTORY if data == "folder" else text(data)
+                add_file(self.before if sign == "<" else self.after, parts(name)[0].removeprefix(b"./"), data)
         else:
             sys.exit(f"{self.place}: no line of a row: {line}")
 
@@ -88,17 +90,26 @@ def text(line):
     return None if line == ".." else b"".join(parts(line))
 
 
+def joined(before, more):
+    return None if before is None or more is None else before + more
+
+
+def add_file(files, name, data):
+    files[name] = DIRECTORY if data == "folder" else files.get(name, b"") + text(data)
+
+
 def rows_in(path):
     """The rows of a file."""
     heading, row = "", None
     for number, line in enumerate(path.read_text(encoding="utf-8").split("\n"), 1):
         if line.startswith("## "):
             heading = line[3:]
-        elif line.startswith("= "):
+            continue
+        if line.startswith("= ") or line.startswith("$") and (not row or row.line):
             if row:
                 yield row
             row = Row(f"{path.name}:{number}", heading, line[2:])
-        elif line and not line.startswith("#"):
+        if line and line[0] not in "#=":
             row.read(line)
     if row:
         yield row

@@ -95,20 +95,20 @@ def stopped(room, seed):
     first = run.stdout.readline()
     time.sleep(chance.uniform(0, 2.5) if chance.random() < 0.8 else 0)
     run.send_signal(number)
-    fault = wrong(run, own, first, SIGNALS[number], r"\d+ passed, 0 failed(, \d of 8 parts did not end)?")
+    fault = wrong(run, own, first, SIGNALS[number], r"\d+ passed, 0 failed(, \d of 9 parts did not end)?")
     return fault and f"run {seed}, {number.name}: {fault}"
 
 
 def main():
     runs = int(sys.argv[1]) if len(sys.argv) > 1 else 60
-    tables = sum(len((TOP / f"crates/{name}_vectors/args").read_text().split()) for name in ("reading", "writing", "editing"))
+    tables = sum(len((TOP / f"crates/{name}_vectors/args").read_text().split()) for name in ("reading", "writing", "editing", "program"))
     with tempfile.TemporaryDirectory() as folder, concurrent.futures.ThreadPoolExecutor(6) as pool:
         (pathlib.Path(folder) / "rt").write_text(STAND_IN)
         (pathlib.Path(folder) / "rt").chmod(0o755)
         tasks = [
             pool.submit(outcome, folder, "pass", 0, f"{tables + 8} passed, 0 failed"),
-            pool.submit(outcome, folder, "fail", 1, f"{tables} passed, 11 failed"),
-            pool.submit(outcome, folder, "slow", 1, f"9 passed, 0 failed, {tables - 1} did not end in 5 seconds"),
+            pool.submit(outcome, folder, "fail", 1, f"{tables - 1} passed, 12 failed"),
+            pool.submit(outcome, folder, "slow", 1, f"11 passed, 0 failed, {tables - 3} did not end in 5 seconds"),
             *(pool.submit(stopped, folder, seed) for seed in range(runs)),
         ]
         faults = [fault for task in tasks if (fault := task.result())]

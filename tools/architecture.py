@@ -37,8 +37,10 @@ CRATES = {
     "*_vectors": (3, "test", "examples: read, write, edit"),
     "calling": (0, "test", "the examples of the pages"),
     "propedit_arguments": (1, "library", "the arguments of propedit"),
+    "propedit_running": (1, "library", "what propedit does"),
     "propfilter": (2, "public", "a program"),
     "propedit": (1, "public", "a program"),
+    "program_vectors": (3, "test", "rows of propedit"),
     "program_tests": (2, "test", "tests of the programs"),
 }
 # Crates that share a box, under this name.

@@ -21,7 +21,7 @@ import os, re, sys
 
 FORMAT = 'properties_format'
 # Crates that promise nothing: examples, tests and tables.
-NO_PROMISES = ('calling', 'properties_tests', 'program_tests', 'vector_notation', 'reading_vectors', 'writing_vectors', 'editing_vectors')
+NO_PROMISES = ('calling', 'properties_tests', 'program_tests', 'program_vectors', 'vector_notation', 'reading_vectors', 'writing_vectors', 'editing_vectors')
 # The crates whose contracts callers read, with what these re-export from others.
 READ = ('java_properties', 'properties_tools')
 # Layers below the tools, the upper ones first. Of these, public is what others re-export.

@@ -1,5 +1,5 @@
 #!/usr/bin/env python3
-"""Runs the rows of the tables of crates/*_vectors through the module todrenval, and tries what no row says.
+"""Runs the rows of the tables of crates/*ing_vectors through the module todrenval, and tries what no row says.
 
     TODRENVAL_LIBRARY=FOLDER/libtodrenval.so.2 bindings/python/test_rows.py [LENGTH]
 
@@ -36,7 +36,7 @@ from todrenval import Comment, Pair, PropertiesError, RemoveKey, RemoveWithComme
 from todrenval import SetKey, SetValue, Status  # noqa: E402
 
 TOP = pathlib.Path(__file__).resolve().parent.parent.parent
-PROGRAMS = "crates/*_vectors"
+PROGRAMS = "crates/*ing_vectors"
 KINDS = {
     Status.NOT_ENOUGH_DIGITS: "NotEnoughDigits",
     Status.NOT_HEX: "NotHex",

@@ -1,5 +1,5 @@
 //! Runs the rows of the tables of examples, as far as this crate has calls for them, and says how many it leaves out. A package
-//! has the tables in `tests/tables`, and the repository in `crates/*_vectors`; its docs/TABLES.md has the notation.
+//! has the tables in `tests/tables`, and the repository in `crates/*ing_vectors`; its docs/TABLES.md has the notation.
 #![allow(clippy::format_push_string, clippy::unnecessary_wraps)]
 mod streams;
 

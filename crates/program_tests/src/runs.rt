@@ -3,11 +3,8 @@
 use crate::same::{Bytes, same};
 use crate::streams::{AMPLE, Plan, Planned, reader, sinks, words_of};
 use counted_io::{ScriptedReader, Tail};
-use propedit_arguments::mistake::Mistake;
-use propedit_arguments::parse::explain_mistake;
 use propedit_arguments::{asked_for, explain};
-use properties_tools::propedit::hint::{possible_files, refused_file};
-use properties_tools::propedit::request::{Job, Request};
+use properties_tools::propedit::request::Request;
 use properties_tools::{propedit, propfilter};
 use std::alloc::{AllocError, Global};
 use std::process::Abort;
@@ -19,65 +16,34 @@ pub enum Program {
     Propedit,
 }
 
-/// How the streams of a run behave, and what files are there.
+/// How the streams of a run behave.
 #[derive(Clone, Copy)]
 pub struct Streams {
     /// What comes after the input.
     pub tail: Tail,
     pub output: Plan,
     pub errors: Plan,
-    pub files: &'static [&'static str],
 }
 
-/// Streams that don't fail, and no files.
+/// Streams that don't fail.
 pub const SOUND: Streams = Streams {
     tail: Tail::End,
     output: AMPLE,
     errors: AMPLE,
-    files: &[],
 };
 
-// What stands for the status where files are to be checked or edited.
+// What stands for the status of a run that reads or changes files.
 const FILES: u8 = 3;
 
-fn edit(
-    alloc: Global,
-    words: &[String],
-    there: &[&str],
-    input: &mut ScriptedReader,
-    sinks: &mut Planned,
-) -> Result<u8, AllocError> {
+fn edit(alloc: Global, words: &[String], input: &mut ScriptedReader, sinks: &mut Planned) -> u8 {
     match asked_for(alloc, words) {
-        Ok(Request::Job(job)) => do_job(alloc, &job, there, input, sinks),
-        Ok(_) => Ok(FILES),
-        Err(error) => Ok(explain(alloc, error, &mut sinks.output, &mut sinks.errors)),
+        Ok(Request::Job(job)) => propedit::run(alloc, &job, &[], input, sinks),
+        Ok(_) => FILES,
+        Err(error) => explain(alloc, error, &mut sinks.output, &mut sinks.errors),
     }
 }
 
-fn do_job(
-    alloc: Global,
-    job: &Job,
-    there: &[&str],
-    input: &mut ScriptedReader,
-    sinks: &mut Planned,
-) -> Result<u8, AllocError> {
-    let mut files = Vec::new(alloc);
-    for name in possible_files(job) {
-        if there.contains(&name.as_str()) {
-            files.push(name.clone()?)?;
-        }
-    }
-    match refused_file(job, &files) {
-        Some(file) => {
-            let mistake = Mistake::FileAsKey(file);
-            Ok(explain_mistake(alloc, mistake, &mut sinks.errors))
-        }
-        None => Ok(propedit::run(alloc, job, &files, input, sinks)),
-    }
-}
-
-/// Runs a program as its `main` does, but of a source that is a file the input has the bytes, and no files are checked
-/// or edited. Returns the status, and what it printed on.
+/// Runs a program over streams. Returns the status, and what it printed on.
 pub fn run(
     alloc: Global,
     program: Program,
@@ -94,7 +60,7 @@ pub fn run(
             let (output, errors) = (&mut sinks.output, &mut sinks.errors);
             propfilter::run(alloc, words, &mut input, output, errors)
         }
-        Program::Propedit => edit(alloc, words, streams.files, &mut input, &mut sinks)?,
+        Program::Propedit => edit(alloc, words, &mut input, &mut sinks),
     };
     Ok((status, sinks))
 }

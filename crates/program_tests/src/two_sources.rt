@@ -10,18 +10,12 @@ use properties_tools::propedit::base_run::run_base;
 use properties_tools::propedit::diff::run_diff;
 use properties_tools::propedit::merge::{Merged, read_merge};
 use properties_tools::propedit::request::{
-    CheckedBase, CheckedFiles, Command, Job, Merge, Missing, Request, Source,
+    CheckedBase, CheckedFiles, Command, Job, Merge, Request, Source,
 };
 use std::alloc::{AllocError, Global};
 use std::io::ErrorKind;
 use std::process::Abort;
 use std::test::Fail;
-
-/// What stands for the status of a file that is edited in place: of one that is there, and of one that is made if it is
-/// missing.
-pub const IN_PLACE: u8 = 3;
-
-pub const MADE: u8 = 4;
 
 // What stands for the status of arguments that ask for anything else.
 const OTHER: u8 = 9;
@@ -29,9 +23,6 @@ const OTHER: u8 = 9;
 /// How the streams of a run behave: what comes after the first source and after the second, and how the output takes
 /// bytes.
 pub type Streams = (Tail, Tail, Plan);
-
-/// Streams that don't fail.
-pub const SOUND: Streams = (Tail::End, Tail::End, AMPLE);
 
 /// A source that fails.
 pub const CUT_OFF: Tail = Tail::Fault(ErrorKind::NotFound);
@@ -118,10 +109,7 @@ fn merge(
             let mut input = open(alloc, source)?;
             Ok(propedit::run(alloc, &job, &[], &mut input, sinks))
         }
-        Ok(Merged::InPlace(file)) => Ok(match file.missing {
-            Missing::Refuse => IN_PLACE,
-            Missing::Create => MADE,
-        }),
+        Ok(Merged::InPlace(_file)) => Ok(OTHER),
         Err(status) => Ok(status),
     }
 }
@@ -140,24 +128,5 @@ pub fn check_run<R: Abort + AllocGlobal>(
     let (first, second) = ((first, first_tail), (second, second_tail));
     let ended = run(rt.alloc(), words, first, second, output)?;
     check_ended(rt, number, words, &ended, (status, printed, said));
-    Ok(())
-}
-
-/// The arguments, the bytes of both sources, the status, and the output of a run that prints nothing on standard error.
-pub type Row = (
-    &'static str,
-    &'static [u8],
-    &'static [u8],
-    u8,
-    &'static [u8],
-);
-
-/// Compares the runs over sound streams with the rows.
-pub fn check_runs<R: Abort + AllocGlobal>(rt: &R, rows: &[Row]) -> Result<(), Fail> {
-    for (number, row) in (1usize..).zip(rows) {
-        let (words, first, second, status, output) = *row;
-        let row = (words, first, second, status, output, "");
-        check_run(rt, number, SOUND, row)?;
-    }
     Ok(())
 }

@@ -160,7 +160,8 @@ enum Escape {
     Code(u32),
 }
 
-fn unescaped(alloc: Global, text: &str) -> Result<Vec<u8>, Halt> {
+/// Returns the bytes that a text in quotes stands for.
+pub fn unescaped(alloc: Global, text: &str) -> Result<Vec<u8>, Halt> {
     let mut bytes = Vec::new(alloc);
     let mut escape = Escape::Outside;
     for character in text.chars() {
@@ -209,6 +210,7 @@ fn short_escape(character: char) -> Option<u8> {
         'f' => Some(0x0c),
         '0' => Some(0),
         '\\' => Some(b'\\'),
+        '"' => Some(b'"'),
         _ => None,
     }
 }

@@ -21,6 +21,16 @@ pub struct Report {
     pub failures: String,
 }
 
+impl Report {
+    /// Creates a report of no rows.
+    pub fn new(alloc: Global) -> Report {
+        Report {
+            rows: 0,
+            failures: String::new(alloc),
+        }
+    }
+}
+
 // What a heading says of the rows below it.
 #[derive(Drop)]
 struct Heading<K: Rows> {
@@ -31,10 +41,7 @@ struct Heading<K: Rows> {
 
 /// Runs each row of a table.
 pub fn check_table<K: Rows>(alloc: Global, table: &str, pace: Pace) -> Result<Report, AllocError> {
-    let mut report = Report {
-        rows: 0,
-        failures: String::new(alloc),
-    };
+    let mut report = Report::new(alloc);
     let mut heading: Option<Heading<K>> = None;
     let mut rows_above = 0;
     for (number, line) in (1u64..).zip(table.lines()) {

@@ -1,0 +1,142 @@
+//! Does what the arguments of `propedit` ask for, with the files that they name.
+#![tactic(auto)]
+
+mod checking;
+mod input;
+mod notes;
+
+use crate::checking::check_files;
+use crate::input::{files_among, is_file, opened_or_explain};
+use crate::notes::{edit_noted, note_among, run_noted};
+use counted_io::CountedWrite;
+pub use input::StandardInput;
+use propedit_arguments::doubts::Note;
+use propedit_arguments::mistake::{Mistake, NoRequest};
+use propedit_arguments::parse::explain_mistake;
+use propedit_arguments::{asked_for, explain, explain_not_utf_8, marked_words};
+use properties_tools::propedit::diff::run_diff;
+use properties_tools::propedit::hint::{possible_files, print_reading, refused_file};
+use properties_tools::propedit::in_place::edit_file;
+use properties_tools::propedit::merge::{Merged, read_merge};
+use properties_tools::propedit::request::{Comparison, Job, Merge, Request};
+use properties_tools::propedit::streams::Sinks;
+use properties_tools::propedit::{print_out_of_memory, run};
+use std::alloc::AllocError;
+
+/// Does what these arguments ask for, and returns the exit status.
+pub fn run_words<W: CountedWrite, E: CountedWrite>(
+    rt: &HostRuntime,
+    standard: StandardInput<'_>,
+    words: &[String],
+    sinks: &mut Sinks<W, E>,
+) -> u8 {
+    let alloc = rt.alloc();
+    match asked_for(alloc, words) {
+        Ok(Request::Job(mut job)) => {
+            let note = note_among(rt, words);
+            do_job(rt, standard, &mut job, note, sinks)
+        }
+        Ok(Request::CheckFiles(files)) => check_files(rt, standard, files, sinks),
+        Ok(Request::EditFile(file)) => {
+            let note = note_among(rt, words);
+            edit_noted(rt, &file, note, &mut sinks.errors)
+        }
+        Ok(Request::Merge(asked)) => merge(rt, standard, asked, sinks),
+        Ok(Request::Diff(sources)) => compare(rt, standard, &sources, sinks),
+        Err(error) => {
+            let error = with_file(rt, error);
+            explain(alloc, error, &mut sinks.output, &mut sinks.errors)
+        }
+    }
+}
+
+/// Does what the arguments of the process ask for, of which one is not UTF-8, and returns the exit status. Files may
+/// have such names where they are checked, and nowhere else.
+pub fn run_not_utf_8<W: CountedWrite, E: CountedWrite>(
+    rt: &HostRuntime,
+    sinks: &mut Sinks<W, E>,
+) -> Result<u8, AllocError> {
+    let alloc = rt.alloc();
+    let words = marked_words(rt, alloc)?;
+    match asked_for(alloc, words.as_slice()) {
+        Ok(Request::CheckFiles(files)) => {
+            Ok(check_files(rt, StandardInput::Process, files, sinks))
+        }
+        _ => Ok(explain_not_utf_8(rt, alloc, &mut sinks.errors)),
+    }
+}
+
+// Returns why arguments ask for nothing, with the first of them that is a file by mistake.
+fn with_file<'a>(rt: &HostRuntime, error: NoRequest<'a>) -> NoRequest<'a> {
+    for (name, error) in error.if_files().iter().flatten() {
+        if is_file(rt, name) {
+            return *error;
+        }
+    }
+    error
+}
+
+// Reads the pairs of a file, and then sets them in a source.
+fn merge<W: CountedWrite, E: CountedWrite>(
+    rt: &HostRuntime,
+    standard: StandardInput<'_>,
+    asked: Merge,
+    sinks: &mut Sinks<W, E>,
+) -> u8 {
+    let alloc = rt.alloc();
+    let mut pairs = match opened_or_explain(rt, standard, &asked.pairs, &mut sinks.errors) {
+        Ok(pairs) => pairs,
+        Err(status) => return status,
+    };
+    match read_merge(alloc, asked, &mut pairs, &mut sinks.errors) {
+        Ok(Merged::Printed(mut job)) => do_job(rt, standard, &mut job, None, sinks),
+        Ok(Merged::InPlace(file)) => edit_file(rt, alloc, &file, &mut sinks.errors),
+        Err(status) => status,
+    }
+}
+
+// Opens the source, and runs the command on it, unless its bytes would go where they come from.
+pub(crate) fn do_job<W: CountedWrite, E: CountedWrite>(
+    rt: &HostRuntime,
+    standard: StandardInput<'_>,
+    job: &mut Job,
+    note: Option<Note>,
+    sinks: &mut Sinks<W, E>,
+) -> u8 {
+    let alloc = rt.alloc();
+    let mut input = match opened_or_explain(rt, standard, &job.source, &mut sinks.errors) {
+        Ok(input) => input,
+        Err(status) => return status,
+    };
+    let Ok(files) = files_among(rt, possible_files(job)) else {
+        return print_out_of_memory(&mut sinks.errors);
+    };
+    if let Some(file) = refused_file(job, &files) {
+        return explain_mistake(alloc, Mistake::FileAsKey(file), &mut sinks.errors);
+    }
+    if standard.is_typed(rt, &job.source) {
+        print_reading(&mut sinks.errors);
+    }
+    match note {
+        Some(note) => run_noted(alloc, job, &note, &mut input, sinks),
+        None => run(alloc, job, &files, &mut input, sinks),
+    }
+}
+
+// Opens two sources, and prints what differs between them.
+fn compare<W: CountedWrite, E: CountedWrite>(
+    rt: &HostRuntime,
+    standard: StandardInput<'_>,
+    sources: &Comparison,
+    sinks: &mut Sinks<W, E>,
+) -> u8 {
+    let mut old = match opened_or_explain(rt, standard, &sources.old, &mut sinks.errors) {
+        Ok(old) => old,
+        Err(status) => return status,
+    };
+    let mut new = match opened_or_explain(rt, standard, &sources.new, &mut sinks.errors) {
+        Ok(new) => new,
+        Err(status) => return status,
+    };
+    run_diff(rt.alloc(), sources, &mut old, &mut new, sinks)
+}
