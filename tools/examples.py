@@ -114,7 +114,6 @@ GIVEN = {
 # What a name is given instead, if the example has this text.
 SPECIAL = {
     ("map", "write_sorted"): "let map: BTreeMap<String, String> = BTreeMap::new(alloc);",
-    ("map", "write_map"): "let map: BTreeMap<String, String> = BTreeMap::new(alloc);",
     ("file", "edit_file"): 'let file = FileChange { path: String::from_str(alloc, "my.properties")?, encoding: Encoding::UTF_8, '
     f"change: Change::Edits({EDITS}), missing: Missing::Refuse, verbose: false }};",
     ("number", "Edit::Put"): 'let number = String::from_str(alloc, "8080")?;',

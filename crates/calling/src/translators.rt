@@ -15,7 +15,9 @@ pub fn write_catalogue<W: CountedWrite>(
     writer.set_kv_separator(" = ")?;
     writer.write_comment("Translate what is right of the first '='.")?;
     writer.write("language", language)?;
-    writer.write_map(messages)?;
+    for (key, message) in messages {
+        writer.write(key.as_str(), message.as_str())?;
+    }
     writer.finish()
 }
 

@@ -2,11 +2,10 @@
 use Rattle.std.proofs.Common.{◌≡◌, ℕ, ◌+◌, ◌^◌, ◌≤◌, List, [], ◌∷◌, ◌++◌, length, refl, ap, inl, inr, append-nil, length-append, length-drop, arith}
 use Rattle.std.proofs.lemmas.Bool.{cases_Bool}
 use Rattle.properties_format.specs.Text.{LineEnding, lf, cr, crlf, line_ending_text, Piece, piece_characters}
-use Rattle.properties_format.specs.Encoding.{Encoding, IsPieces, begins_with, byte_order_mark, utf_8, utf_8_bom, utf_16be_bom, utf_16le_bom}
+use Rattle.properties_format.specs.Encoding.{Encoding, IsPieces, begins_with, byte_order_mark, utf_8_bom, utf_16be_bom, utf_16le_bom}
 use Rattle.properties_format.specs.Lines.{Ended, Line, Lines, IsLines, fault, line_endings, numbered, put_together}
 use Rattle.properties_format.specs.Items.{last_entries}
 use Rattle.properties_format.specs.ItemsToCome.{start, in_force, AreFurtherLines, PassesAll}
-use Rattle.properties_format.specs.Computed.Body.{held_of, held_lines_of}
 use Rattle.properties_format.specs.Computed.Encoding.{pieces_of}
 use Rattle.properties_format.specs.Computed.ItemsToCome.{text_to_come}
 use Rattle.properties_format.specs.Computed.Lines.{lines_of}
@@ -64,17 +63,6 @@ body-within e b =
     ]
 
 -- ---- the lines of a body in UTF-8
-
-held-count : (e : Encoding) (ls : List Ended) (last : List ℕ) → length (held_of e ls last) ≡ length ls + 1
-held-count e [] last = refl
-held-count e (l ∷ ls) last = let others = held-count e ls last in omega arith
-
--- there is at most one more of them than bytes
-pub few-held : (body : List ℕ) → length (held_lines_of utf_8 body) ≤ length body + 1
-few-held body =
-    let count = held-count utf_8 (lines_of body).ended (lines_of body).last in
-    let within = text-ends body (lines_of body) (lines_of-meets body) in
-    omega arith
 
 -- ---- the lines that a reader passes
 

@@ -82,7 +82,7 @@ finds-later k ks key None other h = (other, h)
 finds-later k ks key (Some number) other h =
     record { before = k ∷ h.before; after = h.after; division = ap (λ v. k ∷ v) h.division; none = (other, h.none) }
 
-not_same : (x y : List ℕ) → bytes_eq x y ≡ false → x ≢ y
+pub not_same : (x y : List ℕ) → bytes_eq x y ≡ false → x ≢ y
 not_same x y e q = let t = (bytes_eq-Decides x y).1 q in cc
 
 finds-meets : (keys : List KeyPlace) (key : List ℕ) → Finds keys key (first_place keys key)

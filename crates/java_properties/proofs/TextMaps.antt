@@ -1,5 +1,5 @@
 -- Maps that are read, and maps that are written.
-use Rattle.properties_items.proofs.TextMaps.Values.{same-characters, value-inserted, value-inserted-sorted}
+use Rattle.properties_items.proofs.TextMaps.Values.{value-inserted, value-inserted-sorted}
 pub use Rattle.properties_items.proofs.TextMaps.Values
 pub mod Reading
 pub mod Lines
@@ -7,5 +7,3 @@ pub mod Writing
 pub mod ReadBack
 
 pub ruleset puts = (value-inserted, value-inserted-sorted)
-
-pub ruleset texts = (same-characters)

@@ -1,5 +1,5 @@
 -- Maps of texts: the effects of reading and writing one. A map is seen as its entries, whatever its type.
-use Rattle.std.specs.Prelude.{◌≡◌, ◌⊎◌, ℕ, List, [], ◌∷◌, ◌++◌, map, Option, Result, Ok, Err, false, bytes_eq, string_bytes, ◌+◌, length}
+use Rattle.std.specs.Prelude.{◌≡◌, ◌⊎◌, ℕ, List, [], ◌∷◌, ◌++◌, map, Option, Result, Ok, Err, bytes_eq, string_bytes}
 use Rattle.std.specs.Str.{chars}
 use Rattle.std.specs.Borrow.{Bor}
 use Rattle.std.specs.HashMap.{HashMap}
@@ -11,15 +11,15 @@ use Rattle.std.specs.Cmp.Lexicographic.{slice_cmp}
 use Rattle.std.specs.declared.string.String.{String}
 use Rattle.counted_io.specs.Streams.{Reader, Sink, HasWritten}
 use Rattle.properties_format.specs.Encoding.{Encoding, windows_1252}
-use Rattle.properties_format.specs.Items.{Entry, IsItems, pair}
+use Rattle.properties_format.specs.Items.{Entry, IsItems}
 use Rattle.properties_format.specs.Lines.{end}
 use Rattle.properties_format.specs.Maps.{HasValue, IsMap}
-use Rattle.properties_format.specs.Writing.{Pair, items_after, Call, pair_call, flush_call, wrote, AreAccepted, AreOfScalars}
+use Rattle.properties_format.specs.Writing.{Pair, items_after, Call, pair_call, flush_call, wrote}
 use Rattle.properties_format.specs.Settings.{default_settings}
-use Rattle.java_properties.specs.Calls.{StopsAtCall, HasMade}
+use Rattle.java_properties.specs.Calls.{StopsAtCall}
 use Rattle.properties_items.specs.Errors.{Refuses}
-use Rattle.java_properties.specs.PropertiesWriter.{Writing, new_writer, RefusesAsFailed, WritesLine}
-use Rattle.java_properties.specs.ReadBack.{IsReadBackBefore, IsGoodWriter, IsCleanWriting, IsReadBack}
+use Rattle.java_properties.specs.PropertiesWriter.{Writing, new_writer}
+use Rattle.java_properties.specs.ReadBack.{IsReadBackBefore}
 use Rattle.java_properties.specs.ReadLines.{entries_in, ReadsWhole, StopsReading}
 use Rattle.java_properties.specs.WholeSources.{PutsWhole}
 use Rattle.properties_items.specs.declared.error.ErrorKind.TheVariants as kind
@@ -148,84 +148,3 @@ pub record IsMapReadBackBefore {W Y Z : Type 0} (sink : Sink W) (a : Encoding) (
 abbrev pub MapReadsBack : {W Y Z : Type 0} → Sink W → Encoding → Entries Y Z → W → Result Unit PropertiesError → W → Type 0
 MapReadsBack sink a entries old (Ok done) new = IsMapReadBack sink a entries old new
 MapReadsBack sink a entries old (Err error) new = Refuses kind.Memory old error new ⊎ IsMapReadBackBefore sink a entries old error new
-
--- ---- The lines of a map, which a writer with any settings writes after what it wrote before.
-
--- No write failed before. Each of these pairs was accepted and written as one line, in order, and was counted. Nothing
--- else changed.
-pub record HasWrittenLines {W : Type 0} (sink : Sink W) (old : Writing W) (pairs : List Texts) (new : Writing W) : Type 0 where
-  pub live : old.failed ≡ false
-  pub accepted : AreAccepted old.settings (map character_pair pairs)
-  pub made : HasMade sink old (calls_for pairs) new
-  pub after : new ≡ record old { sink = new.sink; lines = old.lines + length pairs }
-
--- The line of one of the pairs was refused or failed, and those of the pairs before it were written.
-pub record StopsAtLine {W : Type 0} (sink : Sink W) (old : Writing W) (pairs : List Texts) (error : PropertiesError) (new : Writing W) : Type 0 where
-  pub before : List Texts
-  pub texts : Texts
-  pub others : List Texts
-  pub division : pairs ≡ before ++ (texts ∷ others)
-  pub middle : Writing W
-  pub written : HasWrittenLines sink old before middle
-  pub fails : WritesLine sink middle (pair (chars texts.0) (chars texts.1)) (Err error) new
-
-abbrev pub WritesLines : {W : Type 0} → Sink W → Writing W → List Texts → Result Unit PropertiesError → Writing W → Type 0
-WritesLines sink old pairs (Ok done) new = HasWrittenLines sink old pairs new
-WritesLines sink old pairs (Err error) new = StopsAtLine sink old pairs error new
-
--- The lines of a map's pairs were written, in the order of their keys, or why that stopped.
-pub record WritesEntryLines {W Y Z : Type 0} (sink : Sink W) (old : Writing W) (entries : Entries Y Z) (result : Result Unit PropertiesError)
-    (new : Writing W) : Type 0 where
-  pub pairs : List Texts
-  pub in_order : AreInOrder entries pairs
-  pub writes : WritesLines sink old pairs result new
-
--- The effect of writing a map's lines. If a write failed before, the call is refused, even if the map is empty.
-abbrev pub WritesMapLines : {W Y Z : Type 0} → Sink W → Writing W → Entries Y Z → Result Unit PropertiesError → Writing W → Type 0
-WritesMapLines sink old entries (Ok done) new = WritesEntryLines sink old entries (Ok done) new
-WritesMapLines sink old entries (Err error) new = RefusesAsFailed old error new ⊎ WritesEntryLines sink old entries (Err error) new
-
--- ---- reading what was written
-
--- If no line was written before the map's, they read back as the map that was written.
-abbrev pub LinesReadBack : {W Y Z : Type 0} → Sink W → Writing W → Entries Y Z → Result Unit PropertiesError → Writing W → Type 0
-LinesReadBack sink old entries (Ok done) new = old.lines ≡ 0 → IsMapReadBack sink old.encoding entries old.sink new.sink
-LinesReadBack sink old entries (Err error) new = Unit {0}
-
--- These calls made the one writer the other, and wrote cleanly.
-pub record IsWrittenCleanly {W : Type 0} (sink : Sink W) (first : Writing W) (calls : List Call) (old : Writing W) : Type 0 where
-  pub good : IsGoodWriter first
-  pub scalars : AreOfScalars calls
-  pub clean : IsCleanWriting first calls
-  pub made : HasMade sink first calls old
-
--- What the calls wrote reads back, and after it the lines of the map's pairs.
-pub record AreAllReadBack {W Y Z : Type 0} (sink : Sink W) (first : Writing W) (calls : List Call) (entries : Entries Y Z) (new : Writing W) : Type 0 where
-  pub pairs : List Texts
-  pub in_order : AreInOrder entries pairs
-  pub read_back : IsReadBack sink first (calls ++ calls_for pairs) new
-
--- The line of one of the map's pairs was refused or failed, and what was written before it reads back.
-pub record AreReadBackBefore {W Y Z : Type 0} (sink : Sink W) (first : Writing W) (calls : List Call) (entries : Entries Y Z) (error : PropertiesError)
-    (new : Writing W) : Type 0 where
-  pub before : List Texts
-  pub texts : Texts
-  pub others : List Texts
-  pub in_order : AreInOrder entries (before ++ (texts ∷ others))
-  pub middle : Writing W
-  pub read_back : IsReadBack sink first (calls ++ calls_for before) middle
-  pub fails : WritesLine sink middle (pair (chars texts.0) (chars texts.1)) (Err error) new
-
--- The writer had failed, and what the calls wrote reads back.
-pub record IsFailedReadBack {W : Type 0} (sink : Sink W) (first : Writing W) (calls : List Call) (old : Writing W) (error : PropertiesError)
-    (new : Writing W) : Type 0 where
-  pub refuses : RefusesAsFailed old error new
-  pub read_back : IsReadBack sink first calls new
-
--- What was written before and what is written now read back together, one item a line, if all of it was written cleanly.
-abbrev pub LinesReadBackAfter : {W Y Z : Type 0} → Sink W → Writing W → Entries Y Z → Result Unit PropertiesError → Writing W → Type 0
-LinesReadBackAfter sink old entries (Ok done) new = (first : Writing _) (calls : List Call) → IsWrittenCleanly sink first calls old
-    → AreAllReadBack sink first calls entries new
-LinesReadBackAfter sink old entries (Err error) new =
-    (first : Writing _) (calls : List Call) → IsWrittenCleanly sink first calls old
-    → IsFailedReadBack sink first calls old error new ⊎ AreReadBackBefore sink first calls entries error new

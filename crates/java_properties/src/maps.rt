@@ -9,15 +9,12 @@ ghost use Rattle.properties_format.specs.Encoding.{output_encoding, windows_1252
 ghost use Rattle.properties_text.specs.Encoding.{encoding_of, line_of};
 ghost use Rattle.properties_items.specs.Texts.{characters, Entries};
 ghost use Rattle.java_properties.specs.Maps.{texts_of, HasPut, ReadsEntries, ReadsMap, ReadsSorted, WritesPairs};
-ghost use Rattle.java_properties.specs.Maps.{WritesMap, MapReadsBack, WritesMapLines, LinesReadBack};
-ghost use Rattle.java_properties.specs.Maps.{LinesReadBackAfter};
+ghost use Rattle.java_properties.specs.Maps.{WritesMap, MapReadsBack};
 
 use crate::iter::items::ItemReader;
-use crate::laws;
-use crate::writer::PropertiesWriter;
 use crate::writer::engine::{Content, Engine};
 use counted_io::{CountedRead, CountedWrite};
-use properties_items::error::{ErrorKind, PropertiesError, make};
+use properties_items::error::PropertiesError;
 use properties_items::line::LineContent;
 use properties_text::encoding::{Encoding, LineEncoding};
 use std::alloc::{AllocError, Global};
@@ -209,39 +206,4 @@ fn write_pairs<W: CountedWrite>(
         engine.write_line(writer, Content::KVPair(key.as_str(), value.as_str()))?;
     }
     engine.flush(writer)
-}
-
-impl<W: CountedWrite> PropertiesWriter<W> {
-    /// Writes each entry of a map as one line, as [`write`](PropertiesWriter::write) writes a pair: with this writer's
-    /// encoding and settings. It doesn't flush the sink.
-    ///
-    /// The keys are in ascending order of their UTF-8 bytes. The call ends at the first entry that isn't written and
-    /// returns its error. The lines before it have been written. An empty key is the first one, so if it is refused,
-    /// nothing has been written. If an earlier write failed, it fails with `Failed`, even if the map is empty.
-    ///
-    /// If no line was written before, what is written reads back as the same map. Otherwise it reads back with the lines
-    /// before it, unless one of these is a comment whose prefix holds a backslash.
-    ///
-    /// ```text
-    /// writer.set_readable(true);
-    /// writer.write_comment("for translators")?;
-    /// writer.write_map(&map)?;
-    /// writer.finish()?;
-    /// // The sink holds `# for translators` and `greeting=hello world`, each ended by a line feed.
-    /// ```
-    pub fn write_map(&mut self, map: &BTreeMap<String, String>) -> Result<(), PropertiesError>
-        ensures writes { WritesMapLines W.CountedWrite self.old map.now.entries result self.new }
-        ensures reads_back { LinesReadBack W.CountedWrite self.old map.now.entries result self.new }
-        ensures all_read_back { LinesReadBackAfter W.CountedWrite self.old map.now.entries result self.new }
-        ensures same_sink { IsSameSink W.CountedWrite self.old.sink self.new.sink }
-    {
-        if self.engine.has_failed() {
-            return Err(make::bare(ErrorKind::Failed));
-        }
-        laws::settings_are_good(self);
-        for (key, value) in map {
-            self.write(key.as_str(), value.as_str())?;
-        }
-        Ok(())
-    }
 }

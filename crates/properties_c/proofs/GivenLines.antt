@@ -53,17 +53,6 @@ plain-outcome x what h none = read-outcome x what h ∙ plain-split x what h non
 
 -- ---- what it gives
 
--- A line of blanks gives nothing,
-pub blank-line : (a : Asked) (number : ℕ) (x bytes : List ℕ) → IsSplit x blank → PushesLine a number x bytes (Ok tt) bytes
-blank-line a number x bytes h = (ignored, (blank, h, refl), refl)
-
--- nor does one that is passed over.
-pub passed-line : (a : Asked) (number : ℕ) (x bytes : List ℕ) (what : Logical) (t : Texts) → IsSplit x what → asked_texts a what ≡ t → passes t ≡ true
-    → PushesLine a number x bytes (Ok tt) bytes
-passed-line a number x bytes what PassedOver h is passed = (ignored, (what, h, rw is refl), refl)
-passed-line a number x bytes what Raw h is passed = absurd (cc)
-passed-line a number x bytes what Read h is passed = absurd (cc)
-
 pub is-read : (t : Texts) → reads t ≡ true → t ≡ Read
 is-read Read h = refl
 is-read Raw h = absurd (cc)

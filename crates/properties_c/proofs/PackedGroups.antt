@@ -5,7 +5,7 @@ use Rattle.std.specs.Str.{IsUtf8, chars}
 use Rattle.std.proofs.lemmas.Str.{encodes-chars}
 use Rattle.properties_format.specs.Items.{Outcome}
 use Rattle.properties_format.specs.Split.{Logical, blank, comment, pair, IsSplit}
-use Rattle.properties_format.proofs.Split.Unique.{split_of-only}
+use Rattle.properties_format.proofs.Split.Laws.{split-unique}
 use Rattle.properties_editing.specs.Views.{OpenView, GivesNext, TakesNext, IsGroup, IsRawKey, IsRawValue, group_kind, viewed_line, text_or_value}
 use Rattle.properties_editing.specs.declared.group.GroupKind.TheVariants as group
 use Rattle.properties_editing.specs.declared.group.ViewedGroup.{ViewedGroup}
@@ -50,11 +50,8 @@ none-left old new (Some group) h none = absurd (none group refl)
 
 -- ---- the texts of a group as they stand
 
-pub same-split : (x : List ℕ) (p q : Logical) → IsSplit x p → IsSplit x q → p ≡ q
-same-split x p q h k = split_of-only x p h ∙ sym (split_of-only x q k)
-
 pub raw-value : (x text : List ℕ) (what : Logical) → IsSplit x what → IsRawValue x text → text ≡ given.outcome_value (standing what)
-raw-value x text what h raw = raw.2 ∙ ap text_or_value (same-split x raw.0 what raw.1 h) ∙ by what
+raw-value x text what h raw = raw.2 ∙ ap text_or_value (split-unique x raw.0 what raw.1 h) ∙ by what
   where
     by : (what : Logical) → text_or_value what ≡ given.outcome_value (standing what)
     by blank = refl
@@ -62,9 +59,9 @@ raw-value x text what h raw = raw.2 ∙ ap text_or_value (same-split x raw.0 wha
     by (pair key value) = refl
 
 pub raw-key : (x key : List ℕ) (what : Logical) → IsSplit x what → IsRawKey x key → (group_kind what ≡ group.Comment → ⊥) → key ≡ key_in (standing what)
-raw-key x key what h (blank, k) other = k.1 ∙ ap (λ w. key_in (standing w)) (same-split x blank what k.0 h)
-raw-key x key what h (comment text, k) other = absurd (other (ap group_kind (same-split x what (comment text) h k.0)))
-raw-key x key what h (pair name value, k) other = k.1 ∙ ap (λ w. key_in (standing w)) (same-split x (pair name value) what k.0 h)
+raw-key x key what h (blank, k) other = k.1 ∙ ap (λ w. key_in (standing w)) (split-unique x blank what k.0 h)
+raw-key x key what h (comment text, k) other = absurd (other (ap group_kind (split-unique x what (comment text) h k.0)))
+raw-key x key what h (pair name value, k) other = k.1 ∙ ap (λ w. key_in (standing w)) (split-unique x (pair name value) what k.0 h)
 
 -- The sign of a comment is no key.
 pub no-key : (what : Logical) → group_kind what ≡ group.Comment → key_in (standing what) ≡ []

@@ -1,7 +1,7 @@
 -- The text of a source in two parts, and its groups.
 use Rattle.std.proofs.Common.{arith, ◌≡◌, ℕ, ◌<◌, ◌==◌, true, false, List, [], ◌∷◌, ◌++◌, refl, ap, ap₂, sym, subst, ◌∙◌, inl, inr, append_assoc, append-nil, lit<}
 use Rattle.std.proofs.lemmas.Bool.{cases_Bool}
-use Rattle.std.proofs.lemmas.Bool.Decides.{eqb_tells}
+use Rattle.properties_editing.proofs.LastPairs.{cr-last}
 use Rattle.properties_format.specs.Text.{line_feed, carriage_return, backslash, is_line_ending, line_ending_text, Piece, piece_characters}
 use Rattle.properties_format.specs.Encoding.{Encoding, windows_1252, utf_8, utf_16le, utf_16be, IsPieces, IsAligned, ascii_bytes, byte_order_mark, begins_like_bom}
 use Rattle.properties_format.specs.Lines.{Ended, put_together, is_open, without_last}
@@ -94,14 +94,6 @@ ends-open x h =
     let whole = (lines_of-meets x).text ∙ rest.1 ∙ ap (λ v. rest.0 ++ v) (open-ends last h) in
     (rest.0 ++ without_last last, whole ∙ sym (append_assoc rest.0 (without_last last) (backslash ∷ [])))
 
-ends-cr : (x : List ℕ) → ends_in_cr x ≡ true → (y : List ℕ) × (x ≡ y ++ carriage_return ∷ [])
-ends-cr [] h = absurd (cc)
-ends-cr (c ∷ []) h = elim (eqb_tells c carriage_return) [
-  | inl k ↦ ([], ap (λ v. v ∷ []) k.1)
-  | inr k ↦ absurd (cc (k.0, h))
-]
-ends-cr (c ∷ d ∷ x) h = let rest = ends-cr (d ∷ x) h in (c ∷ rest.0, ap (λ v. c ∷ v) rest.1)
-
 -- ---- the groups
 
 -- The text of two such parts, and its groups.
@@ -125,7 +117,7 @@ module _ (e : Encoding) (front : List ℕ) where
         | inr k ↦ k
       ] in
       let entire : ends_in_cr x ≡ true → (c == line_feed) ≡ false =
-      λ k. let b = ends-cr x k in whole (ends-in f.encoding f.body b.0 carriage_return (lit< tt) b.1) in
+      λ k. let b = cr-last x k in whole (ends-in f.encoding f.body b.0 carriage_return (lit< tt) b.1) in
       rw division (record {
         text = decoded-part e front c (more ++ after) small aligned ∙ ap (λ v. x ++ v) (sym second);
         groups = subst (ArePartGroups x) (sym second) (part-groups x c (piece_characters (pieces_of f.encoding (more ++ after))) ends entire shut);

@@ -1,10 +1,10 @@
 -- Where the front of a part ends, and how many line endings it has.
 use Rattle.std.proofs.Common.{◌≡◌, ◌⊎◌, ℕ, ◌+◌, ◌-◌, ◌%◌, ◌≤◌, ◌==◌, Bool, true, List, ◌++◌, length, take, drop, ap, ap₂, sym, subst, ◌∙◌, inl, inr, arith, length-append, length-drop}
-use Rattle.std.specs.Prelude.{◌&&◌, ◌||◌, not, Some, None}
+use Rattle.std.specs.Prelude.{◌&&◌, ◌||◌, not, Some}
 use Rattle.std.specs.Bool.{Decides}
 use Rattle.std.specs.List.{starts_with, ends_with}
 use Rattle.std.proofs.Math.Seq.{drop-append_seam, take-append_seam}
-use Rattle.std.proofs.lemmas.Bool.Decides.{Decides-and, Decides-at, Decides-eqb, Decides-like, Decides-not, Decides-or, eqb_tells}
+use Rattle.std.proofs.lemmas.Bool.Decides.{Decides-and, Decides-at, Decides-eqb, Decides-like, Decides-not, Decides-or}
 use Rattle.std.proofs.lemmas.List.{append_cancel_right, drop-drop, take-append-drop}
 use Rattle.std.proofs.lemmas.Slice.Eq.{slice_eq-Decides}
 use Rattle.properties_format.specs.Text.{line_feed, carriage_return, backslash}
@@ -85,35 +85,6 @@ line-end-decides e before after cr lf after_cr stays whole is_cr is_lf is_after 
 pub record IsSearchedTo (e : Encoding) (body : List ℕ) (at : ℕ) : Type 0 where
   pub within : at ≤ length body
   pub last : (before after : List ℕ) → body ≡ before ++ after → IsLineEnd e before after → length before ≤ at
-
-pub searched-none : (e : Encoding) (body : List ℕ) → IsSearchedTo e body (length body)
-searched-none e body = record { within = omega arith; last = λ before after is k. omega (arith, ap length is, length-append before after) }
-
-ends-at : (e : Encoding) (before after : List ℕ) (at : ℕ) → length before ≡ at → IsLineEnd e before after
-    → IsLineEnd e (take at (before ++ after)) (drop at (before ++ after))
-ends-at e before after at same k = rw (sym same, take-append_seam before after, drop-append_seam before after) k
-
--- A place where no line ends is passed.
-pub searched-next : (e : Encoding) (body : List ℕ) (at : ℕ) → IsSearchedTo e body at → (IsLineEnd e (take at body) (drop at body) → ⊥) → (at ≡ 0 → ⊥)
-    → IsSearchedTo e body (at - 1)
-searched-next e body at h none some = record {
-  within = omega (arith, h.within);
-  last = λ before after is k.
-      let upto = h.last before after is k in
-      let other : length before ≡ at → ⊥ = λ same. none (rw is (ends-at e before after at same k)) in
-      below (length before) at upto other some;
-}
-  where
-    below : (n m : ℕ) → n ≤ m → (n ≡ m → ⊥) → (m ≡ 0 → ⊥) → n ≤ m - 1
-    below n m h other some = elim (eqb_tells n m) [ inl k ↦ absurd (other k.1) | inr k ↦ omega (arith, h, k.1) ]
-
-pub searched-all : (e : Encoding) (body : List ℕ) (at : ℕ) → IsSearchedTo e body at → (IsLineEnd e (take at body) (drop at body) → ⊥) → at ≡ 0
-    → TellsLast e body None
-searched-all e body at h none is_zero =
-    λ before after is k.
-    let upto = h.last before after is k in
-    let same : length before ≡ at = omega arith in
-    none (rw is (ends-at e before after at same k))
 
 -- ---- the division
 

@@ -11,17 +11,17 @@ use Rattle.counted_io.specs.declared.counted.Counted.{Counted}
 use Rattle.properties_format.specs.Encoding.{Encoding, output_encoding}
 use Rattle.properties_format.specs.Items.{Content, comment, pair}
 use Rattle.properties_format.specs.Settings.{Settings}
-use Rattle.properties_format.specs.Writing.{Call, answers, comment_call, pair_call, wrote}
+use Rattle.properties_format.specs.Writing.{answers, comment_call, pair_call, wrote}
 use Rattle.java_properties.specs.Calls.{after_calls, HasMade, HasMadeCall}
 use Rattle.java_properties.specs.PropertiesWriter.{Writing, WritesLine, IsRefusedBy, call_of, new_writer, with_settings}
-use Rattle.java_properties.proofs.Calls.Made.{made-none, made-quiet, made-line, pair-made, made-more, answers-more}
+use Rattle.java_properties.proofs.Calls.Made.{made-quiet, made-line, pair-made, made-more, answers-more}
 use Rattle.properties_items.specs.Errors.{kind_of}
 use Rattle.properties_items.specs.declared.error.ErrorKind.{ErrorKind}
 use Rattle.properties_items.specs.declared.error.ErrorKind.TheVariants as kind
 use Rattle.properties_items.specs.declared.error.PropertiesError.{PropertiesError}
 use Rattle.properties_c.specs.Packed.{lines, BeginsList}
 use Rattle.properties_c.specs.Private.Lists.{IsFirstThing}
-use Rattle.properties_c.specs.Private.Results.{acceptance, accepted_for, WritesContent, HasAddedAll, HasOpened, HasWrittenList, RefusesCalls, RefusesLines, RefusesListFirst, RefusesSettings, has_refused_call, opening}
+use Rattle.properties_c.specs.Private.Results.{acceptance, accepted_for, WritesContent, HasOpened, has_refused_call}
 use Rattle.properties_c.specs.Writing.{AreGood}
 use Rattle.properties_c.specs.declared.status.Status.{Status}
 use Rattle.properties_c.specs.declared.status.Status.TheVariants.{EmptyKey}
@@ -80,14 +80,6 @@ refused-more (true ∷ answered) b = refused-more answered b
 refused-more (false ∷ answered) b = refl
 
 module _ {W : Type 0} {sink : Sink W} where
-  pub added-none : (list : List ℕ) (w : Writing W) → HasAdded sink list w false list w
-  added-none list w = record {
-    contents = [];
-    begins = record { records = []; division = refl; meant = tt };
-    made = made-none w;
-    refuses = refl;
-  }
-
   pub added-more : {list rest after : List ℕ} {old middle new : Writing W} {refused accepted : Bool} {content : Content}
       → HasAdded sink list old refused rest middle → IsFirstThing lines rest content after → HasMadeCall sink middle (call_of content) accepted new
       → HasAdded sink list old (refused || not accepted) after new
@@ -119,17 +111,6 @@ module _ {W : Type 0} {sink : Sink W} where
 
 -- ---- what was written
 
-pub calls-refused : (s : Settings) (calls : List Call) (status : Status) → RefusesSettings s status → RefusesCalls s calls status
-calls-refused s calls EmptyKey h = absurd h
-calls-refused s calls other h = h
-
--- The settings are refused, and the list first.
-pub settings-refused : (s : Settings) (list : List ℕ) (settings status : Status) → RefusesSettings s settings → RefusesListFirst list settings status
-    → RefusesLines s list status
-settings-refused s list settings status h (inl k) = inl k
-settings-refused s list settings status h (inr (contents, are, same)) =
-    inr (contents, are, rw same (calls-refused s (map call_of contents) settings h))
-
 not-false : (b : Bool) → not b ≡ false → b ≡ true
 not-false true e = refl
 not-false false e = absurd (cc)
@@ -148,25 +129,3 @@ has-opened {e} {s} {goes_on} {new = new} good is none on k moved =
       wrote_before = moved ∙ ap (λ (v : Writing (Counted (Vec ℕ))). (counted_inner v.sink).items ++ wrote v.encoding v.settings v.lines calls) is
           ∙ ap (λ x. x ++ wrote (output_encoding e) s 0 calls) none;
     })
-
--- A line wasn't accepted.
-pub list-not_accepted : {e : Encoding} {s : Settings} {goes_on : Bool} {w new : Writing (Counted (Vec ℕ))} {sink : Sink (Counted (Vec ℕ))} {list : List ℕ}
-    → HasOpened e s goes_on w → HasAddedAll sink list w true new → RefusesLines s list EmptyKey
-list-not_accepted h k =
-    inr (k.contents, k.are_lines, (h.good, ap (λ v. has_refused_call v (map call_of k.contents)) (sym (ap (λ (v : Writing _). v.settings) h.is)) ∙ sym k.refuses))
-
--- All were, and the sink has the opening and these.
-pub list-written : {e : Encoding} {s : Settings} {goes_on : Bool} {w new : Writing (Counted (Vec ℕ))} {sink : Sink (Counted (Vec ℕ))} {list : List ℕ}
-    → HasOpened e s goes_on w → (k : HasAddedAll sink list w false new)
-    → (counted_inner new.sink).items ≡ (counted_inner w.sink).items ++ wrote w.encoding w.settings w.lines (map call_of k.contents)
-    → HasWrittenList e s goes_on list (counted_inner new.sink).items
-list-written {e} {s} {goes_on} {w} h k moved =
-    let calls = map call_of k.contents in
-    record {
-      contents = k.contents;
-      are_lines = k.are_lines;
-      good = h.good;
-      accepted = ap (λ v. has_refused_call v calls) (sym (ap (λ (v : Writing _). v.settings) h.is)) ∙ sym k.refuses;
-      is = moved ∙ ap (λ x. x ++ wrote w.encoding w.settings w.lines calls) h.wrote_before
-          ∙ ap (λ (v : Writing (Counted (Vec ℕ))). opening e s goes_on ++ wrote v.encoding v.settings v.lines calls) h.is;
-    }

@@ -6,10 +6,9 @@ use Rattle.std.specs.declared.string.String.{String}
 use Rattle.std.proofs.lemmas.List.{drop_more}
 use Rattle.properties_format.specs.Edits.{Edit}
 use Rattle.properties_format.specs.Encoding.{Encoding}
-use Rattle.java_properties.specs.Editing.{edit_in, edits_in, IsSameEdit}
+use Rattle.java_properties.specs.Editing.{edit_in, edits_in}
 use Rattle.java_properties.specs.Maps.{characters}
 use Rattle.properties_editing.specs.declared.edit.Edit as editor
-use Rattle.properties_editing.specs.declared.edit.Edit.TheVariants.{Put, Remove, SetValue}
 use Rattle.properties_changing.specs.Private.Collected.{with_values}
 use Rattle.properties_tables.specs.Values.{value_texts, HaveValues}
 use Rattle.properties_changing.specs.Change.{edited_keys, AreKnown}
@@ -22,10 +21,6 @@ known-are e source [] (value ∷ values) h = absurd h
 known-are e source (edit ∷ edits) [] h = absurd h
 known-are e source (edit ∷ edits) (Some value ∷ values) h = inl ((value, h.0), (with_values edits values, known-are e source edits values h.1, refl))
 known-are e source (edit ∷ edits) (None ∷ values) h = inr (h.0, known-are e source edits values h.1)
-
-pub no-values : (edits : List Edit) → with_values edits [] ≡ []
-no-values [] = refl
-no-values (edit ∷ edits) = refl
 
 with-some : {Z : Type 0} (edit : Edit) (edits : List Edit) (value : Option (String Z)) (values : List (Option (List ℕ))) → is_some value ≡ true
     → with_values (edit ∷ edits) (option_map characters value ∷ values) ≡ edit ∷ with_values edits values

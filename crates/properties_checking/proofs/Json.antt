@@ -13,7 +13,7 @@ use Rattle.json.specs.Tree.{depth, json_tokens, members_depth, members_tokens, H
 use Rattle.json.proofs.Printed.Trees.{document-print}
 use Rattle.properties_format.specs.Text.{line_feed}
 use Rattle.properties_checking.specs.JsonLines.{AreJsonLines, IsJsonLine, IsReportText}
-use Rattle.properties_checking.specs.Private.Objects.{member_tokens, members_of, members_value, AddsJsonLine, AddsReport, HasNumber}
+use Rattle.properties_checking.specs.Private.Objects.{member_tokens, members_of, members_value, AddsJsonLine, AddsReport}
 use Rattle.properties_checking.specs.declared.objects.Member.{Member}
 use Rattle.properties_checking.specs.declared.objects.Member.TheVariants.{Number, Text, Truth}
 use Rattle.properties_checking.specs.declared.request.Report.{Report}
@@ -72,11 +72,6 @@ members-flat [] = refl
 members-flat (Text name text ∷ ms) = let d = members-flat ms in omega arith
 members-flat (Number name n ∷ ms) = let d = members-flat ms in omega arith
 members-flat (Truth name truth ∷ ms) = let d = members-flat ms in omega arith
-
-pub one-number : (m : Member) (ms : List Member) → HasNumber m → MembersHaveNumbers (members_of ms) → MembersHaveNumbers (members_of (m ∷ ms))
-one-number (Text name text) ms number numbers = (tt, numbers)
-one-number (Number name n) ms number numbers = (number, numbers)
-one-number (Truth name truth) ms number numbers = (tt, numbers)
 
 pub members-line : (ms : List Member) (line : List ℕ) → MembersHaveNumbers (members_of ms)
     → line ≡ print (begin_object ∷ (flat_map member_tokens ms ++ end_object ∷ [])) ++ line_feed ∷ [] → IsJsonLine (members_value ms) line

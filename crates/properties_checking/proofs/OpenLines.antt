@@ -5,7 +5,7 @@ use Rattle.std.specs.List.{flat_map}
 use Rattle.std.specs.Option.{is_some}
 use Rattle.memchr.specs.Find.{FindsNeedle, OccursAt}
 use Rattle.std.proofs.lemmas.Bool.Decides.{eqb_tells}
-use Rattle.std.proofs.lemmas.Bool.{cases_Bool, and_parts, or_from, or_parts}
+use Rattle.std.proofs.lemmas.Bool.{cases_Bool, and_parts, or_from, or_parts, or_right, and_right}
 use Rattle.std.proofs.lemmas.List.{length-take-le, reverse-append, reverse-reverse, take-append-drop}
 use Rattle.std.proofs.Math.Seq.{drop-append_seam, take-append_seam}
 use Rattle.properties_format.specs.Text.{backslash, begins, form_feed, is_blank, is_empty, piece_characters, space, tab, without_leading_blanks}
@@ -24,7 +24,7 @@ use Rattle.properties_format.proofs.Encodings.Pieces.{decoded_of-meets, pieces_o
 use Rattle.properties_format.proofs.Encodings.Characters.{pieces_of-ascii}
 use Rattle.properties_format.proofs.Groups.Meets.{groups_of-meets}
 use Rattle.properties_format.specs.Text.{LineEnding, lf, cr, crlf}
-use Rattle.properties_format.proofs.Groups.Open.{is_open-backslash, is_open-other, open-ends}
+use Rattle.properties_format.proofs.Groups.Open.{is_open-other, open-ends}
 use Rattle.properties_format.proofs.Groups.Steps.{groups_after-closed, groups_after-open, groups_of-closed, groups_of-comment_line, groups_of-open, groups_after-close, groups_after-leave}
 use Rattle.properties_lines.specs.LineSearch.{unit_size}
 use Rattle.properties_lines.specs.Private.HeldLines.{held_lines_left}
@@ -35,13 +35,15 @@ use Rattle.properties_format.specs.Text.{is_comment_sign}
 use Rattle.properties_format.proofs.Body.Decoded.{decoded-nil}
 use Rattle.properties_tables.specs.Lines.{holds_byte}
 use Rattle.properties_checking.specs.Misread.{last_number, lines_of_pairs, looks_open, misread_at, misread_end, AreMisreadEnds}
-use Rattle.properties_checking.specs.Private.OpenLines.{ends_from, ends_left, holds_candidate, holds_pair, is_comment_after, is_end, joins_next, may_end_line, said_end, BeginsWithAscii, EndsInAscii, IsAsciiUnit, IsUnblanked, SeesNone}
+use Rattle.properties_checking.specs.Private.OpenLines.{ends_from, holds_pair, is_comment_after, is_end, joins_next, may_end_line, said_end, BeginsWithAscii, EndsInAscii, IsAsciiUnit, SeesNone}
 use Rattle.properties_checking.specs.Private.Checking.{misread_finding}
 use Rattle.properties_tables.specs.Private.Flawed.{IsScanning}
+use Rattle.properties_tables.proofs.FlawedLines.{ending-length}
 use Rattle.properties_text.specs.declared.encoding.Encoding as code
 use Rattle.properties_text.specs.declared.encoding.Encoding.TheVariants.{WINDOWS_1252, UTF_8}
 use Rattle.properties_format.specs.ItemsToCome.{ReaderState, start}
 use Rattle.properties_lines.proofs.HeldLines.{body-lines_left}
+use Rattle.properties_lines.proofs.LineSearch.{length-ascii_bytes}
 use Rattle.properties_checking.specs.declared.check.Finding.{Finding}
 use Rattle.properties_checking.specs.declared.misread.Misread.{Misread}
 
@@ -164,21 +166,22 @@ module _ {X : Type 0} (of : Misread → ℕ → X) where
 
 -- ---- a body without candidates
 
-or-true : (a b : Bool) → b ≡ true → (a || b) ≡ true
-or-true true b h = refl
-or-true false b h = h
+-- whether a blank comes after a backslash, or at most two bytes do
+abbrev pub holds_candidate : List ℕ → Bool
+holds_candidate [] = false
+holds_candidate (b ∷ bs) = (b == backslash && (nat_le (length bs) 2 || begins is_blank bs)) || holds_candidate bs
 
 pair-candidate : (x : List ℕ) (c : ℕ) (y : List ℕ) → is_blank c ≡ true → holds_candidate (x ++ backslash ∷ c ∷ y) ≡ true
 pair-candidate [] c y h = elim (cases_Bool (nat_le (length (c ∷ y)) 2)) [ inl k ↦ rw k refl | inr k ↦ rw (k, h) refl ]
 pair-candidate (b ∷ x) c y h =
     let later = pair-candidate x c y h in
-    or-true (b == backslash && (nat_le (length (x ++ backslash ∷ c ∷ y)) 2 || begins is_blank (x ++ backslash ∷ c ∷ y))) _ later
+    or_right (b == backslash && (nat_le (length (x ++ backslash ∷ c ∷ y)) 2 || begins is_blank (x ++ backslash ∷ c ∷ y))) _ later
 
 end-candidate : (x y : List ℕ) → length y ≤ 2 → holds_candidate (x ++ backslash ∷ y) ≡ true
 end-candidate [] y h = let k : nat_le (length y) 2 ≡ true = grind (arith) in rw k refl
 end-candidate (b ∷ x) y h =
     let later = end-candidate x y h in
-    or-true (b == backslash && (nat_le (length (x ++ backslash ∷ y)) 2 || begins is_blank (x ++ backslash ∷ y))) _ later
+    or_right (b == backslash && (nat_le (length (x ++ backslash ∷ y)) 2 || begins is_blank (x ++ backslash ∷ y))) _ later
 
 after-candidate : (x y : List ℕ) → holds_candidate (x ++ y) ≡ false → holds_candidate y ≡ false
 after-candidate [] y h = h
@@ -297,25 +300,21 @@ no-pair : (byte : ℕ) (bs : List ℕ) → holds_byte byte bs ≡ false → begi
 no-pair byte [] h = refl
 no-pair byte (c ∷ cs) h = (or_parts (c == byte) (holds_byte byte cs) h).0
 
-and-false : (a b : Bool) → b ≡ false → (a && b) ≡ false
-and-false true b h = h
-and-false false b h = refl
-
 -- a byte that isn't there comes after no backslash
 pub pair-absent : (byte : ℕ) (bs : List ℕ) → holds_byte byte bs ≡ false → holds_pair byte bs ≡ false
 pair-absent byte [] h = refl
 pair-absent byte (b ∷ bs) h =
     let rest = (or_parts (b == byte) (holds_byte byte bs) h).1 in
-    or_from (b == backslash && begins (λ c. c == byte) bs) (holds_pair byte bs) (and-false (b == backslash) _ (no-pair byte bs rest)) (pair-absent byte bs rest)
+    or_from (b == backslash && begins (λ c. c == byte) bs) (holds_pair byte bs) (and_right (b == backslash) _ (no-pair byte bs rest)) (pair-absent byte bs rest)
 
 -- ---- a search for both bytes
 
 pair-here : (byte b : ℕ) (bs : List ℕ) → (OccursAt (b ∷ bs) (backslash ∷ byte ∷ []) 0 → ⊥) → (b == backslash && begins (λ c. c == byte) bs) ≡ false
-pair-here byte b [] none = and-false (b == backslash) false refl
+pair-here byte b [] none = and_right (b == backslash) false refl
 pair-here byte b (c ∷ cs) none = elim (eqb_tells b backslash) [
   | inr other ↦ rw other.0 refl
   | inl same ↦ elim (eqb_tells c byte) [
-    | inr other ↦ rw other.0 (and-false (b == backslash) false refl)
+    | inr other ↦ rw other.0 (and_right (b == backslash) false refl)
     | inl also ↦ absurd (none (record { fits = omega arith; reads = reads same.1 also.1 }))
   ]
 ]
@@ -348,7 +347,7 @@ pair-there byte (b ∷ c ∷ cs) zero h =
     let here : (b == backslash && c == byte) ≡ true = grind (arith) in
     rw here refl
 pair-there byte (b ∷ c ∷ cs) (suc k) h =
-    or-true (b == backslash && c == byte) (holds_pair byte (c ∷ cs))
+    or_right (b == backslash && c == byte) (holds_pair byte (c ∷ cs))
     (pair-there byte (c ∷ cs) k (record { fits = omega (arith, h.fits); reads = λ j l. sym (ap (λ n. get_or (b ∷ c ∷ cs) n 0) (next k j)) ∙ h.reads j l }))
   where
     next : (k j : ℕ) → suc k + j ≡ suc (k + j)
@@ -451,18 +450,12 @@ module _ (e : Encoding) (c : ℕ) (ascii : c < 128) where
       let nothing = nothing-decoded e at.0 at.2.front in
       (at.1, at.2.joins ∙ rw nothing refl)
 
-ascii-length : (e : Encoding) (c : ℕ) → length (ascii_bytes e c) ≡ unit_size e
-ascii-length windows_1252 c = refl
-ascii-length utf_8 c = refl
-ascii-length utf_16le c = refl
-ascii-length utf_16be c = refl
-
 -- ---- units
 
 pub first-short : (e : Encoding) (d : List ℕ) → length d < unit_size e → BeginsWithAscii e d None
 first-short e d few c y ascii h =
     let k = first-bytes e c ascii d y h in
-    omega (arith, few, ap length k.1, length-append (ascii_bytes e c) k.0, ascii-length e c)
+    omega (arith, few, ap length k.1, length-append (ascii_bytes e c) k.0, length-ascii_bytes e c)
 
 pub first-told : (e : Encoding) (d : List ℕ) (unit : Option ℕ) → unit_size e ≤ length d → IsAsciiUnit e (take (unit_size e) d) unit → BeginsWithAscii e d unit
 first-told e d (Some c) within h = (
@@ -472,12 +465,12 @@ first-told e d (Some c) within h = (
 )
 first-told e d None within h = λ c y ascii is.
     let k = first-bytes e c ascii d y is in
-    h c ascii (ap (take (unit_size e)) k.1 ∙ ap (λ n. take n (ascii_bytes e c ++ k.0)) (sym (ascii-length e c)) ∙ take-append_seam (ascii_bytes e c) k.0)
+    h c ascii (ap (take (unit_size e)) k.1 ∙ ap (λ n. take n (ascii_bytes e c ++ k.0)) (sym (length-ascii_bytes e c)) ∙ take-append_seam (ascii_bytes e c) k.0)
 
 pub last-short : (e : Encoding) (d : List ℕ) → length d < unit_size e → EndsInAscii e d None
 last-short e d few c y ascii h =
     let k = last-bytes e c ascii d y h in
-    omega (arith, few, ap length k.2, length-append k.0 (ascii_bytes e c), ascii-length e c)
+    omega (arith, few, ap length k.2, length-append k.0 (ascii_bytes e c), length-ascii_bytes e c)
 
 -- a front of whole units
 whole-front : (e : Encoding) (n m : ℕ) (x : List ℕ) → n ≡ length x + unit_size e → IsAligned e x → n % unit_size e ≡ 0
@@ -495,7 +488,7 @@ front-whole utf_16be d within h = let n = length-take-le (length d - 2) d (omega
 pub last-odd : (e : Encoding) (d : List ℕ) → length d % unit_size e ≢ 0 → EndsInAscii e d None
 last-odd e d odd c y ascii h =
     let k = last-bytes e c ascii d y h in
-    let long : length d ≡ length k.0 + unit_size e = omega (arith, ap length k.2, length-append k.0 (ascii_bytes e c), ascii-length e c) in
+    let long : length d ≡ length k.0 + unit_size e = omega (arith, ap length k.2, length-append k.0 (ascii_bytes e c), length-ascii_bytes e c) in
     odd (whole-front e (length d) 0 k.0 long k.1)
 
 pub last-told : (e : Encoding) (d : List ℕ) (unit : Option ℕ) → unit_size e ≤ length d → length d % unit_size e ≡ 0
@@ -507,17 +500,10 @@ last-told e d (Some c) within whole h =
     (h.0, within, ap (λ v. reverse (decoded_line e v)) is ∙ last-decoded e c h.0 front (front-whole e d within whole))
 last-told e d None within whole h = λ c y ascii is.
     let k = last-bytes e c ascii d y is in
-    let long : length d - unit_size e ≡ length k.0 = omega (arith, ap length k.2, length-append k.0 (ascii_bytes e c), ascii-length e c) in
+    let long : length d - unit_size e ≡ length k.0 = omega (arith, ap length k.2, length-append k.0 (ascii_bytes e c), length-ascii_bytes e c) in
     h c ascii (ap (λ n. drop n d) long ∙ ap (drop (length k.0)) k.2 ∙ drop-append_seam k.0 (ascii_bytes e c))
 
 -- ---- reading from the end
-
--- A text in reverse tells whether it is open.
-pub open-last : (t u : List ℕ) (c : ℕ) → c ≡ backslash → reverse t ≡ c ∷ reverse u → is_open t ≡ not (is_open u)
-open-last t u c same h =
-    let is : t ≡ u ++ backslash ∷ [] =
-    sym (reverse-reverse t) ∙ ap reverse h ∙ reverse-append (c ∷ []) (reverse u) ∙ ap₂ (λ v w. v ++ w ∷ []) (reverse-reverse u) same in
-    ap is_open is ∙ is_open-backslash u
 
 pub shut-last : (t : List ℕ) (c : ℕ) (y : List ℕ) → c ≢ backslash → reverse t ≡ c ∷ y → is_open t ≡ false
 shut-last t c y other h =
@@ -538,23 +524,14 @@ pub turned : (odd b : Bool) → b ≡ false → (if odd then not b else b) ≡ o
 turned true b h = ap not h
 turned false b h = h
 
+-- One text in reverse is another without some blanks at its front; the flag says whether there were some.
+abbrev pub IsUnblanked : List ℕ → List ℕ → Bool → Type 0
+IsUnblanked whole rest true = (without_leading_blanks whole ≡ without_leading_blanks rest) × (begins is_blank whole ≡ true)
+IsUnblanked whole rest false = whole ≡ rest
+
 pub unblanked-same : (whole rest : List ℕ) (blanks : Bool) → IsUnblanked whole rest blanks → without_leading_blanks whole ≡ without_leading_blanks rest
 unblanked-same whole rest true h = h.0
 unblanked-same whole rest false h = ap without_leading_blanks h
-
--- whether the text looks open, given the text without some blanks at its end
-pub looks-blank : (r u : List ℕ) (c : ℕ) (y : List ℕ) → is_blank c ≡ true → u ≡ c ∷ y → without_leading_blanks r ≡ without_leading_blanks u
-    → without_leading_blanks r ≡ without_leading_blanks y
-looks-blank r u c y h is same = same ∙ ap without_leading_blanks is ∙ rw h refl
-
-pub looks-end : (t u : List ℕ) (c : ℕ) (y : List ℕ) (blanks : Bool) → is_blank c ≡ false → reverse u ≡ c ∷ y
-    → without_leading_blanks (reverse t) ≡ without_leading_blanks (reverse u)
-    → begins is_blank (reverse t) ≡ blanks
-    → (blanks && is_open u) ≡ looks_open t
-looks-end t u c y blanks h is same first =
-    let stays : without_leading_blanks (reverse u) ≡ reverse u = rw is (rw h refl) in
-    let text : reverse (without_leading_blanks (reverse t)) ≡ u = ap reverse (same ∙ stays) ∙ reverse-reverse u in
-    rw (first, text) refl
 
 pub looks-shut : (t u : List ℕ) → ((c : ℕ) (y : List ℕ) → c < 128 → reverse u ≡ c ∷ y → ⊥)
     → without_leading_blanks (reverse t) ≡ without_leading_blanks (reverse u)
@@ -582,25 +559,7 @@ no-comment t (c ∷ y) none same = elim (cases_Bool (is_blank c)) [
   ]
 ]
 
-pub comment-first : (t u : List ℕ) (c : ℕ) (y : List ℕ) → is_blank c ≡ false → u ≡ c ∷ y → without_leading_blanks t ≡ without_leading_blanks u
-    → is_comment_line t ≡ is_comment_sign c
-comment-first t u c y h is same = ap (begins is_comment_sign) (same ∙ ap without_leading_blanks is) ∙ rw h refl
-
 -- ---- the last line
-
-ending-some : (e : Encoding) (by : LineEnding) → 1 ≤ length (line_ending_bytes e by)
-ending-some windows_1252 lf = omega arith
-ending-some windows_1252 cr = omega arith
-ending-some windows_1252 crlf = omega arith
-ending-some utf_8 lf = omega arith
-ending-some utf_8 cr = omega arith
-ending-some utf_8 crlf = omega arith
-ending-some utf_16le lf = omega arith
-ending-some utf_16le cr = omega arith
-ending-some utf_16le crlf = omega arith
-ending-some utf_16be lf = omega arith
-ending-some utf_16be cr = omega arith
-ending-some utf_16be crlf = omega arith
 
 end-told : (e : Encoding) (ls : List Ended) (last : List ℕ) → is_end (held_of e ls last) ≡ (length (bytes_together e ls last) == 0)
 end-told e [] [] = let none = decoded-nil e in rw none refl
@@ -613,7 +572,7 @@ end-told e [] (b ∷ last) = by (decoded_line e (b ∷ last)) refl ∙ sym some
     by [] is = let k = nothing-decoded e (b ∷ last) is in absurd (cc)
     by (c ∷ text) is = ap is_empty is
 end-told e (l ∷ ls) last =
-    let some = ending-some e l.by in
+    let some = ending-length e l.by in
     let long = length-append l.text (line_ending_bytes e l.by ++ bytes_together e ls last) in
     let end_long = length-append (line_ending_bytes e l.by) (bytes_together e ls last) in
     let none : (length (bytes_together e (l ∷ ls) last) == 0) ≡ false = grind (arith) in
@@ -644,6 +603,10 @@ at-end body s new g =
     ]
 
 -- ---- one line after another
+
+-- the findings on the ends of the lines to come
+abbrev pub ends_left : Bool → List ℕ → Scanner → List Finding
+ends_left is_joined body s = ends_from misread_finding is_joined s.passed (held_lines_left body s)
 
 -- at the start
 pub ends-start : (body : List ℕ) (s : Scanner) (f : code.Encoding) → s.at ≡ 0

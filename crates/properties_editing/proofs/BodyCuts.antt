@@ -79,12 +79,6 @@ pub record HasPassed (e : Encoding) (d : List ℕ) (wanted count size : ℕ) : T
   pub few : count ≤ wanted
   pub within : size ≤ length d
 
-pub passed-none : (e : Encoding) (d : List ℕ) (wanted : ℕ) → HasPassed e d wanted 0 0
-passed-none e d wanted =
-    let all : wanted - 0 ≡ wanted = omega arith in
-    let same = ap (λ n. length (head_of e n d)) all in
-    record { counted = omega arith; sized = omega arith; few = omega arith; within = omega arith }
-
 -- one more is passed
 pub passed-more : (e : Encoding) (d : List ℕ) (wanted count size : ℕ) (shown : FirstPiece) → HasPassed e d wanted count size → count < wanted → size < length d
     → IsFirstPiece e (get_or d size 0) (drop (size + 1) d) shown → shown.length ≤ 1 + length (drop (size + 1) d)

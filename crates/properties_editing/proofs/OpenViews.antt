@@ -29,7 +29,7 @@ use Rattle.properties_lines.specs.LogicalLine as lines
 use Rattle.properties_lines.specs.declared.scanner.Scanner.{Scanner}
 use Rattle.properties_items.specs.Errors.{malformed_kind}
 use Rattle.properties_items.specs.declared.error.ErrorKind.{ErrorKind}
-use Rattle.properties_editing.specs.Views.{ArePlaces, AreTexts, EndsAt, IsCutBehind, IsFlaw, IsRawKey, IsRawValue, IsTextIn, IsViewOf, OpenView, TakesNext, TellsFlaw, TellsIllFormed, end_of, joined_with, group_kind, viewed_line, past_group, places_at, size_before, with_bytes}
+use Rattle.properties_editing.specs.Views.{ArePlaces, AreTexts, EndsAt, IsCutBehind, IsFlaw, IsRawKey, IsRawValue, IsTextIn, IsViewOf, OpenView, TakesNext, TellsFlaw, TellsIllFormed, end_of, joined_with, group_kind, past_group, places_at, size_before, with_bytes}
 use Rattle.properties_editing.specs.Views as public
 use Rattle.properties_editing.specs.Private.BodyCuts.{added_lines, adds, cut_size, is_first_after}
 use Rattle.properties_editing.specs.Private.BodyViews as walked
@@ -45,7 +45,7 @@ use Rattle.properties_editing.proofs.CutOrder.{comment-counts, pair-counts}
 
 -- ---- a view that is opened
 
-bytes-together : (gs : List (List HeldLine)) → groups_bytes (with_bytes gs) ≡ groups_bytes gs
+pub bytes-together : (gs : List (List HeldLine)) → groups_bytes (with_bytes gs) ≡ groups_bytes gs
 bytes-together [] = refl
 bytes-together (g ∷ []) = elim (cases_Bool (is_empty (group_bytes g))) [
   | inl k ↦ rw k (sym (append-nil (group_bytes g) ∙ no-bytes (group_bytes g) k))

@@ -185,10 +185,6 @@ part_within d [] i p h k = absurd (omega arith)
 part_within d (s ∷ ss) zero p h k = h.0
 part_within d (s ∷ ss) (suc i) p h k = part_within d ss i p h.1 (omega arith)
 
-pub none-first : (x : List ℕ) → (length x == 0) ≡ is_empty x
-none-first [] = refl
-none-first (c ∷ x) = grind (arith, nat_tests)
-
 -- ---- the parts, from the end
 
 module _ (d : List ℕ) (ps : List Part) (m : ℕ) (p : Part) (some : 0 < m) (within : m ≤ length ps) (is : p ≡ get_or ps (m - 1) p)

@@ -1,2 +1,1 @@
-pub mod Last
 pub mod Tests

@@ -26,6 +26,7 @@ use Rattle.properties_format.proofs.Valued.Heads.{ascii-among, ascii-own}
 use Rattle.properties_format.proofs.Valued.Revalued.{open-closed}
 use Rattle.properties_format.specs.Encoding.{ascii_bytes}
 use Rattle.properties_editing.specs.Views.{IsCutBehind, joined_with, size_before}
+use Rattle.properties_editing.proofs.CutMeanings.{AreJoined}
 use Rattle.properties_renaming.specs.Renaming.{AreJoinedBlanks, IsBeforeKey, IsThroughKey}
 use Rattle.properties_renaming.specs.Private.Renaming.{is_join, later, past_joins}
 
@@ -131,12 +132,6 @@ scan-stops (c ∷ []) y p f n m =
     let other : (c == backslash) ≡ false = false_from_ne_true (c == backslash) (λ k. m (ap (λ v. v ∷ []) (eqb-true c backslash k))) in
     join-none (c ∷ y) (rw (f, p.0, other) refl)
 scan-stops (c ∷ d ∷ x) y p f n m = join-none (c ∷ d ∷ (x ++ y)) (grind (arith))
-
--- each line but the last is open
-abbrev pub AreJoined : List HeldLine → Type 0
-AreJoined [] = Unit {0}
-AreJoined (h ∷ []) = Unit {0}
-AreJoined (h ∷ i ∷ hs) = (is_open h.text ≡ true) × AreJoined (i ∷ hs)
 
 pub fit-joined : (g : List HeldLine) → IsLastFit g → AreJoined g
 fit-joined [] f = tt
@@ -281,33 +276,6 @@ pub blanks-one : (b x d y : List ℕ) → AreBlanks b → AreBlanks d → begins
 blanks-one b x d y h k f g s =
     let t : x ≡ y = sym (without_leading_blanks-only b x h f) ∙ ap without_leading_blanks s ∙ without_leading_blanks-only d y k g in
     (append_cancel_right b d x (s ∙ ap (λ v. d ++ v) (sym t)), t)
-
-before-one : (kept bk : List HeldLine) (line bl : HeldLine) (more bm : List HeldLine) (indent rest ind res : List ℕ)
-    → kept ++ line ∷ more ≡ bk ++ bl ∷ bm → AreJoinedBlanks kept → AreJoinedBlanks bk → line.bytes ≡ indent ++ rest → bl.bytes ≡ ind ++ res
-    → AreBlanks indent → AreBlanks ind → begins is_blank rest ≡ false → begins is_blank res ≡ false → rest ≢ backslash ∷ [] → res ≢ backslash ∷ []
-    → group_bytes kept ++ indent ≡ group_bytes bk ++ ind
-before-one [] [] line bl more bm indent rest ind res s j k c d b h f g m n =
-    let t : line ≡ bl = cc in
-    (blanks-one indent rest ind res b h f g (sym c ∙ ap (λ v. let w : HeldLine = v in w.bytes) t ∙ d)).0
-before-one [] (l ∷ bk) line bl more bm indent rest ind res s j k c d b h f g m n =
-    let t : line ≡ l = cc in
-    absurd (m (blanks-one indent rest k.0.0 (backslash ∷ []) b k.0.1 f refl (sym c ∙ ap (λ v. let w : HeldLine = v in w.bytes) t ∙ k.0.2)).1)
-before-one (l ∷ kept) [] line bl more bm indent rest ind res s j k c d b h f g m n =
-    let t : l ≡ bl = cc in
-    absurd (n (blanks-one ind res j.0.0 (backslash ∷ []) h j.0.1 g refl (sym d ∙ ap (λ v. let w : HeldLine = v in w.bytes) (sym t) ∙ j.0.2)).1)
-before-one (l ∷ kept) (q ∷ bk) line bl more bm indent rest ind res s j k c d b h f g m n =
-    let t : l ≡ q = cc in
-    let u : kept ++ line ∷ more ≡ bk ++ bl ∷ bm = cc in
-    let r = before-one kept bk line bl more bm indent rest ind res u j.1 k.1 c d b h f g m n in
-    rw t (simp (append_assoc, r))
-
--- There is only one such place in a group.
-pub before-only : (g : List HeldLine) (a b : List ℕ) → IsBeforeKey g a → IsBeforeKey g b → a ≡ b
-before-only g a b h k =
-    h.bytes
-    ∙ before-one h.kept k.kept h.line k.line h.more k.more h.indent h.rest k.indent k.rest (sym h.division ∙ k.division) h.joined k.joined h.cut k.cut
-    h.indent_blank k.indent_blank h.rest_full k.rest_full h.not_joined k.not_joined
-    ∙ sym k.bytes
 
 -- ---- where a key ends
 

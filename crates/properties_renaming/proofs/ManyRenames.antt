@@ -20,14 +20,16 @@ use Rattle.properties_format.proofs.GroupsInTurn.Lines.{AreLinesBy, ending-of}
 use Rattle.properties_format.proofs.GroupsInTurn.Merged.{AreInTurn, are_one_ending, in-turn, merged, merged-one, merged-two, one-ending, turn-first, turn-some}
 use Rattle.properties_format.proofs.Items.Unique.{outcome_of-only}
 use Rattle.properties_format.proofs.Plan.Slots.{lf-no_key, slots-merged, turn-cons}
+use Rattle.properties_format.proofs.Changed.Maps.{other-test}
 use Rattle.properties_editing.specs.Editing.{asked_for}
 use Rattle.properties_editing.specs.Views.{AreGiven, with_bytes}
 use Rattle.properties_editing.specs.declared.source.SourceOptions.{SourceOptions}
+use Rattle.properties_editing.proofs.OpenViews.{bytes-together}
 use Rattle.properties_renaming.specs.Laws.{IsName}
-use Rattle.properties_renaming.specs.Renaming.{AreRekeyed, IsRekeyed, IsRenamed, key_text}
+use Rattle.properties_renaming.specs.Renaming.{AreRekeyed, IsRekeyed, IsRenamed, key_text, AreIn}
 use Rattle.properties_renaming.specs.Renames.{AreRenamedInTurn, NewName}
 use Rattle.properties_renaming.specs.Private.Renaming.{AreMade}
-use Rattle.properties_renaming.specs.Private.Renames.{AreRenamedAtOnce, AreThere, IsFreeOf, IsGivenBy, IsMadeBy, IsMakeable, last_name, needed}
+use Rattle.properties_renaming.specs.Private.Renames.{IsGivenBy, IsMakeable, last_name, needed, AreMakeable}
 use Rattle.properties_renaming.proofs.NewPairs.{IsNamed, IsNewGroup, rekeyed-again, rekeyed-pair}
 use Rattle.properties_renaming.proofs.RenamedContents.{AreNamed, ended-mark, is-nil, no-bytes, none-all, none-given}
 use Rattle.properties_renaming.proofs.RenamedKeys.{source-alike}
@@ -44,28 +46,25 @@ key-only k l g (v, h) (w, m) =
 same-name : (k : List ℕ) → bytes_eq k k ≡ true
 same-name k = (bytes_eq-Decides k k).1 refl
 
-pub other-names : (k l : List ℕ) → k ≢ l → bytes_eq k l ≡ false
-other-names k l n = false_from_ne_true (bytes_eq k l) (λ h. n ((bytes_eq-Decides k l).0 h))
-
 -- A pair has to have the old key of the first rename,
 pub needed-old : (n : NewName) (ns : List NewName) → needed (n ∷ ns) n.old ≡ Some true
 needed-old n ns = let t = same-name n.old in rw t refl
 
 -- none may have its new one,
 pub needed-new : (n : NewName) (ns : List NewName) → n.old ≢ n.new → needed (n ∷ ns) n.new ≡ Some false
-needed-new n ns apart = let o = other-names n.new n.old (λ q. apart (sym q)) in let t = same-name n.new in rw (o, t) refl
+needed-new n ns apart = let o = other-test n.new n.old (λ q. apart (sym q)) in let t = same-name n.new in rw (o, t) refl
 
 -- and the others decide about any other key.
 pub needed-other : (n : NewName) (ns : List NewName) (key : List ℕ) → key ≢ n.old → key ≢ n.new → needed (n ∷ ns) key ≡ needed ns key
-needed-other n ns key o w = let a = other-names key n.old o in let b = other-names key n.new w in rw (a, b) refl
+needed-other n ns key o w = let a = other-test key n.old o in let b = other-test key n.new w in rw (a, b) refl
 
 -- The last name of its old key is that of its new one,
 pub last-old : (n : NewName) (ns : List NewName) → n.old ≢ n.new → last_name (n ∷ ns) n.old ≡ Some (unwrap_or (last_name ns n.new) n.new)
-last-old n ns apart = let a = other-names n.old n.new apart in let t = same-name n.old in rw (a, t) refl
+last-old n ns apart = let a = other-test n.old n.new apart in let t = same-name n.old in rw (a, t) refl
 
 -- that of another stays,
 pub last-other : (n : NewName) (ns : List NewName) (key : List ℕ) → key ≢ n.old → last_name (n ∷ ns) key ≡ last_name ns key
-last-other n ns key o = let a = other-names key n.old o in elim (cases_Bool (bytes_eq n.old n.new)) [
+last-other n ns key o = let a = other-test key n.old o in elim (cases_Bool (bytes_eq n.old n.new)) [
   | inl t ↦ rw t refl
   | inr t ↦ rw (t, a) refl
 ]
@@ -96,6 +95,14 @@ named-group r old (c ∷ cs) ok (some, s) o first (i ∷ is) made a (value, m) k
   once = rekeyed-pair r o first i is old c cs value made ok s a m k;
   again = rekeyed-again r o first i is old c cs value made ok s a m k;
 }
+
+-- No pair may have a key that no pair may have.
+abbrev pub IsFreeOf : List NewName → List HeldLine → Type 0
+IsFreeOf names g = (key : List ℕ) → HasKey key g → needed names key ≢ Some false
+
+-- A pair gets the last name of its key, and has no key that none may have.
+abbrev pub IsMadeBy : Repertoire → List NewName → Bool → List HeldLine → List ℕ → Type 0
+IsMadeBy r names first g made = IsFreeOf names g × IsGivenBy r names first g made
 
 -- The bytes of a group after the first rename, the group that they are, and what the others make of that.
 record IsStep (r : Repertoire) (o : Option LineEnding) (first : Bool) (n : NewName) (ns : List NewName) (g : List HeldLine) (made : List ℕ) : Type 0 where
@@ -336,6 +343,10 @@ none-renamed old new [] hs n none = tt
 none-renamed old new (g ∷ gs) hs (h, more, p, k, r) none =
     let each = subst (NoneHasKey new) p none in (λ has. each.0 (new-key old new g h k has), none-renamed old new gs more r each.1)
 
+-- A pair has each key that one has to have.
+abbrev pub AreThere : List NewName → List (List HeldLine) → Type 0
+AreThere names gs = (key : List ℕ) → needed names key ≡ Some true → ¬ (NoneHasKey key gs)
+
 -- The keys that the others need are still there.
 still-there : (e : Encoding) (n : NewName) (ns : List NewName) (gs hs : List (List HeldLine)) → AreInTurn e hs → AreNamed n.old n.new gs hs
     → needed ns n.old ≢ Some true → AreThere (n ∷ ns) (with_bytes gs) → AreThere ns (with_bytes hs)
@@ -365,13 +376,15 @@ made-none r first [] bytes h = h
 made-none r first (g ∷ gs) bytes (made, more, (free, inl (key, new, has, none, k)), s, q) = absurd (cc)
 made-none r first (g ∷ gs) bytes (made, more, (free, inr (none, same)), s, q) = s ∙ ap₂ (λ v w. v ++ w) same (made-none r false gs more q)
 
-with-same : (gs : List (List HeldLine)) → groups_bytes (with_bytes gs) ≡ groups_bytes gs
-with-same [] = refl
-with-same (g ∷ []) = elim (cases_Bool (is_empty (group_bytes g))) [
-  | inl k ↦ rw k (sym (append-nil (group_bytes g) ∙ is-nil (group_bytes g) k))
-  | inr k ↦ rw k refl
-]
-with-same (g ∷ h ∷ gs) = ap (λ w. group_bytes g ++ w) (with-same (h ∷ gs))
+-- All keys were renamed at once.
+pub record AreRenamedAtOnce (r : Repertoire) (source : List ℕ) (names : List NewName) (result : List ℕ) : Type 0 where
+  pub makeable : AreMakeable names
+  pub groups : List (List HeldLine)
+  pub held : AreIn r.encoding source groups
+  pub there : AreThere names groups
+  pub body : List ℕ
+  pub made : AreMade (IsMadeBy (repertoire_in_force r source) names) true groups body
+  pub whole : result ≡ bom_of source ++ body
 
 -- What the first rename gives, and the others make of that.
 record IsNext (r : Repertoire) (source : List ℕ) (n : NewName) (ns : List NewName) (result : List ℕ) : Type 0 where
@@ -420,7 +433,7 @@ next-step r source result n ns ok apart name gone free_new h =
         groups = with_bytes t.groups;
         held =
             subst (λ w. let g : InForce = w in AreGiven g.encoding g.body (with_bytes t.groups)) (sym force)
-            (record { all = t.groups; division = division; are = refl; together = with-same t.groups ∙ t.are });
+            (record { all = t.groups; division = division; are = refl; together = bytes-together t.groups ∙ t.are });
         there = still-there f.encoding n ns all t.groups t.turn t.named gone (subst (AreThere (n ∷ ns)) h.held.are h.there);
         body = h.body;
         made =

@@ -2,13 +2,13 @@
 -- with the new one and the same value. So the contents are those of the source, with the key changed.
 use Rattle.std.proofs.Common.{inl, inr, ◌≡◌, ◌≢◌, ◌⊎◌, ℕ, true, false, List, [], ◌∷◌, ◌++◌, All, None, map, refl, sym, ap, ap₂, ◌∙◌, subst, arith, Bool, Option, Some, append_assoc, append-nil}
 use Rattle.std.specs.Global.{Vec}
-use Rattle.std.specs.Prelude.{Result, Ok, Err, bytes_eq, if◌then◌else◌}
+use Rattle.std.specs.Prelude.{Result, Ok, Err, bytes_eq}
 use Rattle.std.proofs.lemmas.Bool.{cases_Bool}
 use Rattle.std.proofs.lemmas.Slice.Eq.{bytes_eq-Decides}
 use Rattle.properties_format.specs.Text.{is_empty, scalar, LineEnding}
 use Rattle.properties_format.specs.Encoding.{Encoding, InForce, Repertoire, begins_like_bom, byte_order_mark, repertoire_in_force}
 use Rattle.properties_format.specs.Lines.{end, joined}
-use Rattle.properties_format.specs.Items.{AreItems, Content, Entry, Outcome, comment, given, pair}
+use Rattle.properties_format.specs.Items.{AreItems, Content, Entry, Outcome, given, pair}
 use Rattle.properties_format.specs.Changed.{HoldNoPair, NoneIsPair, contents, line_before}
 use Rattle.properties_format.specs.Edited.{is_editable}
 use Rattle.properties_format.specs.Body.{HasKey, HeldLine, NoneHasKey, as_lines, group_bytes, groups_bytes, ending_bytes, last_ending}
@@ -37,9 +37,9 @@ use Rattle.properties_format.proofs.Encodings.PieceEnds.{no-front}
 use Rattle.properties_format.proofs.GroupsInTurn.Lines.{AreLinesBy, bytes-of, bytes-unended}
 use Rattle.properties_renaming.proofs.NewPairs.{rekeyed-pair, IsNamed, IsNewGroup}
 use Rattle.properties_format.specs.Maps.{IsMap}
-use Rattle.properties_format.specs.Computed.Maps.{first_value}
 use Rattle.properties_format.proofs.Changed.Maps.{other-test, same-test}
-use Rattle.properties_format.proofs.Maps.{first-none, map-only, value_in, value_in-meets}
+pub use Rattle.properties_format.proofs.Changed.Maps.{content_value as value_of, value-contents, value_among}
+use Rattle.properties_format.proofs.Maps.{map-only, value_in, value_in-meets}
 
 -- ---- the groups with the new key
 
@@ -228,18 +228,6 @@ renaming-contents r source old new name result h before sound =
     )
 
 -- ---- the map
-
-abbrev pub value_of : Content → List ℕ → Option (List ℕ)
-value_of (pair k v) key = if bytes_eq k key then Some v else None
-value_of (comment text) key = None
-
-abbrev pub value_among : List Content → List ℕ → Option (List ℕ)
-value_among [] key = None
-value_among (c ∷ cs) key = first_value (value_among cs key) (value_of c key)
-
-pub value-contents : (entries : List Entry) (key : List ℕ) → value_in entries key ≡ value_among (contents entries) key
-value-contents [] key = refl
-value-contents (entry ∷ entries) key = grind (arith, first-none, value-contents entries key)
 
 module _ (old new : List ℕ) (apart : old ≢ new) where
   -- The new key has the value of the old one,

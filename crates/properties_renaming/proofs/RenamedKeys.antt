@@ -12,7 +12,7 @@ use Rattle.std.proofs.lemmas.Str.{chars-nil}
 use Rattle.std.proofs.lemmas.Slice.Eq.{bytes_eq-Decides}
 use Rattle.properties_format.specs.Text.{equals_sign, is_blanks, is_empty}
 use Rattle.properties_format.specs.Encoding.{Characters, Encoding, InForce, Repertoire, ascii_in, byte_order_mark, in_encoding, repertoire_in_force, latin_1_in, output_encoding, utf_8}
-use Rattle.properties_format.specs.Split.{Logical, blank, comment, pair, IsSplit}
+use Rattle.properties_format.specs.Split.{blank, comment, pair, IsSplit}
 use Rattle.properties_format.specs.Printing.{encoded_text, in_prefix, printed_characters, printed_key}
 use Rattle.properties_format.specs.Body.{HeldLine, HasKey, NoneHasKey, group_bytes, groups_bytes, held_in}
 use Rattle.properties_format.specs.Computed.Valued.{between_if_pair, between_in}
@@ -24,6 +24,7 @@ use Rattle.properties_format.proofs.Edited.Pair.{editable-own}
 use Rattle.properties_format.proofs.Printing.Characters.{encoded-ascii}
 use Rattle.properties_format.proofs.Split.Unique.{split_of-only}
 use Rattle.properties_format.proofs.Valued.Parts.{between_in-pair}
+use Rattle.properties_format.proofs.Split.Laws.{split-unique}
 use Rattle.properties_text.specs.Parsing.{bytes_in}
 use Rattle.properties_text.specs.Printing.{in_format, key_bytes, puts_of, text_bytes}
 use Rattle.properties_text.specs.declared.parse.Span.{Span}
@@ -59,10 +60,6 @@ join-more (b ∷ bs) (suc at) h =
     let more = join-more bs at h in
     let same : suc at + 1 ≡ suc (at + 1) = omega arith in (ap (λ n. past_joins (drop n (b ∷ bs))) same ∙ more.0, omega arith)
 
-pub join-stops : (bytes : List ℕ) → is_join bytes ≡ false → past_joins bytes ≡ bytes
-join-stops [] h = refl
-join-stops (b ∷ bs) h = rw h refl
-
 -- ---- places
 
 pub later-add : (a m n : ℕ) → later (a + m) (a + n) ≡ a + later m n
@@ -74,13 +71,10 @@ front-empty start (c ∷ front) = grind (arith, nat_tests)
 
 -- ---- a group that is a pair
 
-same-split : (x : List ℕ) (p q : Logical) → IsSplit x p → IsSplit x q → p ≡ q
-same-split x p q h k = split_of-only x p h ∙ sym (split_of-only x q k)
-
 pub pair-places : (v : OpenView) (places : PartPlaces) → ArePlaces v places → IsAnyPair (viewed_line v)
     → (key : List ℕ) × (value : List ℕ) × AreOfPair v key value places
-pair-places v places (blank, d) (k, w, p) = let same = same-split (viewed_line v) blank (pair k w) d.0 p in absurd (cc)
-pair-places v places (comment text, d) (k, w, p) = let same = same-split (viewed_line v) (comment text) (pair k w) d.is_comment p in absurd (cc)
+pair-places v places (blank, d) (k, w, p) = let same = split-unique (viewed_line v) blank (pair k w) d.0 p in absurd (cc)
+pair-places v places (comment text, d) (k, w, p) = let same = split-unique (viewed_line v) (comment text) (pair k w) d.is_comment p in absurd (cc)
 pair-places v places (pair key value, d) p = (key, value, d)
 
 -- ---- copies of the source
@@ -426,10 +420,10 @@ sign-told line span at (key, value, p) =
     ap (λ o. unwrap_or o []) (ap (λ w. between_if_pair w (chars line)) (split_of-only (chars line) (pair key value) p) ∙ at.of_pair)
 
 pub comment-pair : (x text : List ℕ) → IsSplit x (comment text) → IsAnyPair x → ⊥
-comment-pair x text h (key, value, p) = let same = same-split x (comment text) (pair key value) h p in cc
+comment-pair x text h (key, value, p) = let same = split-unique x (comment text) (pair key value) h p in cc
 
 pub blank-pair : (x : List ℕ) → IsSplit x blank → IsAnyPair x → ⊥
-blank-pair x h (key, value, p) = let same = same-split x blank (pair key value) h p in cc
+blank-pair x h (key, value, p) = let same = split-unique x blank (pair key value) h p in cc
 
 pub not-true : (b : Bool) → true ≡ not b → b ≡ false
 not-true true h = absurd (cc)
@@ -441,9 +435,6 @@ not-false false h = absurd (cc)
 
 pub and-true : (a b : Bool) → a ≡ true → (a && b) ≡ b
 and-true a b h = rw h refl
-
-pub and-false : (a b : Bool) → a ≡ false → (a && b) ≡ false
-and-false a b h = rw h refl
 
 pub key-printed : (t : Repertoire) (r : code.Repertoire) (first : Bool) (between key old new : List ℕ) → PrintsKeys t r → key ≢ []
     → new ≡ old ++ (key_bytes r first key ++ ([] ++ (puts_of r (chars []) ++ [])))

@@ -23,18 +23,15 @@ use Rattle.properties_renaming.specs.Renames.{NewName, name_in, names_in}
 use Rattle.properties_renaming.specs.Private.Copied.{IsNew, copied_to}
 use Rattle.properties_renaming.specs.Private.Renaming.{AreMade, IsAnyPair, IsFirstWith}
 use Rattle.properties_renaming.specs.Private.Keyed.{GivesValue, value_at, value_of, KeepsValue}
-use Rattle.properties_renaming.specs.Private.Renames.{AreRenamedAtOnce, AreRolesOf, IsMadeBy, IsNewAt, IsRoleIn, last_name, needed, AddsNames, AreAccepted, AreLinesOf, AreMakeable, HasPassed, IsAccepted, IsGivenBy, IsRefusedFor, TellsFirst, TellsRefusal, asks, first_last, last_in}
+use Rattle.properties_renaming.specs.Private.Renames.{AreRolesOf, IsNewAt, IsRoleIn, last_name, needed, AddsNames, AreAccepted, AreLinesOf, AreMakeable, HasPassed, IsAccepted, IsGivenBy, IsRefusedFor, TellsFirst, TellsRefusal, asks, first_last, last_in}
 use Rattle.properties_renaming.specs.declared.copied.Copied.{Copied}
 use Rattle.properties_renaming.specs.declared.renames.Role.{Role}
 use Rattle.properties_renaming.specs.Renaming.{IsRekeyed}
 use Rattle.properties_renaming.proofs.KeyedValues.{value-some}
-use Rattle.properties_renaming.proofs.ManyRenames.{key-only, last-kept, last-old, last-other, needed-new, needed-old, needed-other}
-use Rattle.properties_renaming.proofs.RenamedKeys.{IsUpTo, all-up, next-up, none-yet, viewed, viewed-force, none-append, none-at}
+use Rattle.properties_renaming.proofs.ManyRenames.{key-only, last-kept, last-old, last-other, needed-new, needed-old, needed-other, IsMadeBy, AreRenamedAtOnce}
+use Rattle.properties_renaming.proofs.RenamedKeys.{IsUpTo, all-up, next-up, none-yet, viewed, viewed-force, none-append, none-at, other-key}
 
 -- ---- the roles of names
-
-same-no : (k l : List ℕ) → bytes_eq k l ≡ false → k ≢ l
-same-no k l h q = let t = (bytes_eq-Decides k l).1 q in cc
 
 -- A key that is none of these names keeps its name.
 pub no-last : (ns : List NewName) (key : List ℕ) → needed ns key ≡ None → last_name ns key ≡ None
@@ -43,7 +40,7 @@ no-last (n ∷ ns) key h = elim (cases_Bool (bytes_eq key n.old)) [
   | inl t ↦ absurd (let s = rw t at h in cc)
   | inr t ↦ elim (cases_Bool (bytes_eq key n.new)) [
     | inl u ↦ absurd (let s = rw (t, u) at h in cc)
-    | inr u ↦ last-other n ns key (same-no key n.old t) ∙ no-last ns key (rw (t, u) at h)
+    | inr u ↦ last-other n ns key (other-key key n.old t) ∙ no-last ns key (rw (t, u) at h)
   ]
 ]
 
@@ -77,9 +74,9 @@ first-named all ns n index true last q within is h =
     let same = (bytes_eq-Decides n.old n.new).0 q in
     subst (λ l. IsNewAt all l last) (sym (last-kept n ns n.old same ∙ ap (last_name ns) same)) h
 first-named all ns n index false None q within is h =
-    (within, λ d. last-old n ns (same-no n.old n.new q) ∙ ap (λ w. Some (unwrap_or w n.new)) h ∙ ap (λ w. let m : NewName = w in Some m.new) (sym (is d)))
+    (within, λ d. last-old n ns (other-key n.old n.new q) ∙ ap (λ w. Some (unwrap_or w n.new)) h ∙ ap (λ w. let m : NewName = w in Some m.new) (sym (is d)))
 first-named all ns n index false (Some i) q within is h =
-    (h.0, λ d. last-old n ns (same-no n.old n.new q) ∙ ap (λ w. Some (unwrap_or w n.new)) (h.1 d))
+    (h.0, λ d. last-old n ns (other-key n.old n.new q) ∙ ap (λ w. Some (unwrap_or w n.new)) (h.1 d))
 
 -- The names of a rename before these are given their roles.
 pub names-added : {Y : Type 0} (old mid new : List (String Y × Role)) (index : ℕ) (n : NewName) (same : Bool) → bytes_eq n.old n.new ≡ same
@@ -99,13 +96,13 @@ names-added old mid new index n same q to_mid to_new all ns within is roles =
           let stays = to_new k ∙ cond-false (bytes_eq n.old k) (Some before) (value_at mid k) c ∙ to_mid k in
           elim (cases_Bool (bytes_eq n.new k)) [
             | inl b ↦
-                let apart : n.old ≢ n.new = λ s. same-no n.old k c (s ∙ (bytes_eq-Decides n.new k).0 b) in
+                let apart : n.old ≢ n.new = λ s. other-key n.old k c (s ∙ (bytes_eq-Decides n.new k).0 b) in
                 subst (IsRoleIn all (n ∷ ns) k) (sym (stays ∙ cond-true (bytes_eq n.new k) (Some after) (value_at old k) b))
                 (subst (λ w. IsRoleIn all (n ∷ ns) w (Some after)) ((bytes_eq-Decides n.new k).0 b)
                 (needed-new n ns apart, subst (λ l. IsNewAt all l later) (sym (last-other n ns n.new (λ s. apart (sym s)))) told))
             | inr b ↦
                 subst (IsRoleIn all (n ∷ ns) k) (sym (stays ∙ cond-false (bytes_eq n.new k) (Some after) (value_at old k) b))
-                (role-more all ns n k (value_at old k) (λ s. same-no n.old k c (sym s)) (λ s. same-no n.new k b (sym s)) (roles k))
+                (role-more all ns n k (value_at old k) (λ s. other-key n.old k c (sym s)) (λ s. other-key n.new k b (sym s)) (roles k))
           ]
     ]
 
@@ -113,7 +110,7 @@ names-added old mid new index n same q to_mid to_new all ns within is roles =
 pub one-makeable : (n : NewName) → AreMakeable (n ∷ [])
 one-makeable n = elim (cases_Bool (bytes_eq n.old n.new)) [
   | inl t ↦ (inl ((bytes_eq-Decides n.old n.new).0 t, λ s. cc), tt)
-  | inr t ↦ (inr (same-no n.old n.new t, inr refl, λ s. cc, λ s. cc), tt)
+  | inr t ↦ (inr (other-key n.old n.new t, inr refl, λ s. cc, λ s. cc), tt)
 ]
 
 -- Of one rename, no other key has a role.
@@ -238,7 +235,7 @@ lines-kept names roles lines lines' gs g number some h kept is = λ key needs q.
           (first-now k.key gs g number (value_at lines k.key) (h k.key needs (ap (needed names) same ∙ q)) k.has is))
       | inr c ↦
           subst (TellsFirst key (gs ++ g ∷ [])) (sym (now key ∙ cond-false (bytes_eq k.key key) given (value_at lines key) c))
-          (first-next key gs g (value_at lines key) (h key needs q) (λ has. same-no k.key key c (key-only k.key key g k.has has)))
+          (first-next key gs g (value_at lines key) (h key needs q) (λ has. other-key k.key key c (key-only k.key key g k.has has)))
     ]
 
 -- and another group has none of the names.

@@ -7,7 +7,7 @@ use Rattle.std.proofs.lemmas.List.{append-nil, drop-drop, drop-map, drop_all, le
 use Rattle.std.proofs.lemmas.List.Concat.{flat_map-append}
 use Rattle.properties_editing.specs.declared.source.SourceOptions.{SourceOptions}
 use Rattle.properties_renaming.specs.KeyEdits.{AreLike, AreRuns, AreRunsOf, BeginUnlike, IsMemoryError, IsRun, KeyEdit, Leave, MakesKeyEdits, MakesRun, comments_among, edit, edits_in_runs, error_after, remove_with_comment, rename, renames_among, same_kind, set_comment}
-use Rattle.properties_renaming.specs.Private.KeyEdits.{AreMadeTo, HasRunSize, IsIndexBelow, RunsOrFails}
+use Rattle.properties_renaming.specs.Private.KeyEdits.{HasRunSize, IsIndexBelow, RunsOrFails}
 use Rattle.properties_renaming.specs.declared.renames.RenamesError.{RenamesError}
 use Rattle.properties_renaming.specs.declared.renames.RenamesError.TheVariants.{Source, NoKey, KeyTaken}
 
@@ -49,6 +49,14 @@ no-runs : (runs : List (List KeyEdit)) → AreRuns [] runs → runs ≡ []
 no-runs [] h = refl
 no-runs ([] ∷ runs) h = absurd h.2
 no-runs ((e ∷ es) ∷ runs) h = absurd (cc h.1)
+
+-- So many edits of a list are whole runs, which left these bytes. Whatever runs the others are, they come after these.
+pub record AreMadeTo (options : SourceOptions) (source : List ℕ) (es : List KeyEdit) (done : ℕ) (bytes : List ℕ) : Type 0 where
+  pub within : done ≤ length es
+  pub before : List (List KeyEdit)
+  pub leave : Leave options source before bytes
+  pub count : done ≡ length (edits_in_runs before)
+  pub go_on : (runs : List (List KeyEdit)) → AreRuns (drop done es) runs → AreRunsOf es (before ++ runs)
 
 -- The first run is made.
 pub made-first : (o : SourceOptions) (source : List ℕ) (es : List KeyEdit) (size : ℕ) (left : Vec ℕ) → HasRunSize es size

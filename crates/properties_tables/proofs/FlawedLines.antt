@@ -304,7 +304,7 @@ none-ill_formed_utf_8 body n longest all =
 
 -- ---- the number of lines
 
-ending-length : (e : Encoding) (by : LineEnding) → 1 ≤ length (line_ending_bytes e by)
+pub ending-length : (e : Encoding) (by : LineEnding) → 1 ≤ length (line_ending_bytes e by)
 ending-length windows_1252 lf = omega arith
 ending-length windows_1252 cr = omega arith
 ending-length windows_1252 crlf = omega arith

@@ -1,8 +1,7 @@
 -- Texts that are held one after another.
 use Rattle.std.proofs.Common.{◌≡◌, ℕ, List, ◌++◌, length, take, drop, ap, sym, ◌∙◌, subst, arith}
 use Rattle.std.specs.Str.{IsUtf8}
-use Rattle.std.proofs.Math.Seq.{drop-append_seam}
-use Rattle.std.proofs.lemmas.List.{drop-append-le, length-append, length-drop, take-append-le, take_all}
+use Rattle.std.proofs.lemmas.List.{drop-append-le, length-append, length-drop, take-append-le}
 use Rattle.properties_tables.specs.Private.Table.{bytes_at, HoldsText}
 use Rattle.properties_tables.specs.declared.texts.Place.{Place}
 
@@ -17,16 +16,4 @@ pub holds-kept : (text more : List ℕ) (p : Place) → HoldsText text p → Hol
 holds-kept text more p h = record {
   within = let w = h.within in let l = length-append text more in omega arith;
   is = subst IsUtf8 (sym (kept-at text more p h)) h.is;
-}
-
--- and what is appended is at its end.
-pub at-end : (text more : List ℕ) (p : Place) → p.start ≡ length text → p.length ≡ length more → bytes_at (text ++ more) p ≡ more
-at-end text more p start size =
-    ap (λ v. take p.length (drop v (text ++ more))) start ∙ ap (take p.length) (drop-append_seam text more)
-    ∙ take_all p.length more (omega arith)
-
-pub holds-end : (text more : List ℕ) (p : Place) → p.start ≡ length text → p.length ≡ length more → IsUtf8 more → HoldsText (text ++ more) p
-holds-end text more p start size is = record {
-  within = let l = length-append text more in omega arith;
-  is = subst IsUtf8 (sym (at-end text more p start size)) is;
 }

@@ -1,8 +1,7 @@
 -- Whether a line has a character that isn't ASCII, told by its bytes.
-use Rattle.std.proofs.Common.{◌≡◌, ◌≢◌, ◌⊎◌, ℕ, ◌<◌, ◌≤◌, true, false, List, [], ◌∷◌, ◌++◌, ◌-◌, zero, suc, length, take, drop, get_or, refl, sym, ap, subst, ◌∙◌, inl, inr, arith, ltb-true}
+use Rattle.std.proofs.Common.{◌≡◌, ◌≢◌, ◌⊎◌, ℕ, ◌<◌, true, false, List, [], ◌∷◌, ◌++◌, zero, suc, refl, sym, ap, subst, ◌∙◌, inl, inr, arith, ltb-true}
 use Rattle.std.specs.Prelude.{not, nat_lt, nat_le}
 use Rattle.std.specs.Str.{IsAscii}
-use Rattle.std.proofs.lemmas.List.{take_all}
 use Rattle.std.proofs.lemmas.Bool.{cases_Bool, and_parts, or_from, or_parts}
 use Rattle.properties_format.specs.Text.{Piece, piece_characters}
 use Rattle.properties_format.specs.Encoding.{Encoding, windows_1252, utf_8, utf_16le, utf_16be, ascii_bytes, IsPieces}
@@ -117,13 +116,3 @@ utf_16-told WINDOWS_1252 bytes h k = absurd (h refl)
 utf_16-told UTF_8 bytes h k = absurd (k refl)
 utf_16-told UTF_16LE bytes h k = refl
 utf_16-told UTF_16BE bytes h k = refl
-
--- one unit after another
-pub ascii-more : (unit : ℕ → ℕ → ℕ) (bytes : List ℕ) (n : ℕ) → 2 ≤ length bytes → n ≡ unit (get_or bytes 0 0) (get_or bytes 1 0) → n < 0x80
-    → are_ascii unit bytes ≡ are_ascii unit (take (length bytes - 2) (drop 2 bytes))
-ascii-more unit [] n l is h = absurd (omega (arith, l))
-ascii-more unit (a ∷ []) n l is h = absurd (omega (arith, l))
-ascii-more unit (a ∷ b ∷ bytes) n l is h =
-    let rest : take (length (a ∷ b ∷ bytes) - 2) bytes ≡ bytes = take_all (length (a ∷ b ∷ bytes) - 2) bytes (omega arith) in
-    let k : nat_lt (unit a b) 0x80 ≡ true = grind (arith) in
-    rw (rest, k) refl

@@ -55,17 +55,6 @@ not-sought s key is seeking none = nothing (held_value s (chars key)) (λ value 
 
 -- ---- one more key
 
-pub seeks-none : (s : Sought) → s.values.entries ≡ [] → IsOrdered string_cmp s.values → 0 < length s.marks.items → s.malformed ≡ None → Seeks [] s
-seeks-none s empty ordered some none = record {
-  seeking = record { ordered = ordered; some = some; marked = λ key value held. absurd (never key value held) };
-  malformed = none;
-  without = λ key value held. absurd (never key value held);
-  each = λ key h. absurd h;
-}
-  where
-    never : (key : List ℕ) (value : Option (List ℕ)) → held_value s key ≡ Some value → ⊥
-    never key value held = let no : None ≡ Some value = rw empty at held in absurd (cc)
-
 -- what is held after something was put at a key
 pub held-put : (old new : Sought) (key : List ℕ) (value : Option (Option (String Global)))
     → ((k : List ℕ) → at_chars new.values.entries k ≡ update bytes_eq (at_chars old.values.entries) key value k)

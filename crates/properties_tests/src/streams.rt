@@ -1,14 +1,11 @@
-// Sources that are read from a reader and written to a sink, and maps after a failed write.
+// Sources that are read from a reader and written to a sink.
 
 use crate::failure::{Failure, failure_of};
 use crate::same::same;
 use crate::script::{TIMES_OUT, script};
 use counted_io::{ScriptedSink, SinkFault, Tail};
-use java_properties::{
-    Encoding, ErrorKind, PropertiesError, PropertiesWriter, read_source, write_source,
-};
+use java_properties::{Encoding, ErrorKind, PropertiesError, read_source, write_source};
 use std::alloc::Global;
-use std::collections::BTreeMap;
 use std::io;
 use std::process::Abort;
 use std::test::Fail;
@@ -68,23 +65,6 @@ fn a_source_is_written_and_flushed(rt: HostRuntime) {
         same(&rt, failure_in(write_source(&mut output, b"a=1\n")), wanted);
         same(&rt, output.bytes(), taken);
     }
-}
-
-#[test]
-fn a_failed_writer_refuses_a_map_even_without_entries(rt: HostRuntime) -> Result<(), Fail> {
-    let alloc = rt.alloc();
-    let output = ScriptedSink::new(alloc, 1, Some(2), SinkFault::Nothing);
-    let mut writer = PropertiesWriter::new(alloc, output)?;
-    let mut map = BTreeMap::new(alloc);
-    let refused = Some((ErrorKind::Failed, None, None));
-    let failure = failure_in(writer.write("a", "1"));
-    same(&rt, failure, Some((ErrorKind::Io, Some(1), None)));
-    same(&rt, failure_in(writer.write_map(&map)), refused);
-    let key = String::from_str(alloc, "b")?;
-    map.insert(key, String::new(alloc))?;
-    same(&rt, failure_in(writer.write_map(&map)), refused);
-    same(&rt, writer.get_ref().bytes(), b"a");
-    Ok(())
 }
 
 fn failure_in(done: Result<(), PropertiesError>) -> Option<Failure> {

@@ -1,16 +1,17 @@
 -- The differences between the rows of two sources are those between their pairs.
-use Rattle.std.proofs.Common.{◌≡◌, ◌≢◌, ℕ, zero, suc, ◌+◌, ◌<◌, Bool, true, false, List, [], ◌∷◌, ◌++◌, length, refl, ap, sym, ◌∙◌, inl, inr, subst, arith, if◌then◌else◌}
-use Rattle.std.specs.Prelude.{◌⊎◌, ◌↔◌, All, AllPairs, Contains, Option, Some, None, bytes_eq, map}
+use Rattle.std.proofs.Common.{◌≡◌, ◌≢◌, ℕ, zero, suc, List, [], ◌∷◌, ◌++◌, refl, ap, sym, ◌∙◌, inl, inr, subst, arith, if◌then◌else◌}
+use Rattle.std.specs.Prelude.{◌⊎◌, All, AllPairs, Contains, Option, Some, None, bytes_eq, map}
 use Rattle.std.specs.List.{flat_map}
 use Rattle.std.proofs.lemmas.Bool.{cases_Bool}
 use Rattle.std.proofs.lemmas.List.{map-append}
 use Rattle.std.proofs.lemmas.List.Elements.{All-append, All-cons, All-head, All-tail, All-nil, All-weaker, All-contains, All-map, All-contains_itself, Contains-append_left, Contains-append_right}
 use Rattle.std.proofs.lemmas.List.Kept.{AllPairs-cons}
 use Rattle.std.proofs.lemmas.Slice.Eq.{bytes_eq-Decides}
+use Rattle.java_properties.proofs.KeyLines.{not_same}
 use Rattle.properties_format.specs.Items.{Entry}
-use Rattle.properties_format.specs.Maps.{AreKeys, HasNoPair, IsLastValue, IsValue, PairComesBefore}
+use Rattle.properties_format.specs.Maps.{HasNoPair, IsLastValue, IsValue, PairComesBefore}
 use Rattle.properties_format.specs.Computed.Maps.{Has}
-use Rattle.properties_format.proofs.Keys.{contained, contains}
+use Rattle.properties_format.proofs.Keys.{contained}
 use Rattle.properties_format.proofs.Maps.{value_in, value_in-meets, value_in-only}
 use Rattle.properties_tables.specs.Table.{Row, row_keys, AreRows, IsRow}
 use Rattle.properties_tools.specs.Propedit.Differences.{Difference, gone, came, changed, key_of, AreDifferences, ComesBefore, Differs, IsDifference}
@@ -29,9 +30,6 @@ at-front r rows = (0, omega arith, refl)
 further : (r s : Row) (rows : List Row) → Contains rows s → Contains (r ∷ rows) s
 further r s rows c = (suc c.0, (let l = c.1 in omega arith), c.2)
 
-unequal : (x y : List ℕ) → bytes_eq x y ≡ false → x ≢ y
-unequal x y e q = let t = (bytes_eq-Decides x y).1 q in cc
-
 finds-further : (key : List ℕ) (r : Row) (rows : List Row) (found : Option Row) → r.key ≢ key → Finds key rows found → Finds key (r ∷ rows) found
 finds-further key r rows None n h = λ c. elim c [ inl e ↦ n e | inr m ↦ h m ]
 finds-further key r rows (Some s) n h = (h.0, further r s rows h.1)
@@ -40,7 +38,7 @@ finds : (key : List ℕ) (rows : List Row) → Finds key rows (row_with key rows
 finds key [] = λ h. h
 finds key (r ∷ rows) = elim (cases_Bool (bytes_eq r.key key)) [
   | inl same ↦ rw same ((bytes_eq-Decides r.key key).0 same, at-front r rows)
-  | inr other ↦ rw other (finds-further key r rows (row_with key rows) (unequal r.key key other) (finds key rows))
+  | inr other ↦ rw other (finds-further key r rows (row_with key rows) (not_same r.key key other) (finds key rows))
 ]
 
 -- Of the rows of some pairs, the one with a key is the row of its pairs; where there is none, no pair has it.
@@ -150,7 +148,7 @@ module _ (old new : List Entry) (olds news : List Row) (were : AreRows old olds)
   is-became r None h f = All-cons (IsDifference old new) (gone r) [] (h, f) (All-nil (IsDifference old new))
   is-became r (Some s) h f = elim (cases_Bool (bytes_eq r.value s.value)) [
     | inl same ↦ rw same (All-nil (IsDifference old new))
-    | inr other ↦ rw other (All-cons (IsDifference old new) (changed r s) [] (h, f.0, sym f.1, unequal r.value s.value other) (All-nil (IsDifference old new)))
+    | inr other ↦ rw other (All-cons (IsDifference old new) (changed r s) [] (h, f.0, sym f.1, not_same r.value s.value other) (All-nil (IsDifference old new)))
   ]
 
   is-came : (s : Row) (found : Option Row) → IsRow new s → IsRowWith old s.key found → All (IsDifference old new) (came_if found s)

@@ -1,12 +1,12 @@
 -- Edits by which pairs are set, and those that are left out.
-use Rattle.std.proofs.Common.{◌≡◌, ◌≢◌, ℕ, ◌+◌, ◌<◌, ◌||◌, suc, false, List, [], ◌∷◌, ◌++◌, length, get_or, refl, ap, sym, ◌∙◌, arith, append-nil, append_assoc}
-use Rattle.std.specs.Prelude.{Err}
+use Rattle.std.proofs.Common.{◌≡◌, ◌≢◌, ℕ, ◌<◌, ◌||◌, suc, false, List, [], ◌∷◌, ◌++◌, length, get_or, refl, ap, sym, ◌∙◌, arith, append-nil, append_assoc}
+use Rattle.std.specs.Prelude.{Err, map}
 use Rattle.std.specs.List.{list_any}
 use Rattle.std.specs.Str.{chars, IsUtf8}
 use Rattle.std.proofs.lemmas.Grind.{flat_map-append}
 use Rattle.std.proofs.lemmas.List.{map-append}
 use Rattle.properties_format.specs.Edits.{set_value, Edit}
-use Rattle.properties_tools.specs.Private.Merging.{TakesText, TookTexts}
+use Rattle.properties_tools.specs.Private.Merging.{TakesText}
 use Rattle.properties_tools.specs.Propedit.Merge.{is_zero, set_of_texts, text_bytes, zero_ended, AreNoTexts, HasNoZero, TextPair}
 use Rattle.properties_tables.specs.declared.error.Failure.TheVariants.{Texts}
 use Rattle.properties_tables.specs.declared.error.TextFlaw.{TextFlaw}
@@ -21,8 +21,11 @@ no-zero (x ∷ xs) h =
     let head : is_zero x ≡ false = grind (arith, h 0 (omega arith)) in
     ap (λ b. b || list_any is_zero xs) head ∙ no-zero xs (λ i l. h (suc i) (omega arith))
 
-pub texts-none : (file : List ℕ) → TookTexts file file []
-texts-none file = record { pairs = []; division = refl; are = refl }
+-- These edits set the pairs of a file up to what is left of it.
+pub record TookTexts (file rest : List ℕ) (edits : List Edit) : Type 0 where
+  pub pairs : List TextPair
+  pub division : file ≡ text_bytes pairs ++ rest
+  pub are : edits ≡ map set_of_texts pairs
 
 module _ (file rest key after_key : List ℕ) (edits : List Edit) (took : TookTexts file rest edits)
     (first : (rest ≡ key ++ 0 ∷ after_key) × HasNoZero key) where

@@ -13,6 +13,7 @@ use Rattle.properties_format.specs.Maps.{AreKeys, HasNoPair, IsLastValue, PairCo
 use Rattle.properties_format.proofs.Maps.{value_in-only}
 use Rattle.java_properties.specs.Findings.{KeyPlace}
 use Rattle.properties_format.specs.Encoding.{Encoding}
+use Rattle.properties_format.proofs.Changed.Maps.{other-test}
 use Rattle.properties_checking.specs.Private.Checking.{IsChecked}
 use Rattle.properties_checking.specs.Private.Objects.{AddsReport}
 use Rattle.properties_tools.specs.Private.Lacking.{is_among, is_lacking, lacking}
@@ -24,7 +25,6 @@ use Rattle.properties_checking.specs.declared.check.Reported.{Reported}
 use Rattle.properties_checking.specs.declared.kinds.Kind.TheVariants.{MissingKey, SurplusKey}
 use Rattle.properties_checking.specs.declared.request.Check.{Check}
 use Rattle.properties_tools.proofs.Differences.{no-value}
-use Rattle.properties_tools.proofs.TableDifferences.{other-false}
 
 -- ---- a key among others
 
@@ -38,7 +38,7 @@ among-found key (k ∷ ks) (suc row) f = elim (cases_Bool (bytes_eq k key)) [
 
 among-none : (key : List ℕ) (keys : List (List ℕ)) → HasNot key keys → is_among key keys ≡ false
 among-none key [] h = refl
-among-none key (k ∷ ks) h = rw (other-false k key h.0) (among-none key ks h.1)
+among-none key (k ∷ ks) h = rw (other-test k key h.0) (among-none key ks h.1)
 
 told-none : (is : Bool) → false ≡ not is → is ≡ true
 told-none true h = refl

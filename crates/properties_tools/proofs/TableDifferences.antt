@@ -16,6 +16,7 @@ use Rattle.properties_format.specs.Printing.{printed}
 use Rattle.properties_format.specs.Settings.{default_settings}
 use Rattle.properties_format.specs.Text.{is_blanks}
 use Rattle.properties_format.proofs.Printing.Characters.{printed-pair}
+use Rattle.properties_format.proofs.Changed.Maps.{other-test}
 use Rattle.properties_text.specs.Printing.{key_bytes, value_bytes}
 use Rattle.properties_text.specs.declared.print.Repertoire.TheVariants.{Ascii, Utf8}
 use Rattle.properties_items.proofs.TextMaps.Values.{same-characters}
@@ -42,9 +43,6 @@ some-row name sign r rest h = some (escaped name) (decimal r.last ++ (codes ": "
 
 -- ---- the row of a key
 
-pub other-false : (x y : List ℕ) → x ≢ y → bytes_eq x y ≡ false
-other-false x y n = elim (cases_Bool (bytes_eq x y)) [ inl same ↦ absurd (n ((bytes_eq-Decides x y).0 same)) | inr other ↦ other ]
-
 -- The rows of pairs have each key once.
 pub apart : (pairs : List Entry) (rows : List Row) → AreRows pairs rows → AllPairs (λ k l. k ≢ l) (row_keys rows)
 apart pairs rows h = λ i j d l m. (h.keys.in_order i j d l m).differ
@@ -64,13 +62,13 @@ row-at (r ∷ rows) (suc n) key d apart m e =
     let within : n < length rows = omega arith in
     let keys : n < length (row_keys rows) = let l = keys-length rows in omega arith in
     let other = apart zero (suc n) [] (omega arith) (omega arith) in
-    rw (other-false r.key key (λ q. other (q ∙ sym e ∙ sym (key-at rows n [] d within))))
+    rw (other-test r.key key (λ q. other (q ∙ sym e ∙ sym (key-at rows n [] d within))))
     (row-at rows n key d (λ i j x l m. apart (suc i) (suc j) x (omega arith) (omega arith)) within e)
 
 -- and where none has it, there is no row.
 row-none : (rows : List Row) (key : List ℕ) → HasNot key (row_keys rows) → row_with key rows ≡ None
 row-none [] key h = refl
-row-none (r ∷ rows) key h = rw (other-false r.key key h.0) (row-none rows key h.1)
+row-none (r ∷ rows) key h = rw (other-test r.key key h.0) (row-none rows key h.1)
 
 -- The row that is found for a key is within the rows, and the one with the key.
 pub found-within : (rows : List Row) (key : List ℕ) (n : ℕ) → FindsKey key (row_keys rows) (Some n) → n < length rows

@@ -5,7 +5,7 @@ use Rattle.std.specs.Global.{Vec}
 use Rattle.counted_io.specs.Streams.{Sink, HasWritten}
 use Rattle.properties_format.specs.Encoding.{output_encoding}
 use Rattle.properties_format.specs.Settings.{Settings}
-use Rattle.properties_format.specs.Writing.{Call, comment_call, settings_after_call, settings_after, wrote, ArePrefixesClean, AreOfScalars, Pair, calls_of}
+use Rattle.properties_format.specs.Writing.{Call, comment_call, settings_after_call, wrote, ArePrefixesClean, AreOfScalars, Pair, calls_of}
 use Rattle.properties_format.specs.Writing.{ArePairsOfScalars}
 use Rattle.properties_format.specs.Laws.{wrote_pairs, ArePairsReadBack}
 use Rattle.properties_format.proofs.Items.Unique.{items_of-only}
@@ -28,11 +28,6 @@ line_of-own Utf8 = refl
 pub scalars-append : (xs ys : List Call) → AreOfScalars xs → AreOfScalars ys → AreOfScalars (xs ++ ys)
 scalars-append [] ys h k = k
 scalars-append (x ∷ xs) ys h k = (h.0, scalars-append xs ys h.1 k)
-
-pub clean-append : (s : Settings) (xs ys : List Call) → ArePrefixesClean s xs → ArePrefixesClean (settings_after s xs) ys → ArePrefixesClean s (xs ++ ys)
-clean-append s [] ys h k = k
-clean-append s (comment_call text ∷ xs) ys h k = (h.0, clean-append s xs ys h.1 k)
-clean-append s (call ∷ xs) ys h k = clean-append (settings_after_call s call) xs ys h k
 
 -- what holds of all calls holds of the first of them
 scalars-before : (xs ys : List Call) → AreOfScalars (xs ++ ys) → AreOfScalars xs

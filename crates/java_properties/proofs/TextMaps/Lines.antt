@@ -8,8 +8,17 @@ use Rattle.properties_format.specs.Items.{pair}
 use Rattle.properties_format.specs.Writing.{AreAccepted}
 use Rattle.properties_format.specs.Settings.{Settings}
 use Rattle.java_properties.specs.PropertiesWriter.{Writing, HasWrittenLine}
-use Rattle.java_properties.specs.Maps.{Texts, character_pair, HasWrittenLines}
+use Rattle.java_properties.specs.Calls.{HasMade}
+use Rattle.java_properties.specs.Maps.{Texts, calls_for, character_pair}
 use Rattle.java_properties.proofs.Calls.Made.{made-none, made-more, pair-made}
+
+-- No write failed before. Each of these pairs was accepted and written as one line, in order, and was counted. Nothing
+-- else changed.
+pub record HasWrittenLines {W : Type 0} (sink : Sink W) (old : Writing W) (pairs : List Texts) (new : Writing W) : Type 0 where
+  pub live : old.failed ≡ false
+  pub accepted : AreAccepted old.settings (map character_pair pairs)
+  pub made : HasMade sink old (calls_for pairs) new
+  pub after : new ≡ record old { sink = new.sink; lines = old.lines + length pairs }
 
 accepted-append : (s : Settings) (xs ys : List Texts) → AreAccepted s (map character_pair xs) → AreAccepted s (map character_pair ys)
     → AreAccepted s (map character_pair (xs ++ ys))

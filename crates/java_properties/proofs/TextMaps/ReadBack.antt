@@ -4,7 +4,7 @@ use Rattle.std.proofs.lemmas.Map.Text.{is_eq-slice_cmp}
 use Rattle.std.specs.declared.cmp.Ordering.TheVariants.{Less}
 use Rattle.std.specs.Cmp.Lexicographic.{slice_cmp}
 use Rattle.std.specs.Ordering.{nat_cmp, is_eq}
-use Rattle.std.proofs.Common.{◌≡◌, ◌≢◌, ℕ, Bool, true, false, List, [], ◌∷◌, ◌++◌, refl, ap, sym, ◌∙◌, inl, inr, subst, append_assoc, append-nil}
+use Rattle.std.proofs.Common.{◌≡◌, ◌≢◌, ℕ, Bool, true, false, List, [], ◌∷◌, ◌++◌, refl, ap, sym, ◌∙◌, inl, inr, subst, append_assoc}
 use Rattle.std.specs.Prelude.{All, map, Option, Some, None, Result, Ok, Err, bytes_eq}
 use Rattle.std.specs.Option.{option_map}
 use Rattle.std.specs.Str.{chars, IsUtf8}
@@ -23,7 +23,7 @@ use Rattle.properties_format.specs.Lines.{end}
 use Rattle.properties_format.specs.Items.{IsItems}
 use Rattle.properties_format.specs.Maps.{IsValue}
 use Rattle.properties_format.specs.Settings.{Settings, default_settings}
-use Rattle.properties_format.specs.Writing.{Call, pair_call, flush_call, settings_after, wrote, ArePrefixesClean, AreOfScalars, AreGoodSettings, Pair, calls_of}
+use Rattle.properties_format.specs.Writing.{Call, pair_call, flush_call, wrote, ArePrefixesClean, AreOfScalars, AreGoodSettings, Pair, calls_of}
 use Rattle.properties_format.specs.Writing.{items_after, AreAccepted, ArePairsOfScalars}
 use Rattle.properties_format.specs.Laws.{HasPair, HasNoKey, AreDistinct}
 use Rattle.properties_format.proofs.Items.Unique.{items_of-meets, items_of-only}
@@ -31,17 +31,12 @@ use Rattle.properties_format.proofs.Maps.{value_in-meets, value_in-only, value_i
 use Rattle.properties_format.proofs.Laws.{no-pair, value-among}
 use Rattle.properties_format.proofs.ReadBack.Law.{default_settings-good}
 use Rattle.properties_format.proofs.ReadBack.Lists.{items_of-pairs}
-use Rattle.properties_format.proofs.Writing.{wrote-append}
-use Rattle.counted_io.proofs.Streams.{written-more}
-use Rattle.java_properties.specs.PropertiesWriter.{Writing}
-use Rattle.java_properties.specs.Calls.{HasMade}
-use Rattle.java_properties.specs.ReadBack.{IsGoodWriter, IsReadBack}
-use Rattle.java_properties.specs.Maps.{WritesMapLines, LinesReadBack, IsWrittenCleanly, LinesReadBackAfter, Texts, entry_texts, calls_for, character_pair}
+use Rattle.java_properties.specs.Maps.{Texts, entry_texts, calls_for, character_pair}
 use Rattle.java_properties.specs.Maps.{items_for, AreInOrder, IsMapReadBack, WritesPairs, WritesMap, MapReadsBack}
 use Rattle.properties_items.specs.Texts.{Entries, characters, value_at}
 use Rattle.properties_items.specs.declared.error.PropertiesError.{PropertiesError}
 use Rattle.properties_items.proofs.Scalars.{string-scalars}
-use Rattle.java_properties.proofs.ReadBack.Written.{scalars-append, clean-append, written-read_back, stops-read_back}
+use Rattle.java_properties.proofs.ReadBack.Written.{scalars-append, stops-read_back}
 use Rattle.java_properties.proofs.TextMaps.Writing.{accepted}
 
 -- ---- keys that ascend strictly by their bytes are distinct as characters too
@@ -202,54 +197,6 @@ written-map sink a s entries pairs old new own good in_order accepted written =
           (moved-among (map character_pair xs) ps key (value_at entries key) moved (entries-say key entries)) in
           subst (IsValue (items_for pairs) key) (sym same) (value_in-meets (items_for pairs) key);
     }
-
--- What the lines of a map say of reading them.
-pub lines-read_back : {W Y Z : Type 0} (sink : Sink W) (entries : Entries Y Z) (old new : Writing W) (result : Result Unit PropertiesError)
-    → IsGoodWriter old → WritesMapLines sink old entries result new → LinesReadBack sink old entries result new
-lines-read_back sink entries old new (Err error) good h = tt
-lines-read_back sink entries old new (Ok done) good h = λ first.
-    let written = rw first at h.writes.made.written in
-    written-map sink old.encoding old.settings entries h.pairs old.sink new.sink good.encoding good.settings h.in_order h.writes.accepted written
-
--- what calls wrote, and pairs after them, reads back
-pairs-after : {W : Type 0} {sink : Sink W} (first old new : Writing W) (calls : List Call) (pairs : List Texts) → IsWrittenCleanly sink first calls old
-    → AllByRecursion AreTexts pairs → HasMade sink old (calls_for pairs) new → IsReadBack sink first (calls ++ calls_for pairs) new
-pairs-after {sink = sink} first old new calls pairs h texts made =
-    let scalars = scalars-append calls (calls_for pairs) h.scalars (pairs-scalars pairs texts) in
-    let clean = clean-append first.settings calls (calls_for pairs) h.clean.prefixes
-    (rw append-nil at (pairs-clean (settings_after first.settings calls) pairs [] tt)) in
-    let more = rw h.made.after at made.written in
-    written-read_back h.good scalars (rw wrote-append (written-more h.made.written more)) (record { first = h.clean.first; prefixes = clean })
-
--- the first pairs of a map are texts of the program
-texts-before : (xs ys : List Texts) → AllByRecursion AreTexts (xs ++ ys) → AllByRecursion AreTexts xs
-texts-before [] ys h = tt
-texts-before (x ∷ xs) ys h = (h.0, texts-before xs ys h.1)
-
--- What the lines of a map say of reading them and what was written before.
-pub lines-read_back_after : {W Y Z : Type 0} (sink : Sink W) (entries : Entries Y Z) (old new : Writing W) (result : Result Unit PropertiesError)
-    → WritesMapLines sink old entries result new → LinesReadBackAfter sink old entries result new
-lines-read_back_after sink entries old new (Ok done) h = λ first calls clean. record {
-  pairs = h.pairs;
-  in_order = h.in_order;
-  read_back = pairs-after first old new calls h.pairs clean (map-texts entries h.pairs h.in_order) h.writes.made;
-}
-lines-read_back_after sink entries old new (Err error) (inl refused) = λ first calls clean.
-    let written = rw (← refused.refuses.same) at clean.made.written in
-    inl (record { refuses = refused; read_back = written-read_back clean.good clean.scalars written clean.clean })
-lines-read_back_after sink entries old new (Err error) (inr h) = λ first calls clean.
-    let k = h.writes in
-    let others = k.texts ∷ k.others in
-    let texts = map-texts entries h.pairs h.in_order in
-    inr (record {
-      before = k.before;
-      texts = k.texts;
-      others = k.others;
-      in_order = rw k.division at h.in_order;
-      middle = k.middle;
-      read_back = pairs-after first old k.middle calls k.before clean (texts-before k.before others (rw k.division at texts)) k.written.made;
-      fails = k.fails;
-    })
 
 -- The pairs of a map that were written in order are the map that was written.
 pub writes-map : {W Y Z : Type 0} (sink : Sink W) (a : Encoding) (entries : Entries Y Z) (pairs : List Texts) (old new : W)

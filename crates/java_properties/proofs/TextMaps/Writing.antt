@@ -19,13 +19,12 @@ use Rattle.properties_items.specs.Errors.{kind_of}
 use Rattle.java_properties.specs.PropertiesWriter.{Writing, new_writer, WritesLine, Flushes, HasWrittenLine, IsRefusedBy}
 use Rattle.java_properties.specs.Calls.{HasMade, is_not_accepted}
 use Rattle.java_properties.specs.Maps.{Texts, borrowed_texts, texts_of, call_for, calls_for, StopsInPairs, WritesPairs, entry_texts, AreInOrder}
-use Rattle.java_properties.specs.Maps.{HasWrittenLines}
 use Rattle.properties_items.specs.declared.error.ErrorKind.{ErrorKind}
 use Rattle.properties_items.specs.declared.error.ErrorKind.TheVariants as kind
 use Rattle.properties_items.specs.declared.error.PropertiesError.{PropertiesError}
 use Rattle.java_properties.specs.declared.writer.engine.Engine.{Engine}
 use Rattle.java_properties.proofs.Calls.Made.{calls-cut, calls-take, calls-all}
-use Rattle.java_properties.proofs.TextMaps.Lines.{lines-none, lines-more}
+use Rattle.java_properties.proofs.TextMaps.Lines.{HasWrittenLines, lines-none, lines-more}
 use Rattle.std.specs.Cmp.Lexicographic.{slice_cmp, nat_list_cmp_total}
 use Rattle.std.specs.HashMap.{HashMap, IsUnique}
 use Rattle.std.specs.List.{IsDistinct, AllByRecursion}

@@ -1,6 +1,6 @@
 -- The ends of lines, as they are found one after another.
-use Rattle.std.specs.Prelude.{◌≡◌, ℕ, ◌+◌, ◌-◌, ◌<◌, ◌≤◌, ◌==◌, ◌&&◌, ◌||◌, not, nat_le, Bool, true, false, if◌then◌else◌, List, [], ◌∷◌, ◌++◌, length, take, drop, reverse, Option, Some, None}
-use Rattle.properties_format.specs.Text.{backslash, begins, form_feed, is_blank, is_empty, space, tab, without_leading_blanks}
+use Rattle.std.specs.Prelude.{◌≡◌, ℕ, ◌+◌, ◌-◌, ◌<◌, ◌≤◌, ◌==◌, ◌&&◌, ◌||◌, not, Bool, true, false, if◌then◌else◌, List, [], ◌∷◌, ◌++◌, length, take, drop, reverse, Option, Some, None}
+use Rattle.properties_format.specs.Text.{backslash, begins, form_feed, is_empty, space, tab}
 use Rattle.properties_format.specs.Lines.{is_comment_line, is_open}
 use Rattle.properties_format.specs.Body.{HeldLine}
 use Rattle.properties_format.specs.Encoding.{Encoding, ascii_bytes}
@@ -44,10 +44,6 @@ module _ {X : Type 0} (of : Misread → ℕ → X) where
   ends_from is_joined n (h ∷ hs) =
       misread_at of (n + 1) (said_end is_joined h.text (is_end hs)) ++ ends_from (joins_next is_joined h.text) (n + 1) hs
 
--- of those to come
-abbrev pub ends_left : Bool → List ℕ → Scanner → List Finding
-ends_left is_joined body s = ends_from misread_finding is_joined s.passed (held_lines_left body s)
-
 -- The findings on the ends of lines come after the others.
 abbrev pub AddsEnds : Encoding → List ℕ → List Finding → List Finding → Type 0
 AddsEnds e source old new = (ends : List Finding) × AreMisreadEnds misread_finding e source ends × (new ≡ old ++ ends)
@@ -63,11 +59,6 @@ FindsOpenLine body old None new = held_lines_left body old ≡ []
 FindsOpenLine body old (Some number) new = FindsNumber body old number new
 
 -- ---- a body that has none
-
--- whether a blank comes after a backslash, or at most two bytes do
-abbrev pub holds_candidate : List ℕ → Bool
-holds_candidate [] = false
-holds_candidate (b ∷ bs) = (b == backslash && (nat_le (length bs) 2 || begins is_blank bs)) || holds_candidate bs
 
 -- whether this byte comes after a backslash
 abbrev pub holds_pair : ℕ → List ℕ → Bool
@@ -98,11 +89,6 @@ EndsInAscii e bytes (Some c) =
     (c < 0x80) × (unit_size e ≤ length bytes)
     × (reverse (decoded_line e bytes) ≡ c ∷ reverse (decoded_line e (take (length bytes - unit_size e) bytes)))
 EndsInAscii e bytes None = (c : ℕ) (y : List ℕ) → c < 0x80 → reverse (decoded_line e bytes) ≡ c ∷ y → ⊥
-
--- One text in reverse is another without some blanks at its front; the flag says whether there were some.
-abbrev pub IsUnblanked : List ℕ → List ℕ → Bool → Type 0
-IsUnblanked whole rest true = (without_leading_blanks whole ≡ without_leading_blanks rest) × (begins is_blank whole ≡ true)
-IsUnblanked whole rest false = whole ≡ rest
 
 -- It begins with this one, or with none.
 abbrev pub BeginsWithAscii : Encoding → List ℕ → Option ℕ → Type 0

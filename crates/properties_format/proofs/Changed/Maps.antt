@@ -12,16 +12,16 @@ use Rattle.properties_format.proofs.Maps.{value_in-meets, map-only, first-assoc,
 
 -- ---- the value of a key in a list of contents
 
-abbrev content_value : Content → List ℕ → Option (List ℕ)
+abbrev pub content_value : Content → List ℕ → Option (List ℕ)
 content_value (pair k v) key = if bytes_eq k key then Some v else None
 content_value (comment text) key = None
 
-abbrev value_among : List Content → List ℕ → Option (List ℕ)
+abbrev pub value_among : List Content → List ℕ → Option (List ℕ)
 value_among [] key = None
 value_among (c ∷ cs) key = first_value (value_among cs key) (content_value c key)
 
 -- The value of a key in the entries is its value in their contents.
-value-contents : (entries : List Entry) (key : List ℕ) → value_in entries key ≡ value_among (contents entries) key
+pub value-contents : (entries : List Entry) (key : List ℕ) → value_in entries key ≡ value_among (contents entries) key
 value-contents [] key = refl
 value-contents (item n (pair k v) ∷ entries) key = rw (value-contents entries key)
 value-contents (item n (comment text) ∷ entries) key = rw (value-contents entries key)

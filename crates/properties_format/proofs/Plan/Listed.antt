@@ -6,14 +6,12 @@ use Rattle.properties_format.specs.Text.{scalar, lf, line_feed}
 use Rattle.properties_format.specs.Encoding.{Encoding, Repertoire, InForce, byte_order_mark, begins_like_bom, in_encoding}
 use Rattle.properties_format.specs.Body.{HeldLine, groups_bytes}
 use Rattle.properties_format.specs.Edited.{is_editable, bom_of, guarding_lf}
-use Rattle.properties_format.specs.Edits.{Edit, put, remove, set_value, AreEdited, IsScalarEdit, AreScalarEdits}
 use Rattle.properties_format.specs.Plan.{planned, removal, at_last, put_change, put_in, value_change, value_in, with_key_set, with_value_set, with_key_removed}
 use Rattle.properties_format.specs.Computed.Lines.{ends_in_cr}
 use Rattle.properties_format.specs.Computed.Body.{held_groups_of}
 use Rattle.properties_format.proofs.Body.Decoded.{decoded-nil}
 use Rattle.properties_format.proofs.Edited.ByteOrderMarks.{in_force, key_set-in_force, source-whole}
 use Rattle.properties_format.proofs.Edited.LogicalLines.{ends-right}
-use Rattle.properties_format.proofs.Edits.Results.{edit_made, edit-is_made, edit-encoding, edit-editable}
 use Rattle.properties_format.proofs.GroupsInTurn.Merged.{IsEndedGroup}
 use Rattle.properties_format.proofs.Plan.Made.{key_set-meets, value_set-meets}
 use Rattle.properties_format.proofs.Plan.Slots.{AreSlotsOf, groups_after, slots-removed, turn-cons}
@@ -109,35 +107,3 @@ slots-value_set r source key value gs ok k v s =
     (valued-in_force r source key value ok) (slots-valued t f.body key value gs ok k v s)
 
 -- ---- in turn
-
--- After an edit, groups stand for what it makes.
-slots-edit : (r : Repertoire) (source : List ℕ) (edit : Edit) (gs : List (List HeldLine)) → is_editable (byte_order_mark r.encoding source).encoding ≡ true
-    → IsScalarEdit edit → AreSlotsIn r.encoding source gs → (slots : List (List HeldLine)) × AreSlotsIn r.encoding (edit_made r source edit) slots
-slots-edit r source (put key value) gs ok p s = (_, slots-key_set r source key value gs ok p.0 p.1 s)
-slots-edit r source (remove key) gs ok p s = (_, slots-key_removed r.encoding source key gs ok s)
-slots-edit r source (set_value key value) gs ok p s = (_, slots-value_set r source key value gs ok p.0 p.1 s)
-
--- The source after such edits, and groups that stand for it: those of the source, each edit made to them.
-pub record AreMadeOf (r : Repertoire) (source : List ℕ) (edits : List Edit) (gs : List (List HeldLine)) : Type 0 where
-  pub result : List ℕ
-  pub edited : AreEdited r source edits result
-  pub slots : List (List HeldLine)
-  pub are_slots : AreSlotsIn r.encoding result slots
-  pub encoding : (byte_order_mark r.encoding result).encoding ≡ (byte_order_mark r.encoding source).encoding
-
-pub in-turn : (r : Repertoire) (source : List ℕ) (edits : List Edit) (gs : List (List HeldLine))
-    → is_editable (byte_order_mark r.encoding source).encoding ≡ true
-    → AreScalarEdits edits → AreSlotsIn r.encoding source gs → AreMadeOf r source edits gs
-in-turn r source [] gs ok p s = record { result = source; edited = refl; slots = gs; are_slots = s; encoding = refl }
-in-turn r source (edit ∷ edits) gs ok p s =
-    let next = edit_made r source edit in
-    let h = (edit-is_made r source edit next ok).1 refl in
-    let (slots, are) = slots-edit r source edit gs ok p.0 s in
-    let m = in-turn r next edits slots (edit-editable r source edit next ok h) p.1 are in
-    record {
-      result = m.result;
-      edited = (next, h, m.edited);
-      slots = m.slots;
-      are_slots = m.are_slots;
-      encoding = m.encoding ∙ edit-encoding r source edit next ok h;
-    }

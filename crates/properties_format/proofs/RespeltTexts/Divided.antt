@@ -11,6 +11,7 @@ use Rattle.properties_format.proofs.Escapes.Digits.{digits}
 use Rattle.properties_format.proofs.Escapes.Trimmed.{full-last}
 use Rattle.properties_format.proofs.RespeltTexts.Parts.{Part, same, after_backslash, past, lone, on, text, IsPart, AreParts, on-whole, on-beyond, escaped-beyond}
 use Rattle.properties_format.proofs.RespeltTexts.Joined.{skip, skips, skip-parts}
+use Rattle.properties_format.proofs.Split.Keys.{with_text}
 
 -- ---- without trailing blanks
 
@@ -78,10 +79,6 @@ cut_parts (same c ∷ ps) = if ends_key c then record { key = []; rest = same c 
 cut_parts (after_backslash c ∷ ps) = part_in_front (after_backslash c) (cut_parts ps)
 cut_parts (past p q ∷ ps) = part_in_front (past p q) (cut_parts ps)
 cut_parts (lone ∷ ps) = part_in_front lone (cut_parts ps)
-
--- the key with a text at its front
-abbrev with_text : List ℕ → KeyCut → KeyCut
-with_text x cut = record { key = x ++ cut.key; rest = cut.rest }
 
 plain-key : (c : ℕ) (y : List ℕ) → (c == backslash) ≡ false → ends_key c ≡ false → cut_key (c ∷ y) false ≡ with_front c (cut_key y false)
 plain-key c y h k = rw (h, k) refl

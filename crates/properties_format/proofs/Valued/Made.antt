@@ -1,5 +1,5 @@
 -- Groups that are pairs, their values, and the separator of the last of them.
-use Rattle.std.proofs.Common.{arith, rules, ◌≡◌, ℕ, true, List, [], ◌∷◌, ◌++◌, Option, Some, None, refl, ap, sym, ◌∙◌, inl, inr}
+use Rattle.std.proofs.Common.{arith, rules, ◌≡◌, ℕ, true, List, [], ◌∷◌, ◌++◌, Some, None, refl, ap, sym, ◌∙◌, inl, inr}
 use Rattle.std.proofs.lemmas.Slice.Eq.{bytes_eq-Decides}
 use Rattle.properties_format.specs.Encoding.{Encoding}
 use Rattle.properties_format.specs.Lines.{Ended, joined}
@@ -9,7 +9,7 @@ use Rattle.properties_format.specs.Items.{pair, given}
 use Rattle.properties_format.specs.Computed.Items.{outcome_of}
 use Rattle.properties_format.specs.Body.{HeldLine, AreHeld, AreGroupsOf, as_lines, held_in, HasKey}
 use Rattle.properties_format.specs.Valued.{HoldsPair, NoPairs, IsNewSeparator}
-use Rattle.properties_format.specs.Computed.Valued.{between_if_pair, or_else, last_between, separator_by, is_pair_to, has_value}
+use Rattle.properties_format.specs.Computed.Valued.{between_if_pair, last_between, separator_by, is_pair_to, has_value}
 use Rattle.properties_format.proofs.Items.Unique.{outcome_of-meets, outcome_of-only}
 use Rattle.properties_format.proofs.Split.Unique.{split_of-meets, split_of-only}
 use Rattle.properties_format.proofs.Cut.Byline.{decoded_line-only}
@@ -81,16 +81,6 @@ last_between-some : (before : List (List HeldLine)) (g : List HeldLine) (after :
     (h : IsPair (joined (as_lines g)) key value) → NoPairs after → last_between (before ++ g ∷ after) ≡ Some h.between
 last_between-some [] g after key value h k = rw (last_between-none after k, between-parsed_pair (joined (as_lines g)) key value h)
 last_between-some (f ∷ before) g after key value h k = simp (last_between-some before g after key value h k)
-
--- Choosing the first of three is associative.
-pub or_else-three : (a b c : Option (List ℕ)) → or_else (or_else a b) c ≡ or_else a (or_else b c)
-or_else-three a b c = grind (arith)
-
--- One more group: its own separator if it is a pair, otherwise that of the last pair before it.
-pub last_between-push : (gs : List (List HeldLine)) (g : List HeldLine)
-    → last_between (gs ++ g ∷ []) ≡ or_else (between_if_pair (split_of (joined (as_lines g))) (joined (as_lines g))) (last_between gs)
-last_between-push [] g = sym (search (rules))
-last_between-push (f ∷ gs) g = simp (or_else-three, last_between-push gs g)
 
 -- The separator is the computed one.
 pub new_separator-only : (groups : List (List HeldLine)) (key separator : List ℕ) → IsNewSeparator groups key separator

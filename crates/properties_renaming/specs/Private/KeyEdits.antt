@@ -1,9 +1,9 @@
 -- What the parts of a list of edits return.
-use Rattle.std.specs.Prelude.{◌≡◌, ◌⊎◌, ◌<◌, ◌≤◌, ℕ, List, [], ◌∷◌, ◌++◌, length, take, drop, Result, Ok, Err}
+use Rattle.std.specs.Prelude.{◌≡◌, ◌⊎◌, ◌<◌, ◌≤◌, ℕ, List, [], ◌∷◌, length, take, drop, Result, Ok, Err}
 use Rattle.std.specs.Global.{Vec}
 use Rattle.properties_items.specs.declared.error.PropertiesError.{PropertiesError}
 use Rattle.properties_editing.specs.declared.source.SourceOptions.{SourceOptions}
-use Rattle.properties_renaming.specs.KeyEdits.{AreRuns, AreRunsOf, IsMemoryError, IsRun, KeyEdit, Leave, MakesRun, Returns, edits_in_runs}
+use Rattle.properties_renaming.specs.KeyEdits.{IsMemoryError, IsRun, KeyEdit, MakesRun, Returns}
 use Rattle.properties_renaming.specs.declared.renames.RenamesError.{RenamesError}
 use Rattle.properties_renaming.specs.declared.renames.RenamesError.TheVariants.{Source, NoKey, KeyTaken}
 
@@ -27,11 +27,3 @@ abbrev pub IsIndexBelow : ℕ → RenamesError → Type 0
 IsIndexBelow size (Source error) = Unit {0}
 IsIndexBelow size (NoKey index) = index < size
 IsIndexBelow size (KeyTaken index number) = index < size
-
--- So many edits of a list are whole runs, which left these bytes. Whatever runs the others are, they come after these.
-pub record AreMadeTo (options : SourceOptions) (source : List ℕ) (es : List KeyEdit) (done : ℕ) (bytes : List ℕ) : Type 0 where
-  pub within : done ≤ length es
-  pub before : List (List KeyEdit)
-  pub leave : Leave options source before bytes
-  pub count : done ≡ length (edits_in_runs before)
-  pub go_on : (runs : List (List KeyEdit)) → AreRuns (drop done es) runs → AreRunsOf es (before ++ runs)

@@ -88,33 +88,11 @@ abbrev pub AreMakeable : List NewName → Type 0
 AreMakeable [] = Unit {0}
 AreMakeable (n ∷ ns) = IsMakeable n ns × AreMakeable ns
 
--- No pair may have a key that no pair may have.
-abbrev pub IsFreeOf : List NewName → List HeldLine → Type 0
-IsFreeOf names g = (key : List ℕ) → HasKey key g → needed names key ≢ Some false
-
 -- A pair gets the last name of its key; a group without such a key stays.
 abbrev pub IsGivenBy : Repertoire → List NewName → Bool → List HeldLine → List ℕ → Type 0
 IsGivenBy r names first g made =
     ((key : List ℕ) × (new : List ℕ) × HasKey key g × (last_name names key ≡ Some new) × IsRekeyed r first g new made)
     ⊎ ((key : List ℕ) → HasKey key g → last_name names key ≡ None) × (made ≡ group_bytes g)
-
--- And none has a key that none may have.
-abbrev pub IsMadeBy : Repertoire → List NewName → Bool → List HeldLine → List ℕ → Type 0
-IsMadeBy r names first g made = IsFreeOf names g × IsGivenBy r names first g made
-
--- A pair has each key that one has to have.
-abbrev pub AreThere : List NewName → List (List HeldLine) → Type 0
-AreThere names gs = (key : List ℕ) → needed names key ≡ Some true → ¬ (NoneHasKey key gs)
-
--- All keys were renamed at once.
-pub record AreRenamedAtOnce (r : Repertoire) (source : List ℕ) (names : List NewName) (result : List ℕ) : Type 0 where
-  pub makeable : AreMakeable names
-  pub groups : List (List HeldLine)
-  pub held : AreIn r.encoding source groups
-  pub there : AreThere names groups
-  pub body : List ℕ
-  pub made : AreMade (IsMadeBy (repertoire_in_force r source) names) true groups body
-  pub whole : result ≡ bom_of source ++ body
 
 -- ---- the roles of names
 

@@ -1,8 +1,7 @@
 -- How texts are taken that each end with a zero byte.
-use Rattle.std.specs.Prelude.{◌≡◌, ◌≢◌, ℕ, List, [], ◌∷◌, ◌++◌, Result, Ok, Err, map}
+use Rattle.std.specs.Prelude.{◌≡◌, ◌≢◌, ℕ, List, [], ◌∷◌, ◌++◌, Result, Ok, Err}
 use Rattle.std.specs.Borrow.{Bor}
-use Rattle.properties_format.specs.Edits.{Edit}
-use Rattle.properties_tools.specs.Propedit.Merge.{set_of_texts, text_bytes, HasNoZero, TextPair}
+use Rattle.properties_tools.specs.Propedit.Merge.{HasNoZero}
 use Rattle.properties_tables.specs.declared.error.TextFlaw.{TextFlaw}
 use Rattle.properties_tables.specs.declared.error.TextFlaw.TheVariants as flaw
 
@@ -13,9 +12,3 @@ TakesText rest (Ok parts) = (rest ≡ parts.0.now ++ 0 ∷ parts.1.now) × HasNo
 TakesText rest (Err flaw.NoValue) = rest ≡ []
 TakesText rest (Err flaw.NotEnded) = (rest ≢ []) × HasNoZero rest
 TakesText rest (Err flaw.NotUtf8) = ⊥
-
--- These edits set the pairs of a file up to what is left of it.
-pub record TookTexts (file rest : List ℕ) (edits : List Edit) : Type 0 where
-  pub pairs : List TextPair
-  pub division : file ≡ text_bytes pairs ++ rest
-  pub are : edits ≡ map set_of_texts pairs

@@ -125,7 +125,9 @@ fn write_and_flush(
     writer: &mut PropertiesWriter<ScriptedSink>,
     map: &BTreeMap<String, String>,
 ) -> Result<(), PropertiesError> {
-    writer.write_map(map)?;
+    for (key, value) in map {
+        writer.write(key.as_str(), value.as_str())?;
+    }
     writer.flush()
 }
 

@@ -4,8 +4,9 @@ use Rattle.properties_text.specs.Encoding.{encoding_of}
 use Rattle.properties_lines.specs.Private.HeldLines.{held_lines_left}
 use Rattle.properties_checking.specs.Private.Checking.{misread_finding}
 use Rattle.properties_tables.specs.Private.Flawed.{IsScanning}
-use Rattle.properties_checking.specs.Private.OpenLines.{ends_from, ends_left}
+use Rattle.properties_checking.specs.Private.OpenLines.{ends_from}
 use Rattle.properties_checking.proofs.open_lines.push_ends.Given as goal
+use Rattle.properties_checking.proofs.OpenLines.{ends_left}
 
 abbrev pub invariant-loop-number : goal.invariant-loop-number
 invariant-loop-number l = record {

@@ -3,7 +3,6 @@ use Rattle.properties_text.specs.Encoding.{encoding_of}
 use Rattle.properties_editing.proofs.Editing.{editable-bytes}
 use Rattle.properties_editing.proofs.BodyCuts.{cutting-found, cutting-on}
 use Rattle.properties_editing.proofs.cuts.find_cut.Goals as goal
-use Rattle.properties_editing.proofs.cuts.find_cut.Goals.{After-pass_characters-passed}
 
 pub returns-then-passed-wanted : goal.returns-then-passed-wanted
 returns-then-passed-wanted c =

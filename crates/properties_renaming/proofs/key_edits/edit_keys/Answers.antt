@@ -2,9 +2,10 @@ use Rattle.std.proofs.Common.{◌<◌, ◌≤◌, Ok, Err, arith, drop, length, 
 use Rattle.std.proofs.lemmas.List.{length-drop, length-map, length-take-le, take-map}
 use Rattle.std.proofs.lemmas.Result.{err_from_is_err_and}
 use Rattle.properties_renaming.specs.KeyEdits.{MakesKeyEdits, MakesRun, key_edit_in, key_edits_in}
-use Rattle.properties_renaming.specs.Private.KeyEdits.{AreMadeTo, HasRunSize, IsIndexBelow, RunsOrFails}
+use Rattle.properties_renaming.specs.Private.KeyEdits.{HasRunSize, IsIndexBelow, RunsOrFails}
 use Rattle.properties_renaming.proofs.RunsInTurn.{fails-first, fails-later, made-all, made-first, made-more, rest-of, run-of, run-within, size-within}
 use Rattle.properties_renaming.proofs.key_edits.edit_keys.Goals as goal
+use Rattle.properties_renaming.proofs.RunsInTurn.{AreMadeTo}
 
 pub returns-in_err-bytes : goal.returns-in_err-bytes
 returns-in_err-bytes c =

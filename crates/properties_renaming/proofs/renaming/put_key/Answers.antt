@@ -2,6 +2,7 @@ use Rattle.std.proofs.Common.{◌++◌, ◌+◌, ◌-◌, ◌≡◌, ◌≤◌, 
 use Rattle.std.specs.Prelude.{◌&&◌, ◌==◌}
 use Rattle.std.specs.Str.{chars}
 use Rattle.std.proofs.lemmas.Result.{on_ok_weaker}
+use Rattle.std.proofs.lemmas.Bool.{and_left}
 use Rattle.properties_format.specs.Body.{group_bytes}
 use Rattle.properties_format.specs.Encoding.{Repertoire}
 use Rattle.properties_format.specs.Printing.{encoded_text}
@@ -12,7 +13,7 @@ use Rattle.properties_renaming.specs.Renaming.{key_text}
 use Rattle.properties_renaming.specs.Private.Renaming.{later, past_joins}
 use Rattle.properties_renaming.proofs.KeyPlaces.{placed}
 use Rattle.properties_renaming.specs.Private.Copied.{IsReplacedIn}
-use Rattle.properties_renaming.proofs.RenamedKeys.{and-false, and-true, pair-places, rekeyed-in}
+use Rattle.properties_renaming.proofs.RenamedKeys.{and-true, pair-places, rekeyed-in}
 use Rattle.properties_renaming.proofs.renaming.put_key.Goals as goal
 use Rattle.properties_renaming.proofs.renaming.put_key.Goals.{then-key, else-key}
 
@@ -38,7 +39,7 @@ returns c =
     let k = placed v.encoding ending v.group at.0 at.1 m.editable lines fit at.2.is_pair n within rest at.2.key_end.0 in
     let first : c.if-key.is_first ≡ (c.args.key.first && (v.start + n == v.start)) = elim c.if-key.branch [
       | then-key w ↦ w.is_first-is ∙ ap (λ s. s + n == s) start ∙ sym (and-true c.args.key.first (v.start + n == v.start) w.if-key.true)
-      | else-key w ↦ w.is_first-is ∙ w.if-key.false ∙ sym (and-false c.args.key.first (v.start + n == v.start) w.if-key.false)
+      | else-key w ↦ w.is_first-is ∙ w.if-key.false ∙ sym (and_left c.args.key.first (v.start + n == v.start) w.if-key.false)
     ] in
     let printed = rw c.line.ensures at c.in_ok-print_key.ensures in
     on_ok_weaker c.replace.result
