@@ -1,15 +1,12 @@
 // How many pairs a change of a source changed, added and removed.
 
-ghost use Rattle.std.specs.Prelude.{◌≡◌, not, bytes_eq};
-ghost use Rattle.std.specs.Option.{option_map};
-ghost use Rattle.std.specs.Str.{chars};
-ghost use Rattle.java_properties.specs.Documents.{characters_of};
+ghost use Rattle.std.specs.Prelude.{◌≡◌};
 ghost use Rattle.properties_text.specs.Encoding.{encoding_of};
-ghost use Rattle.properties_changing.specs.Private.Counting.{CountsKeys};
-ghost use Rattle.properties_changing.specs.Counts.{is_of, pair_words, CountsChanges};
-ghost use Rattle.properties_changing.specs.Change.{borrowed_characters};
+ghost use Rattle.properties_changing.specs.Counts.{pair_words, CountsChanges};
 
-use java_properties::{Comments, Document, Encoding, PropertiesError, SourceOptions};
+use java_properties::Encoding;
+use properties_tables::error::Failure;
+use properties_tables::table::table_of;
 use std::alloc::Global;
 use std::fmt;
 
@@ -27,17 +24,9 @@ pub struct Counts {
     pub removed: usize,
 }
 
-// What became of a pair.
-#[derive(Clone, Copy)]
-pub(crate) enum Kind {
-    Changed,
-    Added,
-    Removed,
-}
-
 /// Returns how many pairs of a source another one has changed, added and removed. Of both, comments are passed over.
 ///
-/// It holds both as documents at once, each with a copy of its bytes and with its keys and values.
+/// It holds the table of both at once, and refuses each as `list` does.
 ///
 /// ```text
 /// let counts = count_changes(alloc, b"a = 1\nb = 2\n", b"a = 2\nc = 2\n", Encoding::UTF_8)?;
@@ -48,53 +37,24 @@ pub fn count_changes(
     source: &[u8],
     bytes: &[u8],
     encoding: Encoding,
-) -> Result<Counts, PropertiesError>
+) -> Result<Counts, Failure>
     ensures { CountsChanges (encoding_of encoding) source.now bytes.now result }
 {
-    let options = SourceOptions {
-        encoding,
-        ascii_only: false,
-        latin_1: false,
-        comments: Comments::PassedOver,
-    };
-    let old = Document::parse_with(alloc, source, options)?;
-    let new = Document::parse_with(alloc, bytes, options)?;
-    let old_keys = old.keys()?;
-    let new_keys = new.keys()?;
+    let old = table_of(alloc, source, encoding)?;
+    let new = table_of(alloc, bytes, encoding)?;
+    let mut changed = 0;
+    let mut kept = 0;
+    for row in 0..old.len() {
+        if let Some(found) = new.find(old.key(row)) {
+            changed += usize::from(old.value(row) != new.value(found));
+            kept += 1;
+        }
+    }
     Ok(Counts {
-        changed: count(Kind::Changed, &old, &new, &old_keys),
-        added: count(Kind::Added, &old, &new, &new_keys),
-        removed: count(Kind::Removed, &old, &new, &old_keys),
+        changed,
+        added: new.len() - kept,
+        removed: old.len() - kept,
     })
-}
-
-// Returns how many of these keys are of this kind.
-fn count(kind: Kind, old: &Document, new: &Document, keys: &[&str]) -> usize
-    ensures { CountsKeys kind old.now new.now (characters_of keys.now) result }
-{
-    let mut number = 0;
-    for key in keys {
-        number += usize::from(is_of(kind, old.get(key), new.get(key)));
-    }
-    number
-}
-
-// Returns whether a key is of this kind that had the first value and has the second.
-fn is_of(kind: Kind, old: Option<&str>, new: Option<&str>) -> bool
-    ensures { result ≡ is_of kind (option_map borrowed_characters old.entry) (option_map borrowed_characters new.entry) }
-{
-    match (kind, old, new) {
-        (Kind::Changed, Some(old), Some(new)) => is_other(old, new),
-        (Kind::Added, None, Some(_)) | (Kind::Removed, Some(_), None) => true,
-        _ => false,
-    }
-}
-
-// Returns whether two values differ.
-fn is_other(old: &str, new: &str) -> bool
-    ensures { result ≡ not (bytes_eq (chars old.now) (chars new.now)) }
-{
-    old != new
 }
 
 impl fmt::Display for Counts {

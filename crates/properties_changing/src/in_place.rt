@@ -6,14 +6,14 @@ ghost use Rattle.counted_io.specs.Streams.{IsSameSink};
 ghost use Rattle.std.specs.Path.{path_bytes};
 ghost use Rattle.properties_text.specs.Encoding.{encoding_of};
 ghost use Rattle.properties_changing.specs.InPlace.{problem_display, replace_display, IsChangeLine, IsProblemLine, PrintsChange, PrintsEditError, PrintsProblem, PrintsRefusal};
-ghost use Rattle.properties_changing.specs.Private.InPlace.{folder_of, unsynced, EditsBytes, IsEditError, IsPresenceAfter, IsRenameProblem, SaysOfSome};
+ghost use Rattle.properties_changing.specs.Private.InPlace.{folder_of, unsynced, EditsBytes, IsCountFailure, IsEditError, IsPresenceAfter, IsRenameProblem, SaysOfSome};
 
 use crate::change::replacement;
 use crate::counts::count_changes;
 use crate::request::{FileChange, Missing};
 use crate::same_file::{is_same_file, refuse_output};
 use counted_io::CountedWrite;
-use java_properties::{Encoding, PropertiesError};
+use java_properties::Encoding;
 use properties_tables::error::{FAILED, Failure, NO_MEMORY, print_failure};
 use properties_tables::messages::{Escaped, print_line};
 use std::alloc::{AllocError, Global};
@@ -125,8 +125,9 @@ fn change_line(
     source: &[u8],
     bytes: &Option<Vec<u8>>,
     encoding: Encoding,
-) -> Result<String, PropertiesError>
-    ensures { IfOk result (λ line. IsChangeLine path.now (encoding_of encoding) source.now bytes.now (string_bytes line)) }
+) -> Result<String, Failure>
+    ensures line { IfOk result (λ line. IsChangeLine path.now (encoding_of encoding) source.now bytes.now (string_bytes line)) }
+    ensures fails { IfErr result (IsCountFailure (encoding_of encoding)) }
 {
     let path = Escaped(path);
     match bytes {

@@ -1,10 +1,16 @@
--- How the pairs of two documents are compared.
-use Rattle.std.specs.Prelude.{◌≡◌, ℕ, List, Option}
-use Rattle.java_properties.specs.Documents.{OpenDocument, HasValueAt}
-use Rattle.properties_changing.specs.Counts.{count_of}
-use Rattle.properties_changing.specs.declared.counts.Kind.{Kind}
+-- How the rows of two tables are compared.
+use Rattle.std.specs.Prelude.{◌≡◌, ℕ, All, List, count_by, Option, Some, None}
+use Rattle.std.specs.Option.{is_some}
+use Rattle.properties_format.specs.Computed.Maps.{HasNot}
+use Rattle.properties_tables.specs.Table.{row_keys, Row}
+use Rattle.properties_changing.specs.Counts.{is_changed}
 
--- So many of these keys are of this kind, whatever gives the values of the documents.
-abbrev pub CountsKeys : Kind → OpenDocument → OpenDocument → List (List ℕ) → ℕ → Type 0
-CountsKeys kind d d' keys number = (old new : List ℕ → Option (List ℕ))
-    → ((key : List ℕ) → HasValueAt d key (old key)) → ((key : List ℕ) → HasValueAt d' key (new key)) → number ≡ count_of kind old new keys
+-- These are the values of the keys of rows.
+pub record AreRowValues (rows : List Row) (value_at : List ℕ → Option (List ℕ)) : Type 0 where
+  pub each : All (λ r. value_at r.key ≡ Some r.value) rows
+  pub others : (key : List ℕ) → HasNot key (row_keys rows) → value_at key ≡ None
+
+-- So many of these keys have another value in the new rows, and so many have one there, whatever gives the values.
+abbrev pub CountsKeys : List Row → List Row → List (List ℕ) → (changed kept : ℕ) → Type 0
+CountsKeys olds news keys changed kept = (old new : List ℕ → Option (List ℕ)) → AreRowValues olds old → AreRowValues news new
+    → (changed ≡ count_by (λ key. is_changed (old key) (new key)) keys) × (kept ≡ count_by (λ key. is_some (new key)) keys)

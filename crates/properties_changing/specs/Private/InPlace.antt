@@ -13,6 +13,7 @@ use Rattle.properties_changing.specs.Change.{Replaces, Changes}
 use Rattle.properties_changing.specs.InPlace.{IsChangeLine}
 use Rattle.properties_changing.specs.declared.request.Change.{Change}
 use Rattle.properties_changing.specs.declared.request.FileChange.{FileChange}
+use Rattle.properties_tables.specs.Sources.{IsUnsound}
 use Rattle.properties_tables.specs.declared.error.Failure.{Failure}
 use Rattle.properties_tables.specs.declared.error.Failure.TheVariants.{Input}
 use Rattle.properties_changing.specs.declared.in_place.EditError.{EditError}
@@ -54,12 +55,16 @@ SaysOf file source bytes None = file.verbose ≡ false
 SaysOf file source bytes (Some line) =
     (file.verbose ≡ true) × IsChangeLine (string_bytes file.path) (encoding_of file.encoding) source bytes (string_bytes line)
 
+-- Comparing some bytes failed: some are refused, or memory ran out.
+abbrev pub IsCountFailure : Encoding → Failure → Type 0
+IsCountFailure e failure = (bytes : List ℕ) × IsUnsound e bytes failure
+
 -- What changing the bytes of a file returns. It fails only as the change does, or as comparing its result with them
 -- does.
 abbrev pub EditsBytes : FileChange → List ℕ → Result (Option (Vec ℕ) × Option (String Global)) Failure → Type 0
 EditsBytes file source (Ok made) = Replaces (encoding_of file.encoding) source file.change (Ok made.0) × SaysOf file source made.0 made.1
 EditsBytes file source (Err failure) =
-    ((error : PropertiesError) × (failure ≡ Input error)) ⊎ Changes (encoding_of file.encoding) source file.change (Err failure)
+    IsCountFailure (encoding_of file.encoding) failure ⊎ Changes (encoding_of file.encoding) source file.change (Err failure)
 
 -- This is printed of what replaces some bytes.
 abbrev pub SaysOfSome : FileChange → Option (String Global) → Type 0
@@ -67,5 +72,6 @@ SaysOfSome file said = (source : List ℕ) × (bytes : Option (Vec ℕ)) × Edit
 
 -- Why a file is not changed: it can't be read, the change is refused for some bytes, or the file is not replaced.
 abbrev pub IsEditError : Encoding → Change → EditError → Type 0
-IsEditError e change (NotEdited failure) = ((error : PropertiesError) × (failure ≡ Input error)) ⊎ ((source : List ℕ) × Changes e source change (Err failure))
+IsEditError e change (NotEdited failure) =
+    ((error : PropertiesError) × (failure ≡ Input error)) ⊎ (IsCountFailure e failure ⊎ ((source : List ℕ) × Changes e source change (Err failure)))
 IsEditError e change (NotReplaced error) = Unit {0}
