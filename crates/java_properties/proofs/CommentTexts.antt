@@ -17,9 +17,8 @@ use Rattle.properties_editing.specs.declared.group.GroupKind.{GroupKind}
 use Rattle.properties_editing.specs.declared.group.GroupKind.TheVariants as kind
 use Rattle.properties_editing.specs.declared.source.Comments.TheVariants.{PassedOver}
 use Rattle.properties_editing.proofs.PassedOver.{passed-no_pair}
-use Rattle.properties_renaming.specs.CommentLines.{is_comment}
+use Rattle.properties_renaming.proofs.CommentGroups.{line-comment}
 use Rattle.java_properties.specs.Private.PassedGroups.{IsKindOf, IsSoundLine}
-use Rattle.java_properties.proofs.KeyComments.{shown-comment}
 
 -- ---- what a group says of a key
 
@@ -38,7 +37,7 @@ no-pair key k x (what, s, is) other = by what s is
         let o : outcome_of x ≡ ignored = sym (outcome_of-only x ignored s) in
         (sym (ap (is_pair_with key) o), inl (subst IsSoundOutcome (sym o) tt))
     by (Logical.comment text) s is =
-        let line = shown-comment k x (Logical.comment text, s, is) (ap is_comment is) in
+        let line = line-comment x text s in
         (no-key key (outcome_of x) (passed-no_pair PassedOver x line).0, inr line)
     by (Logical.pair name value) s is = absurd (other is)
 

@@ -32,7 +32,7 @@ use Rattle.properties_editing.proofs.PassedOver.{from-after, from-fault, from-so
 use Rattle.std.specs.declared.alloc.AllocError.{AllocError}
 use Rattle.java_properties.specs.Commented.{AreTextsOfComment, HasComment, IsCommentError, RefusesComment}
 use Rattle.properties_renaming.specs.CommentLines.{is_line_of_comment}
-use Rattle.properties_renaming.specs.FoundSeparators.{HasNoLines}
+use Rattle.properties_renaming.specs.FoundSeparators.{IsRunOf}
 use Rattle.properties_renaming.specs.declared.separators.LastRun.{LastRun}
 use Rattle.java_properties.specs.Private.PassedGroups.{ArePassed, IsUnsoundPassed, PassedTexts}
 use Rattle.java_properties.proofs.KeyComments.{HavePassed, passed-more, passed-none, texts-more}
@@ -108,7 +108,7 @@ pub record HaveShown (requested : Encoding) (source key : List ℕ) (v : OpenVie
   pub counted : v.passed + length v.group ≡ length (held_in passed)
   pub known : HavePassed key passed texts
 
-pub shown-none : {requested : Encoding} {source : List ℕ} {v : OpenView} (key : List ℕ) (last : LastRun) → HasNoLines last → IsViewOf requested source v
+pub shown-none : {requested : Encoding} {source : List ℕ} {v : OpenView} (key : List ℕ) (last : LastRun) → IsRunOf [] last → IsViewOf requested source v
     → HaveShown requested source key v (record { above = []; last = last; comment = None })
 shown-none {requested} {source} {v} key last none w = record {
   passed = [];
@@ -126,7 +126,6 @@ pub shown-more : {requested : Encoding} {source key : List ℕ} {v w : OpenView}
     → TakesNext v group w → ArePassed (is_line_of_comment group) (viewed_line w) key old new → HaveShown requested source key w new
 shown-more {requested} {source} {key} {v} {w} group new h t p =
     let g = w.group in
-    let i = t.is_group in
     let counted = h.counted in
     let moved : w.passed ≡ v.passed + length v.group = ap (λ u. let k : OpenView = u in k.passed) t.moves in
     let lines : length (held_in (h.passed ++ g ∷ [])) ≡ length (held_in h.passed) + length g =
@@ -140,7 +139,7 @@ shown-more {requested} {source} {key} {v} {w} group new h t p =
       held = h.held;
       given = h.given ∙ ap (λ u. h.passed ++ u) t.takes ∙ sym (append_assoc h.passed (g ∷ []) w.to_come);
       counted = omega arith;
-      known = passed-more group.kind group.line_count g new h.known (i.what, i.is_split, i.kind_is) i.line_count p;
+      known = passed-more w group new h.known t.is_group p;
     }
 
 -- ---- all groups

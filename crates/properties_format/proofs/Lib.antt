@@ -1,6 +1,7 @@
 pub mod Examples
 pub mod Encodings
 pub mod Lines
+pub mod Separators
 pub mod Cut
 pub mod Groups
 pub mod Split

@@ -5,6 +5,7 @@ pub mod Utf16
 pub mod Encoding
 pub mod Names
 pub mod Lines
+pub mod Separators
 pub mod Cut
 pub mod Split
 pub mod Escapes

@@ -1,5 +1,5 @@
 -- Which groups are comment lines.
-use Rattle.std.proofs.Common.{◌≡◌, ℕ, true, false, List, [], ◌∷◌, ◌++◌, length, refl, sym, ap, ap₂, ◌∙◌, inl, inr, append-nil, arith}
+use Rattle.std.proofs.Common.{◌≡◌, ℕ, true, false, List, [], ◌∷◌, ◌++◌, length, refl, sym, ap, ap₂, ◌∙◌, subst, inl, inr, append-nil, arith}
 use Rattle.std.specs.Prelude.{Bool, ◌==◌, ◌&&◌}
 use Rattle.std.proofs.lemmas.Bool.{cases_Bool}
 use Rattle.properties_format.specs.Text.{is_blank, is_comment_sign, begins, without_leading_blanks}
@@ -11,8 +11,11 @@ use Rattle.properties_format.proofs.Split.Blanks.{without_leading_blanks-blanks,
 use Rattle.properties_format.proofs.Split.Unique.{sign-full}
 use Rattle.properties_format.proofs.Valued.Parts.{comment_line-no_pair}
 use Rattle.properties_renaming.specs.CommentLines.{AreCommentGroups, IsCommentGroup, IsCommentIn, lines_in_text}
-use Rattle.properties_renaming.specs.FoundSeparators.{above_if, below_if}
-use Rattle.properties_renaming.proofs.SeparatedRuns.{one-separated}
+use Rattle.properties_format.specs.Separators.{AreSeparated}
+use Rattle.properties_renaming.specs.FoundSeparators.{PassesGroup}
+use Rattle.properties_renaming.specs.declared.separators.LastRun.{LastRun}
+use Rattle.properties_renaming.proofs.SeparatedRuns.{EndIn, above_if, below_if, line-passed, other-passed}
+use Rattle.properties_format.proofs.Separators.{one-separated}
 
 -- ---- comment lines
 
@@ -87,17 +90,30 @@ pub texts-append : (fs gs : List (List HeldLine)) → lines_in_text (fs ++ gs) �
 texts-append [] gs = refl
 texts-append (f ∷ fs) gs = ap (λ w. joined (as_lines f) ∷ w) (texts-append fs gs)
 
-pub above-texts : (found : Bool) (fs gs : List (List HeldLine)) → above_if found (lines_in_text fs) (lines_in_text gs) ≡ lines_in_text (above_if found fs gs)
-above-texts true fs gs = sym (texts-append fs gs)
-above-texts false fs gs = refl
-
-pub below-texts : (found : Bool) (gs : List (List HeldLine)) → below_if found (lines_in_text gs) ≡ lines_in_text (below_if found gs)
-below-texts true gs = refl
-below-texts false gs = refl
-
 pub whole-if : (found : Bool) (fs gs : List (List HeldLine)) → fs ++ gs ≡ above_if found fs gs ++ below_if found gs
 whole-if true fs gs = sym (append-nil (fs ++ gs))
 whole-if false fs gs = refl
+
+-- One more comment line was passed,
+pub end-more : (found : Bool) (above comment : List (List HeldLine)) (g : List HeldLine) {old new : LastRun} → is_comment_line (joined (as_lines g)) ≡ true
+    → PassesGroup true (joined (as_lines g)) old found new → EndIn (lines_in_text above) (lines_in_text comment) old
+    → EndIn (lines_in_text (above_if found above comment)) (lines_in_text (below_if found comment ++ g ∷ [])) new
+end-more found above comment g {new = new} line passes h = by found (line-passed found (joined (as_lines g)) line passes h)
+  where
+    by : (b : Bool) → EndIn (above_if b (lines_in_text above) (lines_in_text comment)) (below_if b (lines_in_text comment) ++ joined (as_lines g) ∷ []) new
+        → EndIn (lines_in_text (above_if b above comment)) (lines_in_text (below_if b comment ++ g ∷ [])) new
+    by true k = subst (λ w. EndIn w (joined (as_lines g) ∷ []) new) (sym (texts-append above comment)) k
+    by false k = subst (λ w. EndIn (lines_in_text above) w new) (sym (texts-append comment (g ∷ []))) k
+
+-- or another group, which has a comment.
+pub comment-ended : (found : Bool) (above comment : List (List HeldLine)) (x : List ℕ) {old new : LastRun} → PassesGroup false x old found new
+    → EndIn (lines_in_text above) (lines_in_text comment) old → IsCommentIn (above ++ comment) (above_if found above comment) (below_if found comment)
+comment-ended found above comment x passes h = by found (other-passed found x passes h)
+  where
+    by : (b : Bool) → AreSeparated (above_if b (lines_in_text above) (lines_in_text comment)) (below_if b (lines_in_text comment))
+        → IsCommentIn (above ++ comment) (above_if b above comment) (below_if b comment)
+    by true k = record { division = sym (append-nil (above ++ comment)); separated = subst (λ w. AreSeparated w []) (sym (texts-append above comment)) k }
+    by false k = record { division = refl; separated = k }
 
 texts-length : (gs : List (List HeldLine)) → length (lines_in_text gs) ≡ length gs
 texts-length [] = refl

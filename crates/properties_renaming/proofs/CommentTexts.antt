@@ -1,8 +1,9 @@
 -- The text of a comment line.
 use Rattle.std.proofs.Common.{◌≡◌, ◌≢◌, ℕ, ◌+◌, ◌-◌, ◌<◌, ◌≤◌, true, false, List, [], ◌∷◌, ◌++◌, length, drop, suc, refl, ap, sym, ◌∙◌, subst, inl, inr, length-drop, arith}
+use Rattle.std.specs.Prelude.{get_or}
 use Rattle.std.specs.Str.{IsUtf8, chars, IsCharBoundary}
 use Rattle.std.proofs.lemmas.Bool.{cases_Bool}
-use Rattle.std.proofs.lemmas.List.{drop-drop}
+use Rattle.std.proofs.lemmas.List.{drop-drop, get_or-drop}
 use Rattle.std.proofs.lemmas.Str.{IsCharBoundary-from_drop}
 use Rattle.properties_format.specs.Text.{is_blank, is_comment_sign, begins, without_leading_blanks}
 use Rattle.properties_format.specs.Lines.{is_comment_line}
@@ -12,6 +13,7 @@ use Rattle.properties_text.proofs.Texts.Characters.{first_ascii}
 use Rattle.properties_text.proofs.Texts.Joins.{is_comment_line-text}
 use Rattle.properties_text.proofs.Texts.Split.{without_leading_blanks-part}
 use Rattle.properties_renaming.specs.CommentLines.{IsCommentLine}
+use Rattle.properties_format.specs.Separators.{sign_of}
 use Rattle.properties_renaming.specs.Private.CommentTexts.{without_first_blank}
 
 -- What a text is without the blank that it begins with.
@@ -70,6 +72,8 @@ some-first (c ∷ cs) n u some within rest = elim (cases_Bool (is_blank c)) [
 pub record HasSignAt (x : List ℕ) (sign : ℕ) : Type 0 where
   pub whole : IsCharBoundary x (sign + 1)
   pub text : IsCommentLine (chars x) (without_first_blank (chars (drop (sign + 1) x)))
+  pub within : sign < length x
+  pub same : get_or x sign 0 ≡ sign_of (chars x)
 
 is-line : (x indent y : List ℕ) (sign : ℕ) → x ≡ indent ++ (sign ∷ y) → AreBlanks indent → is_comment_sign sign ≡ true → IsCommentLine x (without_first_blank y)
 is-line x indent [] sign whole blank is = record {
@@ -120,7 +124,11 @@ comment-text x sign u line within at =
     let sizes : length (drop sign x) ≡ suc (length rest) = ap length (at ∙ y) in
     let past = without_leading_blanks-meets (chars x) in
     let whole : chars x ≡ past.before ++ (d ∷ chars rest) = past.whole ∙ ap (λ v. past.before ++ v) (sym blanks.same ∙ ap chars y ∙ first.characters) in
+    let zero : sign ≡ sign + 0 = omega arith in
+    let read : get_or x sign 0 ≡ d = ap (λ i. get_or x i 0) zero ∙ sym (get_or-drop sign x 0 0) ∙ ap (λ w. get_or w 0 0) (at ∙ y) in
     record {
       whole = IsCharBoundary-from_drop x (sign + 1) (omega arith) (subst IsUtf8 (sym after) first.utf8);
       text = subst (λ v. IsCommentLine (chars x) (without_first_blank (chars v))) (sym after) (is-line (chars x) past.before (chars rest) d whole past.before_blank f.3);
+      within = omega arith;
+      same = read ∙ sym (ap (λ w. get_or w 0 0) (sym blanks.same ∙ ap chars y ∙ first.characters));
     }

@@ -60,7 +60,7 @@ use Rattle.properties_format.proofs.Valued.Revalued.{text-own}
 use Rattle.properties_renaming.specs.CommentLines.{AreCommentGroups, IsCommentGroup, lines_in_text}
 use Rattle.properties_renaming.specs.Sections.{AreMadeOf, AreSections, Section, groups_of, is_among}
 use Rattle.properties_renaming.specs.Commenting.{AreCommentsSet, HasLines, HaveKeys, IsCommented, IsStyleFor, LineStyle, NewText, comment_line, ending_or, gap_before, other_sign, style_below, text_for, texts_of}
-use Rattle.properties_renaming.specs.Separators.{last_sign}
+use Rattle.properties_format.specs.Separators.{last_sign}
 use Rattle.properties_renaming.specs.Commented.{HasOneOf, IsLeftOf}
 use Rattle.properties_renaming.specs.Laws.{AreAmong, AreLastPairs, AreOthersIn, ChangedComment, OfTexts, RemovingWithCommentsKeepsTheRest, RemovingWithCommentsTakesTheValues, SettingCommentsKeepsTheMap, SettingCommentsKeepsTheRest, SettingPlainCommentsBreaksNothing, changed_keys, keys_of, with_new_comments, with_old_comments}
 use Rattle.properties_renaming.proofs.CommentGroups.{comment-no_key, comments-join, comments-parts, line-blank, line-pair}

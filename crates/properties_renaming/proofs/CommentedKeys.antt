@@ -25,22 +25,22 @@ use Rattle.properties_renaming.specs.CommentLines.{AreCommentGroups, IsCommentGr
 use Rattle.properties_renaming.specs.Commented.{HasOneOf, IsLeftOf, IsRemovedWithComments}
 use Rattle.properties_renaming.specs.Renaming.{AreIn}
 use Rattle.properties_renaming.specs.Sections.{AreDivided, AreMadeOf, AreSections, Section, groups_of, is_among}
-use Rattle.properties_renaming.specs.Separators.{AreSeparated}
 use Rattle.properties_renaming.specs.Private.Commented.{AreListed, GivesHeaded, TakesHeaded}
 use Rattle.properties_renaming.specs.Private.Copied.{IsNew, IsReplacedIn, copied_to}
 use Rattle.properties_renaming.specs.Private.Keyed.{GivesValue, value_at, value_of}
-use Rattle.properties_renaming.specs.FoundSeparators.{EndIn, HasNoLines, PassesGroup, above_if, below_if}
+use Rattle.properties_renaming.specs.FoundSeparators.{IsRunOf, PassesGroup}
 use Rattle.properties_renaming.specs.declared.comments.Headed.{Headed}
 use Rattle.properties_renaming.specs.declared.copied.Copied.{Copied}
 use Rattle.properties_renaming.specs.declared.separators.LastRun.{LastRun}
-use Rattle.properties_renaming.proofs.CommentGroups.{above-texts, below-texts, comment_in-only, comments-more, group-comment, group-other, line-blank, line-comment, line-pair, texts-append, whole-if}
+use Rattle.properties_renaming.proofs.CommentGroups.{comment-ended, comment_in-only, comments-more, end-more, group-comment, group-other, line-blank, line-comment, line-pair, whole-if}
 use Rattle.properties_renaming.proofs.RenamedKeys.{copied-more, held-push, mark-front}
+use Rattle.properties_renaming.proofs.SeparatedRuns.{EndIn, above_if, below_if, none-yet}
 use Rattle.properties_renaming.proofs.SectionedGroups.{groups-append, groups-push, one-division, one-made, sections-push}
 
 -- ---- what is told of a group
 
 -- What a line is says whether it is a comment line.
-kind-comment : (x : List ℕ) (what : Logical) → IsSplit x what → is_comment_line x ≡ is_comment (group_kind what)
+pub kind-comment : (x : List ℕ) (what : Logical) → IsSplit x what → is_comment_line x ≡ is_comment (group_kind what)
 kind-comment x blank s = line-blank x s
 kind-comment x (comment text) s = line-comment x text s
 kind-comment x (pair key value) s = line-pair x key value s
@@ -72,13 +72,13 @@ pub record ArePassed (v now : OpenView) (above comment : List (List HeldLine)) (
   pub start : unwrap_or begun (past_group now).start ≡ (past_group v).start + length (groups_bytes above)
   pub nearer : length now.to_come ≤ length v.to_come
 
-pub none-passed : (v : OpenView) (last : LastRun) → HasNoLines last → ArePassed v v [] [] None last
+pub none-passed : (v : OpenView) (last : LastRun) → IsRunOf [] last → ArePassed v v [] [] None last
 none-passed v last none = record {
   are_comments = tt;
   division = refl;
   place = omega arith;
   passed = omega arith;
-  ends = inl (refl, refl, none);
+  ends = none-yet last none;
   start = omega arith;
   nearer = omega arith;
 }
@@ -123,55 +123,33 @@ module _ {v now next : OpenView} {above comment : List (List HeldLine)} {begun b
       let lines : length (held_in (up ++ (low ++ g ∷ []))) ≡ length (held_in all) + length g = ap (λ gs. length (held_in gs)) (sym run) ∙ held-push all g in
       let counted : length now.to_come ≡ length (g ∷ next.to_come) = ap length t.takes in
       let nearer = h.nearer in
-      let line_passed = subst (λ b. PassesGroup b (viewed_line next) old found new) line p in
       record {
         are_comments = subst AreCommentGroups run (comments-more all g h.are_comments (told-comment next group t.is_group line));
         division = h.division ∙ ap (λ w. all ++ w) t.takes ∙ sym (append_assoc all (g ∷ []) next.to_come) ∙ ap (λ w. w ++ next.to_come) run;
         place = omega arith;
         passed = omega arith;
-        ends = subst (λ a. EndIn a (lines_in_text (low ++ g ∷ [])) new) (above-texts found above comment)
-            (subst (λ b. EndIn (above_if found (lines_in_text above) (lines_in_text comment)) b new)
-            (ap (λ w. w ++ viewed_line next ∷ []) (below-texts found comment) ∙ sym (texts-append low (g ∷ [])))
-            (line_passed (lines_in_text above) (lines_in_text comment) h.ends));
+        ends = end-more found above comment g (told-line next group t.is_group line) (subst (λ b. PassesGroup b (viewed_line next) old found new) line p) h.ends;
         start = same-start h t is at;
         nearer = omega arith;
       }
 
   -- and another group comes;
-  pub headed-next : (new : LastRun) → ArePassed v now above comment begun old → TakesNext now group next → PassesGroup (is_line_of_comment group) (viewed_line next) old found new
+  abbrev pub headed-next : (new : LastRun) → ArePassed v now above comment begun old → TakesNext now group next → PassesGroup (is_line_of_comment group) (viewed_line next) old found new
       → begun' ≡ (if found then None else begun) → start ≡ unwrap_or begun' group.start → is_line_of_comment group ≡ false
       → TakesHeaded v (record { start = start; group = group }) next
-  headed-next new h t p is at other =
-      let passed = (subst (λ b. PassesGroup b (viewed_line next) old found new) other p).1 (lines_in_text above) (lines_in_text comment) h.ends in
-      record {
-        run = above ++ comment;
-        are_comments = h.are_comments;
-        other = told-other next group t.is_group other;
-        takes = h.division ∙ ap (λ w. (above ++ comment) ++ w) t.takes;
-        above = above_if found above comment;
-        comment = below_if found comment;
-        is_comment = record {
-          division = whole-if found above comment;
-          separated = subst (λ a. AreSeparated a (lines_in_text (below_if found comment))) (above-texts found above comment)
-              (subst (AreSeparated (above_if found (lines_in_text above) (lines_in_text comment))) (below-texts found comment) passed);
-        };
-        start = same-start h t is at;
-        group_start = moved t ∙ h.place;
-        passed = numbered t ∙ h.passed;
-        is_group = t.is_group;
-      }
-
-  pub headed-next-comment : (new : LastRun) (h : ArePassed v now above comment begun old) (t : TakesNext now group next)
-      (p : PassesGroup (is_line_of_comment group) (viewed_line next) old found new) (is : begun' ≡ (if found then None else begun))
-      (at : start ≡ unwrap_or begun' group.start) (other : is_line_of_comment group ≡ false) → (headed-next new h t p is at other).comment ≡ below_if found comment
-  unfolding headed-next
-  headed-next-comment new h t p is at other = refl
-
-  pub headed-next-above : (new : LastRun) (h : ArePassed v now above comment begun old) (t : TakesNext now group next)
-      (p : PassesGroup (is_line_of_comment group) (viewed_line next) old found new) (is : begun' ≡ (if found then None else begun))
-      (at : start ≡ unwrap_or begun' group.start) (other : is_line_of_comment group ≡ false) → (headed-next new h t p is at other).above ≡ above_if found above comment
-  unfolding headed-next
-  headed-next-above new h t p is at other = refl
+  headed-next new h t p is at other = record {
+    run = above ++ comment;
+    are_comments = h.are_comments;
+    other = told-other next group t.is_group other;
+    takes = h.division ∙ ap (λ w. (above ++ comment) ++ w) t.takes;
+    above = above_if found above comment;
+    comment = below_if found comment;
+    is_comment = comment-ended found above comment (viewed_line next) (subst (λ b. PassesGroup b (viewed_line next) old found new) other p) h.ends;
+    start = same-start h t is at;
+    group_start = moved t ∙ h.place;
+    passed = numbered t ∙ h.passed;
+    is_group = t.is_group;
+  }
 
 pub headed-nearer : {v now next : OpenView} {above comment : List (List HeldLine)} {begun : Option ℕ} {last : LastRun} {group : ViewedGroup}
     → ArePassed v now above comment begun last → TakesNext now group next → length next.to_come < length v.to_come

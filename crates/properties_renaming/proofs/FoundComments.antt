@@ -13,24 +13,24 @@ use Rattle.properties_editing.specs.Views.{OpenView, TakesNext, viewed_line, pas
 use Rattle.properties_editing.specs.declared.group.ViewedGroup.{ViewedGroup}
 use Rattle.properties_renaming.specs.CommentLines.{AreCommentGroups, AreCommentTexts, IsCommentLine, is_line_of_comment, lines_in_text}
 use Rattle.properties_renaming.specs.Commenting.{HaveNoText}
-use Rattle.properties_renaming.specs.Separators.{last_sign}
+use Rattle.properties_format.specs.Separators.{last_sign}
 use Rattle.properties_renaming.specs.Private.Commented.{TakesHeaded}
 use Rattle.properties_renaming.specs.Private.Commenting.{GivesComment, IsGroupAt, IsModel, TakesComment, TellsModel, first_model, texts_above}
-use Rattle.properties_renaming.specs.FoundSeparators.{EndIn, HasNoLines, PassesGroup, above_if, below_if}
+use Rattle.properties_renaming.specs.FoundSeparators.{IsRunOf, PassesGroup}
 use Rattle.properties_renaming.specs.declared.comments.Headed.{Headed}
 use Rattle.properties_renaming.specs.declared.commenting.Comment.{Comment}
 use Rattle.properties_renaming.specs.declared.separators.LastRun.{LastRun}
 use Rattle.properties_renaming.proofs.CommentGroups.{texts-append, whole-if}
-use Rattle.properties_renaming.proofs.CommentedKeys.{ArePassed, headed-next, headed-next-above, headed-next-comment, moved, none-passed, one-passed, same-start}
-use Rattle.properties_renaming.proofs.SeparatedRuns.{end-sign}
+use Rattle.properties_renaming.proofs.SeparatedRuns.{above_if, below_if}
+use Rattle.properties_renaming.proofs.CommentedKeys.{ArePassed, headed-next, moved, none-passed, one-passed, same-start}
 
 -- ---- one comment line more
 
-texts-more : (gs : List (List HeldLine)) (g : List HeldLine) (texts : List (List ℕ)) (text : List ℕ) → AreCommentTexts gs texts → IsCommentLine (joined (as_lines g)) text
+pub line-more : (gs : List (List HeldLine)) (g : List HeldLine) (texts : List (List ℕ)) (text : List ℕ) → AreCommentTexts gs texts → IsCommentLine (joined (as_lines g)) text
     → AreCommentTexts (gs ++ g ∷ []) (texts ++ text ∷ [])
-texts-more [] g texts text none h = (text, [], h, ap (λ v. v ++ text ∷ []) none, refl)
-texts-more (f ∷ gs) g texts text (first, more, is, whole, rest) h =
-    (first, more ++ text ∷ [], is, ap (λ v. v ++ text ∷ []) whole, texts-more gs g more text rest h)
+line-more [] g texts text none h = (text, [], h, ap (λ v. v ++ text ∷ []) none, refl)
+line-more (f ∷ gs) g texts text (first, more, is, whole, rest) h =
+    (first, more ++ text ∷ [], is, ap (λ v. v ++ text ∷ []) whole, line-more gs g more text rest h)
 
 no_text-more : (gs : List (List HeldLine)) (g : List HeldLine) → HaveNoText gs → IsCommentLine (joined (as_lines g)) [] → HaveNoText (gs ++ g ∷ [])
 no_text-more [] g h k = (k, tt)
@@ -78,7 +78,7 @@ pub record AreGathered {Z : Type 0} (v now : OpenView) (begun : Option ℕ) (las
   pub tells_model : TellsModel ((past_group v).start + length (groups_bytes above)) comment model
   pub separator_is : separator ≡ last_sign (lines_in_text above)
 
-pub none-gathered : {Z : Type 0} (v : OpenView) (last : LastRun) (texts : List (String Z)) → HasNoLines last → texts ≡ [] → AreGathered v v None last texts None 0
+pub none-gathered : {Z : Type 0} (v : OpenView) (last : LastRun) (texts : List (String Z)) → IsRunOf [] last → texts ≡ [] → AreGathered v v None last texts None 0
 none-gathered v last texts no_lines none =
     record { above = []; comment = []; passed = none-passed v last no_lines; are_texts = ap (map characters) none; tells_model = tt; separator_is = refl }
 
@@ -92,32 +92,43 @@ at-group {now} {next} group t =
       next_is = g.next ∙ ap (λ n. n + length (group_bytes next.group)) start;
     }
 
--- The comment begins anew if a separator is directly above the next group.
-texts-begun : {Z : Type 0} (found : Bool) (comment : List (List HeldLine)) (texts texts' : List (String Z)) → AreCommentTexts comment (map characters texts)
-    → texts' ≡ below_if found texts → AreCommentTexts (below_if found comment) (map characters texts')
-texts-begun true comment texts texts' h is = ap (map characters) is
-texts-begun false comment texts texts' h is = subst (λ w. AreCommentTexts comment (map characters w)) (sym is) h
+-- The comment begins anew if a separator with this sign is directly above the next group.
+pub record IsBegun {Z : Type 0} (found : Bool) (sign : ℕ) (begun begun' : Option ℕ) (texts texts' : List (String Z)) (model model' : Option ViewedGroup) (separator separator' : ℕ)
+    : Type 0 where
+  pub start_is : begun' ≡ (if found then None else begun)
+  pub texts_are : texts' ≡ below_if found texts
+  pub model_is : model' ≡ (if found then None else model)
+  pub separator_is : separator' ≡ (if found then sign else separator)
 
-model-begun : (found : Bool) (n : ℕ) (above comment : List (List HeldLine)) (model model' : Option ViewedGroup)
-    → TellsModel (n + length (groups_bytes above)) comment model → model' ≡ (if found then None else model)
-    → TellsModel (n + length (groups_bytes (above_if found above comment))) (below_if found comment) model'
-model-begun true n above comment model model' h is = subst (TellsModel (n + length (groups_bytes (above ++ comment))) []) (sym is) tt
-model-begun false n above comment model model' h is = subst (TellsModel (n + length (groups_bytes above)) comment) (sym is) h
+module _ {v now : OpenView} {begun begun' : Option ℕ} {old : LastRun} (group : ViewedGroup) (start : ℕ) (found : Bool)
+    {Z : Type 0} {texts texts' : List (String Z)} {model model' : Option ViewedGroup} {separator separator' : ℕ}
+    (h : AreGathered v now begun old texts model separator) (is : IsBegun found old.sign begun begun' texts texts' model model' separator separator') where
+  texts-begun : AreCommentTexts (below_if found h.comment) (map characters texts')
+  texts-begun = subst (λ w. AreCommentTexts (below_if found h.comment) (map characters w)) (sym is.texts_are) (by found)
+    where
+      by : (b : Bool) → AreCommentTexts (below_if b h.comment) (map characters (below_if b texts))
+      by true = refl
+      by false = h.are_texts
 
-separator-begun : (found : Bool) (above comment : List (List HeldLine)) (old : LastRun) (separator separator' : ℕ) → EndIn (lines_in_text above) (lines_in_text comment) old
-    → separator ≡ last_sign (lines_in_text above) → separator' ≡ (if found then old.sign else separator)
-    → separator' ≡ last_sign (lines_in_text (above_if found above comment))
-separator-begun true above comment old separator separator' e h is =
-    is ∙ sym (end-sign (lines_in_text above) (lines_in_text comment) old e) ∙ ap last_sign (sym (texts-append above comment))
-separator-begun false above comment old separator separator' e h is = is ∙ h
+  model-begun : TellsModel ((past_group v).start + length (groups_bytes (above_if found h.above h.comment))) (below_if found h.comment) model'
+  model-begun = subst (TellsModel ((past_group v).start + length (groups_bytes (above_if found h.above h.comment))) (below_if found h.comment)) (sym is.model_is) (by found)
+    where
+      by : (b : Bool) → TellsModel ((past_group v).start + length (groups_bytes (above_if b h.above h.comment))) (below_if b h.comment) (if b then None else model)
+      by true = tt
+      by false = h.tells_model
 
-module _ {v now next : OpenView} {begun begun' : Option ℕ} {old : LastRun} (group : ViewedGroup) (start : ℕ) (found : Bool) where
-  pub one-gathered : {Z : Type 0} {last : LastRun} {texts : List (String Z)} {model : Option ViewedGroup} (texts' new : List (String Z)) (model' : Option ViewedGroup) {separator : ℕ} (separator' : ℕ)
-      (made : String Z) (text : List ℕ) → AreGathered v now begun old texts model separator → TakesNext now group next → PassesGroup (is_line_of_comment group) (viewed_line next) old found last
-      → begun' ≡ (if found then None else begun) → texts' ≡ below_if found texts → model' ≡ (if found then None else model)
-      → separator' ≡ (if found then old.sign else separator) → start ≡ unwrap_or begun' group.start → is_line_of_comment group ≡ true → IsCommentLine (viewed_line next) text
-      → characters made ≡ text → new ≡ texts' ++ made ∷ [] → AreGathered v next (Some start) last new (first_model model' group text) separator'
-  one-gathered {texts = texts} {model} texts' new model' {separator} separator' made text h t p begun_is texts_is model_is separator_is at line says copied pushed =
+  separator-begun : separator' ≡ last_sign (lines_in_text (above_if found h.above h.comment))
+  separator-begun = is.separator_is ∙ by found
+    where
+      by : (b : Bool) → (if b then old.sign else separator) ≡ last_sign (lines_in_text (above_if b h.above h.comment))
+      by true = h.passed.ends.run.0 ∙ ap last_sign (sym (texts-append h.above h.comment))
+      by false = h.separator_is
+
+  pub one-gathered : {next : OpenView} {last : LastRun} (new : List (String Z)) (made : String Z) (text : List ℕ) → TakesNext now group next
+      → PassesGroup (is_line_of_comment group) (viewed_line next) old found last → start ≡ unwrap_or begun' group.start → is_line_of_comment group ≡ true
+      → IsCommentLine (viewed_line next) text → characters made ≡ text → new ≡ texts' ++ made ∷ []
+      → AreGathered v next (Some start) last new (first_model model' group text) separator'
+  one-gathered {next} new made text t p at line says copied pushed =
       let g = next.group in
       let n = (past_group v).start in
       let up = above_if found h.above h.comment in
@@ -131,37 +142,23 @@ module _ {v now next : OpenView} {begun begun' : Option ℕ} {old : LastRun} (gr
       record {
         above = up;
         comment = low ++ g ∷ [];
-        passed = one-passed group start found h.passed t p begun_is at line;
-        are_texts = subst (AreCommentTexts (low ++ g ∷ [])) (sym all)
-            (texts-more low g (map characters texts') text (texts-begun found h.comment texts texts' h.are_texts texts_is) says);
-        tells_model = model-more (n + length (groups_bytes up)) low g text model' group
-            (model-begun found n h.above h.comment model model' h.tells_model model_is) says
+        passed = one-passed group start found h.passed t p is.start_is at line;
+        are_texts = subst (AreCommentTexts (low ++ g ∷ [])) (sym all) (line-more low g (map characters texts') text texts-begun says);
+        tells_model = model-more (n + length (groups_bytes up)) low g text model' group model-begun says
             (subst (λ k. IsGroupAt k g group) (sym place) (at-group group t));
-        separator_is = separator-begun found h.above h.comment old separator separator' h.passed.ends h.separator_is separator_is;
+        separator_is = separator-begun;
       }
 
   -- Another group comes after them.
-  pub comment-next : (last : LastRun) {texts : List (String Global)} {model : Option ViewedGroup} {separator : ℕ} (comment : Comment) → AreGathered v now begun old texts model separator
-      → TakesNext now group next → PassesGroup (is_line_of_comment group) (viewed_line next) old found last → begun' ≡ (if found then None else begun)
-      → comment.texts.items ≡ below_if found texts → comment.model ≡ (if found then None else model) → comment.separator ≡ (if found then old.sign else separator)
-      → comment.headed ≡ record { start = start; group = group }
-      → start ≡ unwrap_or begun' group.start → is_line_of_comment group ≡ false → TakesComment v comment next
-  comment-next last {texts} {model} {separator} comment h t p begun_is texts_is model_is separator_is same at other =
-      let k = headed-next group start found last h.passed t p begun_is at other in
-      let lines : k.comment ≡ below_if found h.comment = headed-next-comment group start found last h.passed t p begun_is at other in
-      let up : k.above ≡ above_if found h.above h.comment = headed-next-above group start found last h.passed t p begun_is at other in
-      let above = same-start group start found h.passed t begun_is at in
-      let Such : Headed → Type 0 = λ headed. (f : TakesHeaded v headed next) × AreCommentTexts f.comment (texts_above comment) × TellsModel headed.start f.comment comment.model
-      × (comment.separator ≡ last_sign (lines_in_text f.above)) in
-      let made : Such (record { start = start; group = group }) = (
-        k,
-        subst (λ r. AreCommentTexts r (texts_above comment)) (sym lines) (texts-begun found h.comment texts comment.texts.items h.are_texts texts_is),
-        subst (λ r. TellsModel start r comment.model) (sym lines) (subst (λ n. TellsModel n (below_if found h.comment) comment.model) (sym above)
-            (model-begun found (past_group v).start h.above h.comment model comment.model h.tells_model model_is)),
-        subst (λ r. comment.separator ≡ last_sign (lines_in_text r)) (sym up)
-            (separator-begun found h.above h.comment old separator comment.separator h.passed.ends h.separator_is separator_is),
-      ) in
-      subst Such (sym same) made
+  pub comment-next : {next : OpenView} (last : LastRun) (comment : Comment) → TakesNext now group next → PassesGroup (is_line_of_comment group) (viewed_line next) old found last
+      → start ≡ unwrap_or begun' group.start → is_line_of_comment group ≡ false → map characters texts' ≡ texts_above comment
+      → TakesComment v (record comment { headed = record { start = start; group = group }; model = model'; separator = separator' }) next
+  comment-next last comment t p at other said = (
+    headed-next group start found last h.passed t p is.start_is at other,
+    subst (AreCommentTexts (below_if found h.comment)) said texts-begun,
+    subst (λ n. TellsModel n (below_if found h.comment) model') (sym (same-start group start found h.passed t is.start_is at)) model-begun,
+    separator-begun,
+  )
 
 -- No other group is to come.
 pub comment-none : (old new : OpenView) (answer : Option Comment) → GivesComment old answer new → ((comment : Comment) → answer ≡ Some comment → ⊥)

@@ -9,7 +9,7 @@ use Rattle.properties_format.specs.Edited.{final_group}
 use Rattle.properties_editing.specs.declared.group.GroupKind.{GroupKind}
 use Rattle.properties_editing.specs.declared.group.GroupKind.TheVariants as kind
 use Rattle.properties_editing.specs.declared.group.ViewedGroup.{ViewedGroup}
-use Rattle.properties_renaming.specs.Separators.{AreSeparated}
+use Rattle.properties_format.specs.Separators.{AreSeparated}
 
 -- ---- where the comment lines of a pair are
 

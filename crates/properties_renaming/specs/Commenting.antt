@@ -19,7 +19,7 @@ use Rattle.properties_editing.specs.declared.source.SourceOptions.{SourceOptions
 use Rattle.properties_renaming.specs.CommentLines.{AreCommentTexts, IsCommentIn, IsCommentLine, lines_in_text}
 use Rattle.properties_renaming.specs.Renaming.{AreIn, IsEditable, LacksKey}
 use Rattle.properties_renaming.specs.Sections.{AreDivided, AreMadeOf, Section}
-use Rattle.properties_renaming.specs.Separators.{last_sign}
+use Rattle.properties_format.specs.Separators.{last_sign}
 use Rattle.properties_renaming.specs.declared.commenting.NewComment.{NewComment}
 use Rattle.properties_renaming.specs.declared.renames.RenamesError.{RenamesError}
 use Rattle.properties_renaming.specs.declared.renames.RenamesError.TheVariants.{Source, NoKey, KeyTaken}

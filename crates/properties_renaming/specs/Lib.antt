@@ -9,4 +9,3 @@ pub mod Private
 pub mod Renames
 pub mod Renaming
 pub mod Sections
-pub mod Separators

@@ -1,11 +1,12 @@
 //! Separators of Spring Boot's documents among comment lines.
 
-ghost use Rattle.std.specs.Prelude.{◌≡◌, true};
+ghost use Rattle.std.specs.Prelude.{◌≡◌, [], true};
 ghost use Rattle.std.specs.Str.{chars};
+ghost use Rattle.properties_format.specs.Text.{is_comment_sign};
 ghost use Rattle.properties_format.specs.Lines.{is_comment_line};
 ghost use Rattle.properties_renaming.specs.CommentLines.{is_line_of_comment};
-ghost use Rattle.properties_renaming.specs.Separators.{has_shape, sign_of};
-ghost use Rattle.properties_renaming.specs.FoundSeparators.{HasNoLines, PassesGroup};
+ghost use Rattle.properties_format.specs.Separators.{has_shape, sign_of};
+ghost use Rattle.properties_renaming.specs.FoundSeparators.{IsRunOf, PassesGroup};
 
 use crate::comment_lines::is_comment_line;
 use properties_editing::ViewedGroup;
@@ -23,7 +24,7 @@ pub struct LastRun {
 impl LastRun {
     /// Returns the run before the first group, which has no lines.
     pub fn new() -> LastRun
-        ensures { HasNoLines result }
+        ensures { IsRunOf [] result }
     {
         LastRun {
             sign: 0,
@@ -59,7 +60,8 @@ impl LastRun {
 // Returns the sign of a comment line.
 fn sign_of(line: &str) -> u8
     requires { is_comment_line (chars line.now) ≡ true }
-    ensures { result ≡ sign_of (chars line.now) }
+    ensures sign { result ≡ sign_of (chars line.now) }
+    ensures marks { is_comment_sign result ≡ true }
 {
     let bytes = line.as_bytes();
     bytes[leading_blanks(bytes)]
@@ -67,8 +69,8 @@ fn sign_of(line: &str) -> u8
 
 // Returns whether a comment line, which has this sign, has the shape of a separator.
 fn has_shape(line: &str, sign: u8) -> bool
-    requires line { is_comment_line (chars line.now) ≡ true }
     requires sign { sign ≡ sign_of (chars line.now) }
+    requires marks { is_comment_sign sign ≡ true }
     ensures { result ≡ has_shape (chars line.now) }
 {
     let marker = [sign, b'-', b'-', b'-'];

@@ -1,5 +1,5 @@
 -- How the comment of a key is found, as one group after another is passed.
-use Rattle.std.specs.Prelude.{◌≡◌, ◌⊎◌, ℕ, Bool, true, false, List, [], ◌∷◌, ◌++◌, map, Option, Some, Result, Ok, Err}
+use Rattle.std.specs.Prelude.{◌≡◌, ◌⊎◌, ℕ, Bool, true, false, if◌then◌else◌, List, [], ◌∷◌, ◌++◌, map, Option, Some, Result, Ok, Err}
 use Rattle.std.specs.Option.{option_map}
 use Rattle.std.specs.declared.string.String.{String}
 use Rattle.std.specs.declared.vec.Vec.{Vec}
@@ -16,7 +16,6 @@ use Rattle.properties_items.specs.declared.error.PropertiesError.{PropertiesErro
 use Rattle.properties_editing.specs.Views.{group_kind}
 use Rattle.properties_editing.specs.declared.group.GroupKind.{GroupKind}
 use Rattle.properties_renaming.specs.CommentLines.{IsCommentLine}
-use Rattle.properties_renaming.specs.FoundSeparators.{below_if}
 use Rattle.properties_renaming.specs.FoundSeparators as run
 use Rattle.properties_renaming.specs.declared.separators.LastRun.{LastRun}
 use Rattle.java_properties.specs.declared.comments.Passed.{Passed}
@@ -54,7 +53,7 @@ passed_texts passed = record { above = texts_in passed.above; last = passed.last
 -- The texts above a separator were left out, if one is directly above the next group.
 abbrev pub LeavesOut : Bool → List ℕ → PassedTexts → PassedTexts → Type 0
 LeavesOut is_line x old new =
-    (found : Bool) × run.PassesGroup is_line x old.last found new.last × (new.above ≡ below_if found old.above) × (new.comment ≡ old.comment)
+    (found : Bool) × run.PassesGroup is_line x old.last found new.last × (new.above ≡ (if found then [] else old.above)) × (new.comment ≡ old.comment)
 
 -- the texts after a group that is no comment line, given whether it is a pair with the key
 abbrev pub after_other : Bool → PassedTexts → PassedTexts

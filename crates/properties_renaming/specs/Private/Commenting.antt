@@ -22,7 +22,7 @@ use Rattle.properties_renaming.specs.CommentLines.{AreCommentGroups, AreCommentT
 use Rattle.properties_renaming.specs.Commenting.{AreCommentsSet, HasLines, HasNoPairFor, HaveNoText, IsCommented, IsStyleFor, LineStyle, NewText, gap_before, text_for, texts_of}
 use Rattle.properties_renaming.specs.Renaming.{AreIn}
 use Rattle.properties_renaming.specs.Sections.{AreDivided, AreMadeOf, Section}
-use Rattle.properties_renaming.specs.Separators.{last_sign}
+use Rattle.properties_format.specs.Separators.{last_sign}
 use Rattle.properties_renaming.specs.Private.Commented.{IsUnopened, TakesHeaded}
 use Rattle.properties_renaming.specs.Private.Copied.{copied_to}
 use Rattle.properties_renaming.specs.Private.Keyed.{value_at, value_of}

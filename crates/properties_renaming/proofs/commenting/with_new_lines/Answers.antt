@@ -13,7 +13,7 @@ use Rattle.properties_renaming.specs.CommentLines.{lines_in_text}
 use Rattle.properties_renaming.specs.Commenting.{HasLines, NewText, text_in, texts_in}
 use Rattle.properties_renaming.specs.Renaming.{AreIn}
 use Rattle.properties_renaming.specs.Sections.{groups_of}
-use Rattle.properties_renaming.specs.Separators.{last_sign}
+use Rattle.properties_format.specs.Separators.{last_sign}
 use Rattle.properties_renaming.specs.Private.Commenting.{IsSectionAt}
 use Rattle.properties_renaming.specs.Private.Keyed.{value_of}
 use Rattle.properties_renaming.specs.declared.commenting.NewComment.{NewComment}

@@ -1,17 +1,15 @@
 use Rattle.std.proofs.Common.{refl, sym, ap, ◌∙◌}
 use Rattle.std.specs.Str.{chars}
 use Rattle.java_properties.specs.Private.PassedGroups.{after_other, passed_texts}
-use Rattle.java_properties.proofs.KeyComments.{line-comment, passed-added, passed-pair, shown-comment}
+use Rattle.java_properties.proofs.KeyComments.{passed-added, passed-pair, shown-line}
 use Rattle.java_properties.proofs.comments.Passed.pass.Goals as goal
 use Rattle.java_properties.proofs.comments.Passed.pass.Goals.{then-branch, else-branch}
 
 pub add_line-requires : goal.add_line-requires
-add_line-requires c =
-    let line = line-comment c.args.group.kind c.args.group.line_count (sym c.is_comment_line.ensures ∙ c.if-is_comment_line.true) in
-    shown-comment c.args.group.kind (chars c.args.line.now) c.requires.kind line
+add_line-requires c = shown-line c.args.group (chars c.args.line.now) c.requires.kind (sym c.is_comment_line.ensures ∙ c.if-is_comment_line.true)
 
 pub separate-requires : goal.separate-requires
-separate-requires c = λ on. shown-comment c.args.group.kind (chars c.args.line.now) c.requires.kind (line-comment c.args.group.kind c.args.group.line_count on)
+separate-requires c = shown-line c.args.group (chars c.args.line.now) c.requires.kind
 
 pub returns-then-is_comment_line : goal.returns-then-is_comment_line
 returns-then-is_comment_line c =
