@@ -390,7 +390,7 @@ gives 0 '' ''
 run -e latin1 check app.properties one.properties
 gives 1 'one.properties:2: repeats the key \x27a\x27 of line 1\n' ''
 run check one.properties nowhere two.properties
-gives 2 'one.properties:2: repeats the key \x27a\x27 of line 1\n' 'propedit: nowhere: No such file or directory (os error 2)\n'
+gives 2 'one.properties:2: repeats the key \x27a\x27 of line 1\n' 'propedit: nowhere: No such file or directory\n'
 printf '# \xc3\xa9\nb=1\n' >two.properties
 for option in -a --ascii; do
     run $option check one.properties two.properties app.properties
@@ -413,7 +413,7 @@ for words in '-q check' 'check -q' '--quiet check' 'check --quiet'; do
     run $words two.properties
     gives 0 '' ''
     run $words two.properties nowhere one.properties
-    gives 2 '' 'propedit: nowhere: No such file or directory (os error 2)\n'
+    gives 2 '' 'propedit: nowhere: No such file or directory\n'
 done
 run check -qa two.properties
 gives 1 '' ''
@@ -476,7 +476,7 @@ gives 1 "${object//one.properties/standard input}" ''
 run --json check
 gives 1 "${object//one.properties/standard input}" ''
 run check --json one.properties nowhere
-gives 2 "$object" 'propedit: nowhere: No such file or directory (os error 2)\n'
+gives 2 "$object" 'propedit: nowhere: No such file or directory\n'
 rm one.properties two.properties
 
 # check --base
@@ -551,9 +551,9 @@ run check -f - --pairs --base two.properties
 gives 0 '' ''
 # Without its base no file is checked.
 run check --base nowhere one.properties
-gives 2 '' 'propedit: nowhere: No such file or directory (os error 2)\n'
+gives 2 '' 'propedit: nowhere: No such file or directory\n'
 run check --base base.properties nowhere two.properties
-gives 2 "$comment" 'propedit: nowhere: No such file or directory (os error 2)\n'
+gives 2 "$comment" 'propedit: nowhere: No such file or directory\n'
 run check --base $'\xe9' one.properties
 gives 2 '' 'propedit: \\xe9: this name is not UTF-8\n'
 run check --base base.properties $'\xe9' two.properties
@@ -602,14 +602,14 @@ gives 0 '' ''
 command='sed | propedit'
 is "$(../propedit diff old.properties new.properties | sed -n 's/^[^+]*: +//p' | ../propedit -v list)" $'port=8080\nname=x\ty'
 run diff nowhere gone
-gives 2 '' 'propedit: nowhere: No such file or directory (os error 2)\n'
+gives 2 '' 'propedit: nowhere: No such file or directory\n'
 run diff old.properties gone
-gives 2 '' 'propedit: gone: No such file or directory (os error 2)\n'
+gives 2 '' 'propedit: gone: No such file or directory\n'
 run diff gone -
-gives 2 '' 'propedit: gone: No such file or directory (os error 2)\n'
+gives 2 '' 'propedit: gone: No such file or directory\n'
 mkdir folder
 run diff old.properties folder
-gives 2 '' 'propedit: folder: Is a directory (os error 21)\n'
+gives 2 '' 'propedit: folder: Is a directory\n'
 rmdir folder
 printf 'a=\xe9\n' >one.properties
 printf 'a=\\u12\n' >two.properties
@@ -744,7 +744,7 @@ run remove -x -i app.properties prot set prot 1
 gives 1 '' "propedit: app.properties: no pair has the key 'prot'\n"
 holds app.properties '# ports\r\n\r\n  host = b\r\n! end'
 run set -i new.properties a 1
-gives 2 '' 'propedit: new.properties: No such file or directory (os error 2)\n'
+gives 2 '' 'propedit: new.properties: No such file or directory\n'
 run set --create -i new.properties a 1
 gives 0 '' ''
 holds new.properties 'a=1\n'
@@ -962,11 +962,11 @@ gives 0 '' ''
 holds new.properties 'port=2\nhost=b\n'
 rm new.properties
 run merge -- -.properties
-gives 2 '' 'propedit: -.properties: No such file or directory (os error 2)\n'
+gives 2 '' 'propedit: -.properties: No such file or directory\n'
 run merge -i nowhere .
-gives 2 '' 'propedit: .: Is a directory (os error 21)\n'
+gives 2 '' 'propedit: .: Is a directory\n'
 run merge -i nowhere other.properties
-gives 2 '' 'propedit: nowhere: No such file or directory (os error 2)\n'
+gives 2 '' 'propedit: nowhere: No such file or directory\n'
 printf 'a = \\u12\n' >other.properties
 run merge -i nowhere other.properties
 gives 2 '' 'propedit: other.properties:1: Malformed \\uxxxx encoding: not enough digits.\n'
@@ -1308,9 +1308,9 @@ is_refused "'set a=1 b=2': did you mean 'set a 1 set b 2'? For the key 'a=1', wr
 run get k -z
 gives 1 '' "propedit: no pair has the key '-z'; options come before the first KEY\n"
 run check app.properties -z
-gives 2 '' 'propedit: -z: No such file or directory (os error 2)\n'
+gives 2 '' 'propedit: -z: No such file or directory\n'
 run check -- -z
-gives 2 '' 'propedit: -z: No such file or directory (os error 2)\n'
+gives 2 '' 'propedit: -z: No such file or directory\n'
 for words in set 'set --'; do
     is_refused "'set' requires a KEY" "$(shape set)" $words
 done
@@ -1445,9 +1445,9 @@ holds app.properties 'a = 1\n'
 is_refused "unknown command '\u{1b}[2J\u{a}\u{85}é'" "$all" $'\e[2J\n\u0085é'
 is_refused "'set \u{9}' requires a VALUE" "$(shape set)" set $'\t'
 run -f $'no\twhere\n' get a
-gives 2 '' 'propedit: no\\u{9}where\\u{a}: No such file or directory (os error 2)\n'
+gives 2 '' 'propedit: no\\u{9}where\\u{a}: No such file or directory\n'
 run -i $'no\twhere' set a 1
-gives 2 '' 'propedit: no\\u{9}where: No such file or directory (os error 2)\n'
+gives 2 '' 'propedit: no\\u{9}where: No such file or directory\n'
 printf 'a\na\n' >$'two\nlines'
 run check $'two\nlines'
 gives 1 'two\\u{a}lines:2: repeats the key \x27a\x27 of line 1\n' ''
@@ -1469,25 +1469,25 @@ gives 2 'app.properties:2: repeats the key \x27a\x27 of line 1\nstandard input:2
 # Files that can't be read, and standard streams that fail
 
 run -f nowhere get a
-gives 2 '' 'propedit: nowhere: No such file or directory (os error 2)\n'
+gives 2 '' 'propedit: nowhere: No such file or directory\n'
 run -f app.properties/a get a
-gives 2 '' 'propedit: app.properties/a: Not a directory (os error 20)\n'
+gives 2 '' 'propedit: app.properties/a: Not a directory\n'
 run -f . get a
-gives 2 '' 'propedit: .: Is a directory (os error 21)\n'
+gives 2 '' 'propedit: .: Is a directory\n'
 command='propedit get a <&-'
 ../propedit get a <&- >../output 2>../errors
 status=$?
-gives 2 '' 'propedit: standard input: Bad file descriptor (os error 9)\n'
+gives 2 '' 'propedit: standard input: Bad file descriptor\n'
 for line in 'get a' list 'set a 2' 'convert ascii' --help --version; do
     command="propedit $line >/dev/full"
     ../propedit $line <../input >/dev/full 2>../errors
-    is "$? $(cat ../errors)" '2 propedit: standard output: No space left on device (os error 28)'
+    is "$? $(cat ../errors)" '2 propedit: standard output: No space left on device'
 done
 for line in 'get a' list 'set a 2' check 'convert ascii'; do
     command="propedit $line <."
     ../propedit $line <. >../output 2>../errors
     status=$?
-    gives 2 '' 'propedit: standard input: Is a directory (os error 21)\n'
+    gives 2 '' 'propedit: standard input: Is a directory\n'
 done
 command='propedit list | head -c 1'
 seq -f 'key%.0f = 1' 200000 | ../propedit list 2>../errors | head -c 1 >../output
@@ -1519,7 +1519,7 @@ is "$? $(cat ../errors)" '2 propedit: standard input: is also standard output'
 holds app.properties 'a = 1\n'
 command='propedit check nowhere app.properties - >>app.properties'
 ../propedit check nowhere app.properties - <../input >>app.properties 2>../errors
-is "$? $(cat ../errors)" $'2 propedit: nowhere: No such file or directory (os error 2)\npropedit: app.properties: is also standard output'
+is "$? $(cat ../errors)" $'2 propedit: nowhere: No such file or directory\npropedit: app.properties: is also standard output'
 holds app.properties 'a = 1\n'
 for line in '-f app.properties set b 2' '-i app.properties set b 2'; do
     command="propedit $line >app.properties"
@@ -1538,7 +1538,7 @@ gives 0 '1\n' ''
 rm link.properties
 command='propedit check >/dev/full'
 printf 'a = 1\na = 2\n' | ../propedit check >/dev/full 2>../errors
-is "$? $(cat ../errors)" '2 propedit: standard output: No space left on device (os error 28)'
+is "$? $(cat ../errors)" '2 propedit: standard output: No space left on device'
 command='propedit get b >/dev/full'
 ../propedit get b <../input >/dev/full 2>../errors
 is "$? $(cat ../errors)" '1 '
@@ -1630,7 +1630,7 @@ run --create -i links/broken set a 2
 gives 2 '' 'propedit: links/broken: the target of this symbolic link is missing\n'
 [ ! -e links/nowhere ] || fail 'the target of a link was made'
 run --create -i nowhere/app.properties set a 2
-gives 2 '' 'propedit: nowhere/app.properties: cannot create nowhere/app.properties.propedit: No such file or directory (os error 2)\n'
+gives 2 '' 'propedit: nowhere/app.properties: cannot create nowhere/app.properties.propedit: No such file or directory\n'
 leaves_nothing
 
 # Another name of the file keeps the old bytes.
@@ -1644,9 +1644,9 @@ rm other.properties
 
 # What is no regular file, or isn't there.
 run -i nowhere set a 2
-gives 2 '' 'propedit: nowhere: No such file or directory (os error 2)\n'
+gives 2 '' 'propedit: nowhere: No such file or directory\n'
 run -i nowhere remove a
-gives 2 '' 'propedit: nowhere: No such file or directory (os error 2)\n'
+gives 2 '' 'propedit: nowhere: No such file or directory\n'
 run -i sub set a 2
 gives 2 '' 'propedit: sub: not a regular file\n'
 run -i /dev/null set a 2
@@ -1677,7 +1677,7 @@ given 'a = 1\n'
 command='ulimit -f 1; propedit -i app.properties set a ..'
 (trap '' XFSZ; ulimit -f 1; exec ../propedit -i app.properties set a "$(printf '%05000d' 0)") >../output 2>../errors
 status=$?
-gives 2 '' 'propedit: app.properties: cannot write app.properties.propedit: File too large (os error 27)\n'
+gives 2 '' 'propedit: app.properties: cannot write app.properties.propedit: File too large\n'
 holds app.properties 'a = 1\n'
 leaves_nothing
 
@@ -1724,11 +1724,11 @@ if strace -o ../trace true 2>../errors; then
 
     # A folder that can't be synced: no error where the file system can't do so at all.
     traced fsync:error=EIO:when=2 -i app.properties set a 3
-    gives 2 '' "propedit: app.properties: is replaced, but its folder can't be synced: Input/output error (os error 5)\n"
+    gives 2 '' "propedit: app.properties: is replaced, but its folder can't be synced: Input/output error\n"
     holds app.properties 'a = 3\n'
     rm made.properties
     traced fsync:error=EIO:when=2 --create -i made.properties set a 1
-    gives 2 '' "propedit: made.properties: is made, but its folder can't be synced: Input/output error (os error 5)\n"
+    gives 2 '' "propedit: made.properties: is made, but its folder can't be synced: Input/output error\n"
     holds made.properties 'a=1\n'
     for error in EINVAL EOPNOTSUPP; do
         given 'a = 1\n'
@@ -1745,11 +1745,11 @@ if strace -o ../trace true 2>../errors; then
         holds app.properties 'a = 2\n'
     done
     traced rename:error=EACCES -i app.properties set a 3
-    gives 2 '' 'propedit: app.properties: cannot rename app.properties.propedit: Permission denied (os error 13)\n'
+    gives 2 '' 'propedit: app.properties: cannot rename app.properties.propedit: Permission denied\n'
     holds app.properties 'a = 2\n'
     rm made.properties
     traced link:error=EPERM --create -i made.properties set a 1
-    gives 2 '' 'propedit: made.properties: cannot make a hard link to made.properties.propedit: Operation not permitted (os error 1)\n'
+    gives 2 '' 'propedit: made.properties: cannot make a hard link to made.properties.propedit: Operation not permitted\n'
     [ ! -e made.properties ] || fail 'a file was made though it has no hard link'
     leaves_nothing
     traced unlink:error=EIO --create -i made.properties set a 1
@@ -1760,13 +1760,13 @@ if strace -o ../trace true 2>../errors; then
     # A look at the new file that fails says nothing about it: when it was made, before it gets its name, and after a
     # hard link. A file that is gone is no longer there to remove.
     traced statx:error=EIO:when=2 --create -i made.properties set a 1
-    gives 2 '' 'propedit: made.properties: cannot access made.properties.propedit: Input/output error (os error 5)\n'
+    gives 2 '' 'propedit: made.properties: cannot access made.properties.propedit: Input/output error\n'
     traced statx:error=EIO:when=3 --create -i made.properties set a 1
-    gives 2 '' 'propedit: made.properties: cannot access made.properties.propedit: Input/output error (os error 5)\n'
+    gives 2 '' 'propedit: made.properties: cannot access made.properties.propedit: Input/output error\n'
     [ ! -e made.properties ] || fail 'a file was made'
     leaves_nothing
     traced statx:error=EIO:when=3+ --create -i made.properties set a 1
-    gives 2 '' "propedit: made.properties: cannot access made.properties.propedit: Input/output error (os error 5); \
+    gives 2 '' "propedit: made.properties: cannot access made.properties.propedit: Input/output error; \
 made.properties.propedit may be left\n"
     rm made.properties.propedit
     traced statx:error=EIO:when=4 --create -i made.properties set a 1
@@ -1776,7 +1776,7 @@ made.properties.propedit may be left\n"
     while read -r first words; do
         given 'a = 1\n'
         traced statx:error=EIO:when=$first+ -i app.properties set a 2
-        gives 2 '' "propedit: app.properties: $words: Input/output error (os error 5); app.properties.propedit may be left\n"
+        gives 2 '' "propedit: app.properties: $words: Input/output error; app.properties.propedit may be left\n"
         holds app.properties 'a = 1\n'
         rm app.properties.propedit
     done <<'end'
@@ -1788,7 +1788,7 @@ end
 
     given 'a = 1\n'
     traced rename,unlink:error=EIO -i app.properties set a 2
-    gives 2 '' "propedit: app.properties: cannot rename app.properties.propedit: Input/output error (os error 5); \
+    gives 2 '' "propedit: app.properties: cannot rename app.properties.propedit: Input/output error; \
 app.properties.propedit is left\n"
     holds app.properties 'a = 1\n'
     rm app.properties.propedit
@@ -1903,7 +1903,7 @@ if [ "$(id -u)" != 0 ] || setpriv --reuid=65534 --regid=65534 --clear-groups tru
     chmod 644 shut/app.properties
     chmod 555 shut
     as_user -i shut/app.properties set a 2
-    gives 2 '' 'propedit: shut/app.properties: cannot create shut/app.properties.propedit: Permission denied (os error 13)\n'
+    gives 2 '' 'propedit: shut/app.properties: cannot create shut/app.properties.propedit: Permission denied\n'
     holds shut/app.properties 'a = 1\n'
     as_user -i shut/app.properties remove b
     gives 0 '' ''
@@ -1913,15 +1913,15 @@ if [ "$(id -u)" != 0 ] || setpriv --reuid=65534 --regid=65534 --clear-groups tru
     chmod 333 blind
     as_user -i blind/app.properties set a 2
     chmod 755 blind
-    gives 2 '' "propedit: blind/app.properties: is replaced, but its folder can't be synced: Permission denied (os error 13)\n"
+    gives 2 '' "propedit: blind/app.properties: is replaced, but its folder can't be synced: Permission denied\n"
     holds blind/app.properties 'a = 2\n'
     leaves_nothing
     given 'a = 1\n'
     chmod 000 app.properties
     as_user -i app.properties set a 2
-    gives 2 '' 'propedit: app.properties: Permission denied (os error 13)\n'
+    gives 2 '' 'propedit: app.properties: Permission denied\n'
     as_user -f app.properties get a
-    gives 2 '' 'propedit: app.properties: Permission denied (os error 13)\n'
+    gives 2 '' 'propedit: app.properties: Permission denied\n'
     rm -f app.properties
 else
     echo 'not tried, since setpriv fails: a folder that cannot be written'
@@ -1932,12 +1932,12 @@ if [ "$(id -u)" = 0 ] && setpriv --reuid=65534 --regid=65534 --clear-groups true
     printf 'a = 1\n' >open/app.properties
     chmod 666 open/app.properties
     as_user -i open/app.properties set a 2
-    gives 2 '' 'propedit: open/app.properties: cannot keep the owner: Operation not permitted (os error 1)\n'
+    gives 2 '' 'propedit: open/app.properties: cannot keep the owner: Operation not permitted\n'
     holds open/app.properties 'a = 1\n'
     leaves_nothing
     chown 65534:12345 open/app.properties
     as_user -i open/app.properties set a 2
-    gives 2 '' 'propedit: open/app.properties: cannot keep the group: Operation not permitted (os error 1)\n'
+    gives 2 '' 'propedit: open/app.properties: cannot keep the group: Operation not permitted\n'
     holds open/app.properties 'a = 1\n'
     chmod 4755 open/app.properties
     run -i open/app.properties set a 2

@@ -152,7 +152,7 @@ enum todrenval_flag {
     /* A source whose bytes aren't text of the encoding is refused as TODRENVAL_NOT_TEXT: by all calls with flags but
      * todrenval_write. A byte 0 isn't text in UTF-8 without a byte order mark: that is how UTF-16 looks when its mark is
      * missing. *line is the first line with such a byte; or, if there is none, the first one that isn't text. In
-     * windows-1252 every byte is text. */
+     * windows-1252 every byte is text, but the byte order mark of UTF-32 isn't: line 1. */
     TODRENVAL_STRICT = 32,
     /* Comments are given as they stand, and nothing in them is an error: todrenval_items, which takes one of this and
      * TODRENVAL_READ_COMMENTS at most. */

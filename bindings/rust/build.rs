@@ -1,5 +1,5 @@
-//! Finds the library: in the folder that `TODRENVAL_LIB_DIR` names, in the crate's folder `native`, or by pkg-config. Where it
-//! isn't, `cargo check` and `cargo doc` work, and what is linked says that it isn't there.
+//! Finds the library: in the directory that `TODRENVAL_LIB_DIR` names, in the crate's directory `native`, or by pkg-config.
+//! Without it, `cargo check` and `cargo doc` work, and a warning says that nothing can be linked.
 use std::env;
 use std::path::{Path, PathBuf};
 use std::process::Command;
@@ -16,7 +16,7 @@ fn main() {
             println!("cargo:rerun-if-changed={}", folder.join(ARCHIVE).display());
             println!("cargo:rustc-link-search=native={}", folder.display());
         }
-        Err(why) => println!("cargo:warning=todrenval can't be linked: {why}"),
+        Err(why) => println!("cargo:warning=todrenval cannot be linked: {why}"),
     }
     println!("cargo:rustc-link-lib=static=todrenval");
 }
@@ -32,7 +32,7 @@ fn found() -> Result<PathBuf, String> {
         return Some(folder).filter(|folder| has_archive(folder)).ok_or(why);
     }
     packed().or_else(installed).ok_or(format!(
-        "there is no {ARCHIVE}: name its folder in TODRENVAL_LIB_DIR, put it into the folder native of this crate, or install \
+        "there is no {ARCHIVE}: name its directory in TODRENVAL_LIB_DIR, put it into the directory native of this crate, or install \
          the package libtodrenval-dev"
     ))
 }

@@ -88,6 +88,7 @@ fn check_files(
         encoding,
         source: Source::Dash,
         command: Command::CheckAgainst(check, known),
+        note: None,
     };
     for path in paths {
         job.source = Source::File(path);

@@ -1,54 +1,20 @@
 // Arguments that are taken as they are, and may be meant otherwise.
 
-use crate::command_line::{CommandName, CommandRow, OptionName, command_named};
-use crate::mistake::NoRequest;
-use crate::options::{Options, STANDARD_INPUT, options_in};
-use crate::parse::around_dashes;
-use crate::typed::{TypedEdit, is_option_of};
+use crate::command_line::CommandRow;
+use crate::edits::AskedEdit;
+use crate::typed::is_option_of;
 use crate::wrong_edits::Shown;
+use java_properties::Edit;
 use properties_tools::messages::Escaped;
-use properties_tools::propedit::request::Doubt;
+use properties_tools::propedit::request::{Doubt, Note};
 use std::alloc::{AllocError, Global};
 
-/// A doubt, and the line to print if the source bears it out.
-#[derive(Drop)]
-pub struct Note {
-    pub doubt: Doubt,
-    pub line: String,
-}
-
-/// Returns the first of the arguments that may be meant otherwise, unless `--` comes before it, or, of a PREFIX,
-/// standard input is named.
-///
-/// ```text
-/// // For the arguments `set 'server.*' 8080` it is about the KEY, and says that it is no pattern.
-/// let note = note_on(alloc, &words)?;
-/// ```
-pub fn note_on<'a>(alloc: Global, words: &'a [String]) -> Result<Option<Note>, NoRequest<'a>> {
-    let (mut options, words) = options_in(alloc, words)?;
-    let [name, words @ ..] = words else {
-        return Ok(None);
-    };
-    let Some(row) = command_named(name.as_str()) else {
-        return Ok(None);
-    };
-    let words = options.add_after(row, words)?;
-    match (row.command, words) {
-        (CommandName::Get, keys) => Ok(note_on_option(alloc, row, keys)?),
-        (CommandName::List, [prefix]) if options.value(OptionName::File) != Some(STANDARD_INPUT) =>
-            { Ok(note_on_prefix(alloc, prefix)?) }
-        _ if row.is_edit() => Ok(note_on_edits(alloc, &options, TypedEdit::first(row, words))?),
-        _ => Ok(None),
-    }
-}
-
-// Returns the note on the first KEY of `get` that looks like an option.
-fn note_on_option(
+/// Returns the note on the first KEY of `get` that looks like an option.
+pub(crate) fn note_on_option(
     alloc: Global,
     row: &'static CommandRow,
     keys: &[String],
 ) -> Result<Option<Note>, AllocError> {
-    let (keys, _) = around_dashes(keys);
     let Some(key) = keys.iter().find(|key| is_option_of(key.as_str(), row)) else {
         return Ok(None);
     };
@@ -59,8 +25,8 @@ fn note_on_option(
     Ok(Some(Note { doubt, line }))
 }
 
-// Returns the note on a PREFIX that looks like a pattern.
-fn note_on_prefix(alloc: Global, prefix: &String) -> Result<Option<Note>, AllocError> {
+/// Returns the note on a PREFIX that looks like a pattern.
+pub(crate) fn note_on_prefix(alloc: Global, prefix: &String) -> Result<Option<Note>, AllocError> {
     let text = prefix.as_str();
     let Some(front) = text.strip_suffix('*').or(text.strip_prefix('^')) else {
         return Ok(None);
@@ -77,52 +43,46 @@ fn note_on_prefix(alloc: Global, prefix: &String) -> Result<Option<Note>, AllocE
     Ok(Some(Note { doubt, line }))
 }
 
-// Returns the note on the first of some edits that may be meant otherwise.
-fn note_on_edits(
+/// Returns the note on the first of some edits of a source of this name that may be meant otherwise.
+pub(crate) fn note_on_edits(
     alloc: Global,
-    options: &Options<'_>,
-    first: TypedEdit<'_>,
+    name: &str,
+    edits: &[AskedEdit],
 ) -> Result<Option<Note>, AllocError> {
-    let mut next = Some(first);
-    // There are no more edits than arguments.
-    for _ in 0..=first.after.len() {
-        let Some(edit) = next else {
-            break;
+    for edit in edits {
+        let doubted = match edit {
+            AskedEdit::Edit(Edit::SetValue(key, value)) => {
+                doubt_of_value(alloc, key, value.as_str())?
+            }
+            AskedEdit::Edit(Edit::Remove(key)) if key.contains(',') => {
+                Some(doubt_of_keys(alloc, key)?)
+            }
+            _ => None,
         };
-        if !edit.is_literal
-            && let Some((doubt, said)) = doubt_of(alloc, edit)?
-        {
-            let name = Escaped(options.name());
-            let line = format!(in alloc; "propedit: {name}: {said}\n")?;
+        if let Some((doubt, said)) = doubted {
+            let line = format!(in alloc; "propedit: {}: {said}\n", Escaped(name))?;
             return Ok(Some(Note { doubt, line }));
         }
-        next = edit.next();
     }
     Ok(None)
 }
 
-// Returns what may be meant otherwise in an edit, and what is said of it.
-fn doubt_of(alloc: Global, edit: TypedEdit<'_>) -> Result<Option<(Doubt, String)>, AllocError> {
-    match (edit.row.command, edit.texts) {
-        (CommandName::Set, [key, value]) => doubt_of_value(alloc, key, value.as_str()),
-        (CommandName::Remove, [key]) if key.contains(',') => {
-            let shown = Escaped(key.as_str());
-            let mut said = format!(in alloc; "no pair has the key '{shown}'; did you mean '")?;
-            let mut keys = Vec::new(alloc);
-            for part in key.split(',') {
-                let blank = if keys.is_empty() { "" } else { " " };
-                let removal = format!(in alloc; "{blank}{}", Shown("remove", part, None))?;
-                said.push_str(removal.as_str())?;
-                keys.push(String::from_str(alloc, part)?)?;
-            }
-            said.push_str("'?")?;
-            Ok(Some((Doubt::Key(key.clone()?, keys), said)))
-        }
-        _ => Ok(None),
+// Returns the keys that may be meant by one with commas, and what is said of it.
+fn doubt_of_keys(alloc: Global, key: &String) -> Result<(Doubt, String), AllocError> {
+    let shown = Escaped(key.as_str());
+    let mut said = format!(in alloc; "no pair has the key '{shown}'; did you mean '")?;
+    let mut keys = Vec::new(alloc);
+    for part in key.split(',') {
+        let blank = if keys.is_empty() { "" } else { " " };
+        let removal = format!(in alloc; "{blank}{}", Shown("remove", part, None))?;
+        said.push_str(removal.as_str())?;
+        keys.push(String::from_str(alloc, part)?)?;
     }
+    said.push_str("'?")?;
+    Ok((Doubt::Key(key.clone()?, keys), said))
 }
 
-// Returns the same of a setting.
+// Returns what may be meant by the value or the key of a setting, and what is said of it.
 fn doubt_of_value(
     alloc: Global,
     key: &String,

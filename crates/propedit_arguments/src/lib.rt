@@ -12,7 +12,7 @@
 #![tactic(auto)]
 
 mod command_line;
-pub mod doubts;
+mod doubts;
 mod edits;
 mod kinds;
 mod labels;

@@ -50,8 +50,8 @@ impl<'a> NoRequest<'a> {
     pub fn if_files(self) -> [Option<(&'a str, NoRequest<'a>)>; 2] {
         match self {
             NoRequest::Wrong(Mistake::NoEdit(word, Some(stray))) => [
-                if_file(word, stray, stray.after_first()),
                 if_file(word, stray, stray.before_last()),
+                if_file(word, stray, stray.after_first()),
             ],
             NoRequest::Wrong(Mistake::UnknownCommand(word, Hint::Alone)) => {
                 let mistake = Mistake::UnknownCommand(word, Hint::ListFile);
@@ -85,13 +85,10 @@ pub enum Hint {
     Alone,
     /// A file, whose keys may be listed.
     ListFile,
-    /// A list as JSON.
-    ListJson,
+    /// These words.
+    Meant(&'static str),
     /// What no command does.
     Never,
-    Command(&'static CommandRow),
-    /// The option with this long name.
-    Option(&'static str),
     /// A file, before this command.
     File(&'static CommandRow),
     /// An argument of this command, whose name this option took as its value.
@@ -228,9 +225,10 @@ impl Mistake<'_> {
 impl Hint {
     fn usage(self) -> Usage {
         match self {
-            Hint::Command(row) | Hint::File(row) | Hint::Taken(_, row) => Usage::Of(row),
-            Hint::ListFile | Hint::ListJson => usage_of("list"),
-            Hint::Nothing | Hint::Alone | Hint::Never | Hint::Option(_) => Usage::All,
+            Hint::File(row) | Hint::Taken(_, row) => Usage::Of(row),
+            Hint::ListFile => usage_of("list"),
+            Hint::Meant(words) => usage_of(words.split_once(' ').map_or(words, |words| words.0)),
+            Hint::Nothing | Hint::Alone | Hint::Never => Usage::All,
         }
     }
 }
@@ -370,10 +368,8 @@ fn show_unknown_command<W: fmt::Write>(
     write!(f, "unknown command '{shown}'")?;
     match hint {
         Hint::Nothing | Hint::Alone | Hint::ListFile => Ok(()),
-        Hint::ListJson => show_meant(f, "", "list --json"),
+        Hint::Meant(words) => show_meant(f, "", words),
         Hint::Never => f.write_str("; propedit cannot sort, format or copy"),
-        Hint::Command(row) => show_meant(f, "", row.name),
-        Hint::Option(long) => show_meant(f, "--", long),
         Hint::File(row) if row.is_edit() => {
             write!(f, "; a file is named as in '-i {shown} {}'", row.name)
         }

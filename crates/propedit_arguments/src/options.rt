@@ -7,7 +7,7 @@ use crate::labels::means_ascii;
 use crate::mistake::{Mistake, NoRequest};
 use java_properties::{Encoding, Spelling};
 use properties_tools::propedit::request::{
-    AbsentKeys, Command, Destination, Form, Job, Missing, Report, Request, Source, Terminator,
+    AbsentKeys, Command, Destination, Form, Job, Missing, Note, Report, Request, Source, Terminator,
 };
 use std::alloc::{AllocError, Global};
 
@@ -350,18 +350,20 @@ impl<'a> Options<'a> {
         }
     }
 
-    /// Returns the request for a command over that source.
+    /// Returns the request for a command over that source, with a note.
     pub fn job(
         &self,
         alloc: Global,
         row: &'static CommandRow,
         command: Command,
+        note: Option<Note>,
     ) -> Result<Request, Mistake<'a>> {
         let source = self.source(alloc)?;
         Ok(Request::Job(Job {
             encoding: self.encoding(row)?,
             source,
             command,
+            note,
         }))
     }
 

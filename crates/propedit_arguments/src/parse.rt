@@ -7,6 +7,7 @@ use crate::command_line::{
     CommandName, CommandRow, Help, HelpOf, OptionName, Version, command_meant, command_named,
     target_named,
 };
+use crate::doubts::{note_on_edits, note_on_option, note_on_prefix};
 use crate::edits::{AskedEdit, edits_in};
 use crate::kinds::ignored_in;
 use crate::mistake::{Hint, Mistake, NoRequest};
@@ -18,7 +19,7 @@ use java_properties::{Edit, NewComment, Rename};
 use properties_tools::propedit::kinds::Ignored;
 use properties_tools::propedit::request::{
     Allowed, Change, Check, CheckedFiles, Command, Comparison, Conversion, Destination, Edits,
-    FileChange, Job, Merge, NewComments, Removal, Renaming, Request, Source, Step, Steps,
+    FileChange, Job, Merge, NewComments, Note, Removal, Renaming, Request, Source, Step, Steps,
 };
 use properties_tools::propedit::{print_out_of_memory, print_text, print_usage_error};
 use std::alloc::{AllocError, Global};
@@ -59,12 +60,7 @@ pub fn asked_for<'a>(alloc: Global, words: &'a [String]) -> Result<Request, NoRe
         CommandName::Diff => Ok(diff(alloc, row, &options, rest)?),
         CommandName::Set | CommandName::Remove | CommandName::Rename | CommandName::SetComment => {
             refuse_split_name(row, rest)?;
-            Ok(edit(
-                alloc,
-                row,
-                &options,
-                edits_among(alloc, row, &options, rest)?,
-            )?)
+            Ok(edit(alloc, row, &options, rest)?)
         }
         CommandName::Merge => Ok(merge(alloc, row, &options, rest)?),
         CommandName::Convert => Ok(convert(alloc, row, &options, rest)?),
@@ -171,14 +167,14 @@ fn no_command<'a>(options: &Options<'a>) -> Mistake<'a> {
 // Returns what may be meant by an argument in the place of a command, after these options and before these arguments.
 fn hint(options: &Options<'_>, word: &str, rest: &[String]) -> Hint {
     if let Some(row) = command_meant(word) {
-        return Hint::Command(row);
+        return Hint::Meant(row.name);
     }
     if let Some((option, row)) = options.command_taken() {
         return Hint::Taken(option, row);
     }
     match word {
-        "version" | "Version" | "VERSION" => Hint::Option("version"),
-        "json" | "to-json" => Hint::ListJson,
+        "version" | "Version" | "VERSION" => Hint::Meant("--version"),
+        "json" | "to-json" => Hint::Meant("list --json"),
         "sort" | "fmt" | "format" | "cp" | "copy" => Hint::Never,
         _ => file_hint(rest),
     }
@@ -229,7 +225,8 @@ fn get<'a>(
         Some(value) => Some(String::from_str(alloc, value)?),
         None => None,
     };
-    options.job(alloc, row, Command::Get(keys, default, options.end()))
+    let note = note_on_option(alloc, row, before)?;
+    options.job(alloc, row, Command::Get(keys, default, options.end()), note)
 }
 
 fn comment<'a>(
@@ -242,7 +239,7 @@ fn comment<'a>(
         return Err(Mistake::NoKey(row.name));
     };
     let key = String::from_str(alloc, key)?;
-    options.job(alloc, row, Command::Comment(key))
+    options.job(alloc, row, Command::Comment(key), None)
 }
 
 fn list<'a>(
@@ -259,7 +256,13 @@ fn list<'a>(
     } else {
         Command::List(prefix, options.end())
     };
-    options.job(alloc, row, command)
+    let note = match words {
+        [prefix] if options.value(OptionName::File) != Some(STANDARD_INPUT) => {
+            note_on_prefix(alloc, prefix)?
+        }
+        _ => None,
+    };
+    options.job(alloc, row, command, note)
 }
 
 // Returns the argument after a command that takes one at most. A first `--` is dropped.
@@ -307,7 +310,7 @@ fn check<'a>(
     if !paths.is_empty() {
         options.refuse_file(row)?;
     } else if base.is_none() {
-        return options.job(alloc, row, Command::Check(check));
+        return options.job(alloc, row, Command::Check(check), None);
     } else if let Some(path) = options.value(OptionName::File) {
         paths.push(String::from_str(alloc, path)?)?;
     } else {
@@ -418,15 +421,22 @@ fn edit<'a>(
     alloc: Global,
     row: &'static CommandRow,
     options: &Options<'a>,
-    list: Vec<AskedEdit>,
+    words: &'a [String],
 ) -> Result<Request, Mistake<'a>> {
+    let list = edits_among(alloc, row, options, words)?;
     if !list.iter().any(puts_text) {
         options.refuse_for_text(row)?;
     }
     if !list.iter().any(removes_key) {
         options.refuse_for_removal(row)?;
     }
-    change(alloc, row, options, change_by(alloc, options, list)?)
+    let note = if words.iter().any(|word| word.as_str() == "--") {
+        None
+    } else {
+        note_on_edits(alloc, options.name(), &list)?
+    };
+    let asked = change_by(alloc, options, list)?;
+    change(alloc, row, options, asked, note)
 }
 
 // Returns the change that edits are. Edits of one kind are one step as long as none of another kind comes between them.
@@ -564,7 +574,7 @@ fn convert<'a>(
         target,
         spelling: options.spelling(),
     };
-    change(alloc, row, options, Change::Conversion(conversion))
+    change(alloc, row, options, Change::Conversion(conversion), None)
 }
 
 // Returns the request for help on the command that the arguments name, or for all help, or what is wrong with them.
@@ -579,12 +589,13 @@ fn help<'a>(row: &'static CommandRow, options: &Options<'a>, words: &'a [String]
     }
 }
 
-// Returns the request for a change of the source that the options name, or of the file to change in place.
+// Returns the request for a change of the source that the options name, or of the file to change in place, with a note.
 fn change<'a>(
     alloc: Global,
     row: &'static CommandRow,
     options: &Options<'a>,
     change: Change,
+    note: Option<Note>,
 ) -> Result<Request, Mistake<'a>> {
     let encoding = options.encoding(row)?;
     match options.destination(alloc)? {
@@ -592,13 +603,17 @@ fn change<'a>(
             encoding,
             source,
             command: Command::Change(change),
+            note,
         })),
-        Destination::InPlace(path, missing, verbose) => Ok(Request::EditFile(FileChange {
-            path,
-            encoding,
-            change,
-            missing,
-            verbose,
-        })),
+        Destination::InPlace(path, missing, verbose) => {
+            let file = FileChange {
+                path,
+                encoding,
+                change,
+                missing,
+                verbose,
+            };
+            Ok(Request::EditFile(file, note))
+        }
     }
 }

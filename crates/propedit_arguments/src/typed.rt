@@ -1,6 +1,7 @@
 // The edits of a command line as they are typed, and what follows them.
 
 use crate::command_line::{CommandRow, OptionName, command_named, option_in};
+use crate::edits::is_odd;
 use crate::options::Options;
 
 /// An edit as it is typed.
@@ -16,8 +17,8 @@ pub struct TypedEdit<'a> {
 }
 
 impl<'a> TypedEdit<'a> {
-    /// Returns the edit of this command that the arguments after it begin with.
-    pub(crate) fn first(row: &'static CommandRow, words: &'a [String]) -> TypedEdit<'a> {
+    // Returns the edit of this command that the arguments after it begin with.
+    fn first(row: &'static CommandRow, words: &'a [String]) -> TypedEdit<'a> {
         let (is_literal, words) = match words {
             [first, others @ ..] if first.as_str() == "--" => (true, others),
             _ => (false, words),
@@ -31,23 +32,18 @@ impl<'a> TypedEdit<'a> {
         }
     }
 
-    /// Returns the edit after it, if the next argument is a command that edits.
-    pub(crate) fn next(self) -> Option<TypedEdit<'a>> {
-        match self.after {
-            [word, others @ ..] => Some(TypedEdit::first(edit_named(word.as_str())?, others)),
-            [] => None,
-        }
-    }
-
     // Returns the last of the edits that begin with it.
     fn last(self) -> TypedEdit<'a> {
         let mut edit = self;
         // There are no more edits than arguments.
         for _ in self.after {
-            match edit.next() {
-                Some(next) => edit = next,
-                None => break,
-            }
+            let [word, others @ ..] = edit.after else {
+                break;
+            };
+            let Some(row) = edit_named(word.as_str()) else {
+                break;
+            };
+            edit = TypedEdit::first(row, others);
         }
         edit
     }
@@ -110,7 +106,8 @@ impl<'a> Stray<'a> {
         };
         let last = TypedEdit::first(self.row, others).last();
         let is_whole = last.after.is_empty() && last.texts.len() == last.row.texts();
-        if is_whole && others.first().is_some_and(|key| !key.starts_with('-')) {
+        let is_meant = |key: &String| !key.starts_with('-') && !is_odd(key.as_str());
+        if is_whole && others.first().is_some_and(is_meant) {
             return Some((first.as_str(), others));
         }
         None

@@ -80,7 +80,7 @@ fn show_stray<'a, W: fmt::Write>(
         return show_file(f, word, file, stray);
     }
     match edit.texts {
-        [_, sign] if is_sign(sign.as_str()) && edit.run().len() > 1 => show_any(f, word),
+        [_, sign] if is_sign(sign.as_str()) && edit.after.len() > 1 => show_any(f, word),
         [key, sign] if name == "set" && is_sign(sign.as_str()) => {
             let (shown, meant) = (Escaped(key.as_str()), Shown(name, key.as_str(), Some(word)));
             write!(

@@ -44,6 +44,7 @@ pub(crate) fn check_files<W: CountedWrite, E: CountedWrite>(
         encoding,
         source: Source::Dash,
         command,
+        note: None,
     };
     for path in paths {
         job.source = source_named(path);
@@ -90,7 +91,7 @@ fn check_file<W: CountedWrite, E: CountedWrite>(
     if is_directory(rt, &job.source) {
         return explain_directory(alloc, name(&job.source), &mut sinks.errors);
     }
-    do_job(rt, standard, job, None, sinks)
+    do_job(rt, standard, job, sinks)
 }
 
 // Returns the name of a file, if it is not UTF-8.

@@ -7,10 +7,9 @@ mod notes;
 
 use crate::checking::check_files;
 use crate::input::{files_among, is_file, opened_or_explain};
-use crate::notes::{edit_noted, note_among, run_noted};
+use crate::notes::{edit, lacks_file};
 use counted_io::CountedWrite;
 pub use input::StandardInput;
-use propedit_arguments::doubts::Note;
 use propedit_arguments::mistake::{Mistake, NoRequest};
 use propedit_arguments::parse::explain_mistake;
 use propedit_arguments::{asked_for, explain, explain_not_utf_8, marked_words};
@@ -18,7 +17,7 @@ use properties_tools::propedit::diff::run_diff;
 use properties_tools::propedit::hint::{possible_files, print_reading, refused_file};
 use properties_tools::propedit::in_place::edit_file;
 use properties_tools::propedit::merge::{Merged, read_merge};
-use properties_tools::propedit::request::{Comparison, Job, Merge, Request};
+use properties_tools::propedit::request::{Comparison, Job, Merge, Request, Source};
 use properties_tools::propedit::streams::Sinks;
 use properties_tools::propedit::{print_out_of_memory, run};
 use std::alloc::AllocError;
@@ -32,15 +31,9 @@ pub fn run_words<W: CountedWrite, E: CountedWrite>(
 ) -> u8 {
     let alloc = rt.alloc();
     match asked_for(alloc, words) {
-        Ok(Request::Job(mut job)) => {
-            let note = note_among(rt, words);
-            do_job(rt, standard, &mut job, note, sinks)
-        }
+        Ok(Request::Job(mut job)) => do_job(rt, standard, &mut job, sinks),
         Ok(Request::CheckFiles(files)) => check_files(rt, standard, files, sinks),
-        Ok(Request::EditFile(file)) => {
-            let note = note_among(rt, words);
-            edit_noted(rt, &file, note, &mut sinks.errors)
-        }
+        Ok(Request::EditFile(file, note)) => edit(rt, &file, &note, &mut sinks.errors),
         Ok(Request::Merge(asked)) => merge(rt, standard, asked, sinks),
         Ok(Request::Diff(sources)) => compare(rt, standard, &sources, sinks),
         Err(error) => {
@@ -89,7 +82,7 @@ fn merge<W: CountedWrite, E: CountedWrite>(
         Err(status) => return status,
     };
     match read_merge(alloc, asked, &mut pairs, &mut sinks.errors) {
-        Ok(Merged::Printed(mut job)) => do_job(rt, standard, &mut job, None, sinks),
+        Ok(Merged::Printed(mut job)) => do_job(rt, standard, &mut job, sinks),
         Ok(Merged::InPlace(file)) => edit_file(rt, alloc, &file, &mut sinks.errors),
         Err(status) => status,
     }
@@ -100,7 +93,6 @@ pub(crate) fn do_job<W: CountedWrite, E: CountedWrite>(
     rt: &HostRuntime,
     standard: StandardInput<'_>,
     job: &mut Job,
-    note: Option<Note>,
     sinks: &mut Sinks<W, E>,
 ) -> u8 {
     let alloc = rt.alloc();
@@ -117,10 +109,12 @@ pub(crate) fn do_job<W: CountedWrite, E: CountedWrite>(
     if standard.is_typed(rt, &job.source) {
         print_reading(&mut sinks.errors);
     }
-    match note {
-        Some(note) => run_noted(alloc, job, &note, &mut input, sinks),
-        None => run(alloc, job, &files, &mut input, sinks),
+    // Of a file that is named, another one is said first.
+    let is_second = matches!(job.source, Source::File(_)) && !files.is_empty();
+    if is_second || lacks_file(rt, &job.note) {
+        job.note = None;
     }
+    run(alloc, job, &files, &mut input, sinks)
 }
 
 // Opens two sources, and prints what differs between them.

@@ -22,10 +22,10 @@ use std::alloc::{AllocError, Global};
 
 /// Returns the bytes of a source after a change.
 ///
-/// It refuses a source for its bytes: lines that are ill-formed in the encoding in force, or U+0000 if UTF-8 is in
-/// force without a byte order mark. Edits refuse a malformed escape in a pair too, then UTF-16, and then, if that is
-/// asked for, the first key to set or remove that no pair of the source has. If such keys are to be left out, only the
-/// edits of other keys are made. A conversion keeps what is malformed.
+/// It refuses a source for its bytes: the byte order mark of UTF-32, lines that are ill-formed in the encoding in
+/// force, or U+0000 if UTF-8 is in force without a byte order mark. Edits refuse a malformed escape in a pair too, then
+/// UTF-16, and then, if that is asked for, the first key to set or remove that no pair of the source has. If such keys
+/// are to be left out, only the edits of other keys are made. A conversion keeps what is malformed.
 ///
 /// Of steps, each is made to what the one before it left, and the first that is refused refuses the change. A step that
 /// makes edits reads the source once; one that removes keys with their comments, or renames keys, twice; one that sets

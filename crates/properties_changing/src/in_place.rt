@@ -14,7 +14,7 @@ use crate::request::{FileChange, Missing};
 use crate::same_file::{is_same_file, refuse_output};
 use counted_io::CountedWrite;
 use java_properties::Encoding;
-use properties_tables::error::{FAILED, Failure, NO_MEMORY, print_failure};
+use properties_tables::error::{FAILED, Failure, NO_MEMORY, SystemError, print_failure};
 use properties_tables::messages::{Escaped, print_line};
 use std::alloc::{AllocError, Global};
 use std::error::Error;
@@ -696,18 +696,5 @@ impl fmt::Display for Failed<'_> {
                 )
             }
         }
-    }
-}
-
-// An error of the system. If memory ran out, it prints as everywhere else.
-#[derive(Clone, Copy)]
-struct SystemError<'a>(&'a io::Error);
-
-impl fmt::Display for SystemError<'_> {
-    fn fmt<W: fmt::Write>(&self, f: &mut fmt::Formatter<W>) -> fmt::Result {
-        if self.0.kind() == ErrorKind::OutOfMemory {
-            return f.write_str("Out of memory.");
-        }
-        write!(f, "{}", self.0)
     }
 }

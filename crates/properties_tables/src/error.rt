@@ -7,8 +7,9 @@ ghost use Rattle.properties_tables.specs.Failures.{absent_words, failure_status,
 
 use crate::messages::{Escaped, print_line};
 use counted_io::CountedWrite;
-use java_properties::{Cause, ErrorKind, MalformedEscape, PropertiesError};
+use java_properties::{Cause, ErrorKind, MalformedEscape, PropertiesError, Reason};
 use std::alloc::{AllocError, Global};
+use std::fmt::{self, Write};
 use std::io;
 
 /// The exit status of wrong arguments and of failures.
@@ -271,6 +272,49 @@ fn reason_of_error(alloc: Global, error: &PropertiesError) -> Result<String, All
     if error.kind() == ErrorKind::Unsupported {
         return String::from_str(alloc, UTF_16);
     }
-    let reason = error.reason();
-    format!(in alloc; "{reason}")
+    match error.reason() {
+        Reason::Io(error) => format!(in alloc; "{}", SystemError(error)),
+        reason => format!(in alloc; "{reason}"),
+    }
+}
+
+/// An error of the system. It prints in words, without its number; if memory ran out, as everywhere else.
+///
+/// ```text
+/// let error = io::Error::from_raw_os_error(2);
+/// format!(in alloc; "{}", SystemError(&error))?; // `No such file or directory`
+/// ```
+#[derive(Clone, Copy)]
+pub struct SystemError<'a>(pub &'a io::Error);
+
+impl fmt::Display for SystemError<'_> {
+    fn fmt<W: fmt::Write>(&self, f: &mut fmt::Formatter<W>) -> fmt::Result {
+        if self.0.kind() == io::ErrorKind::OutOfMemory {
+            return f.write_str("Out of memory.");
+        }
+        let mut words = Words {
+            f,
+            has_some: false,
+            are_all: false,
+        };
+        words.write(self.0)
+    }
+}
+
+// Prints the words of an error, and leaves out the number that comes after them.
+struct Words<'a, W> {
+    f: &'a mut fmt::Formatter<W>,
+    has_some: bool,
+    are_all: bool,
+}
+
+impl<W: fmt::Write> fmt::Write for Words<'_, W> {
+    fn write_str(&mut self, text: &str) -> fmt::Result {
+        self.are_all = self.are_all || self.has_some && text.starts_with(" (os error ");
+        if self.are_all {
+            return Ok(());
+        }
+        self.has_some = self.has_some || !text.is_empty();
+        self.f.write_str(text)
+    }
 }

@@ -141,13 +141,6 @@ impl Engine {
         Ok(())
     }
 
-    /// Returns whether a write failed.
-    pub fn has_failed(&self) -> bool
-        ensures { result ≡ self.now.failed }
-    {
-        self.failed
-    }
-
     fn accepts(&self, content: Content<'_>) -> bool
         ensures { result ≡ is_accepted self.now.settings (call_of (entry_content content.entry)) }
     {

@@ -1,15 +1,15 @@
 -- How the hint on an answer is found.
-use Rattle.std.specs.Prelude.{ℕ, List, Bool, true, false, Option, Result, Ok, Err}
+use Rattle.std.specs.Prelude.{◌⊎◌, ℕ, List, Bool, Option, Result, Ok, Err}
 use Rattle.std.specs.Global.{Global}
 use Rattle.std.specs.declared.string.String.{String}
 use Rattle.properties_format.specs.Encoding.{Encoding}
 use Rattle.properties_tools.specs.Propedit.{Answers}
 use Rattle.properties_tables.specs.Failures.{IsMemoryFailure}
-use Rattle.properties_tools.specs.Propedit.Hints.{hint_bytes, HasPrefix, IsFileHint, IsHint}
-use Rattle.properties_changing.specs.Keys.{HoldsKeys, IsFirstAbsent}
+use Rattle.properties_tools.specs.Propedit.Hints.{hint_bytes, HasPrefix, IsFileHint, IsHint, Tells}
 use Rattle.properties_tables.specs.Sources.{IsSound, IsUnsound}
 use Rattle.properties_tools.specs.declared.propedit.answer.Answer.{Answer}
 use Rattle.properties_tables.specs.declared.error.Failure.{Failure}
+use Rattle.properties_tools.specs.declared.propedit.request.Doubt.{Doubt}
 use Rattle.properties_tools.specs.declared.propedit.request.Job.{Job}
 
 -- The same of the line for that key.
@@ -22,11 +22,10 @@ abbrev pub FindsHint : Job → List (List ℕ) → List ℕ → ℕ → Result (
 FindsHint job files source status (Ok hint) = IsHint job files source status (hint_bytes hint)
 FindsHint job files source status (Err failure) = (answer : Answer) → Answers job source (Ok answer) → Answers job source (Err failure)
 
--- Whether one of the keys is lacking.
-abbrev pub FindsLack : Encoding → List ℕ → List (List ℕ) → Result Bool Failure → Type 0
-FindsLack e source keys (Ok true) = (key : List ℕ) × IsFirstAbsent e source keys key
-FindsLack e source keys (Ok false) = HoldsKeys e source keys
-FindsLack e source keys (Err failure) = IsSound e source → IsMemoryFailure failure
+-- Whether the source bears out that an argument may be meant otherwise; or it is refused, or memory ran out.
+abbrev pub TellsDoubt : Encoding → List ℕ → Doubt → Result Bool Failure → Type 0
+TellsDoubt e source doubt (Ok told) = Tells e source doubt told
+TellsDoubt e source doubt (Err failure) = IsUnsound e source failure ⊎ (IsSound e source → IsMemoryFailure failure)
 
 -- Whether a key begins with a prefix.
 abbrev pub FindsPrefix : Encoding → List ℕ → List ℕ → Result Bool Failure → Type 0

@@ -1,5 +1,5 @@
 -- The hints on arguments that may have been meant otherwise.
-use Rattle.std.specs.Prelude.{◌≡◌, ◌==◌, ◌⊎◌, ℕ, Bool, true, false, List, [], ◌∷◌, ◌++◌, Option, Some, None, Result, Ok, Err, codes, map, string_bytes}
+use Rattle.std.specs.Prelude.{◌≡◌, ◌==◌, ◌⊎◌, ℕ, Bool, true, false, not, List, [], ◌∷◌, ◌++◌, length, Option, Some, None, codes, map, string_bytes}
 use Rattle.std.specs.Borrow.{Bor}
 use Rattle.std.specs.Global.{Global}
 use Rattle.std.specs.Option.{option_map}
@@ -11,20 +11,16 @@ use Rattle.properties_text.specs.Encoding.{encoding_of}
 use Rattle.properties_tables.specs.Messages.{escaped, printed_line, HasPrintedLine}
 use Rattle.java_properties.specs.Maps.{characters}
 use Rattle.properties_changing.specs.Keys.{HoldsKey, HoldsKeys, HoldsNoKey, IsFirstAbsent}
-use Rattle.properties_tables.specs.Failures.{IsMemoryFailure}
-use Rattle.properties_tables.specs.Sources.{IsSound, IsUnsound}
-use Rattle.properties_tables.specs.declared.error.Failure.{Failure}
-use Rattle.properties_tools.specs.Propedit.Listing.{Lists}
-use Rattle.properties_tools.specs.declared.propedit.answer.Answer.{Answer}
+use Rattle.properties_tools.specs.Propedit.Listing.{listed_keys, AreKeysOf}
 use Rattle.properties_tools.specs.declared.propedit.request.Command.{Command}
 use Rattle.properties_tools.specs.declared.propedit.request.Command.TheVariants.{Comment, Get, ListJson, ListValues}
 use Rattle.properties_tools.specs.declared.propedit.request.Command.TheVariants as command
 use Rattle.properties_tools.specs.declared.propedit.request.Doubt.{Doubt}
 use Rattle.properties_tools.specs.declared.propedit.request.Doubt.TheVariants.{Key, Prefix, Value}
 use Rattle.properties_tools.specs.declared.propedit.request.Job.{Job}
+use Rattle.properties_tools.specs.declared.propedit.request.Note.{Note}
 use Rattle.properties_tools.specs.declared.propedit.request.Source.{Source}
 use Rattle.properties_tools.specs.declared.propedit.request.Source.TheVariants.{Dash, File, StandardInput}
-use Rattle.properties_tools.specs.declared.propedit.request.Terminator.TheVariants.{LineFeed}
 
 -- the bytes of a text that is borrowed
 abbrev pub borrowed_bytes : Bor (List ℕ) → List ℕ
@@ -47,12 +43,12 @@ prefix_of (ListValues prefix end) = prefix ∷ []
 prefix_of (ListJson prefix) = prefix ∷ []
 prefix_of other = []
 
--- The arguments that may be files by mistake, unless standard input is named: the KEYs of `get`, but with a default not
--- the first one, and none if a file is named; the KEY of `comment`; and a PREFIX, if a file is named.
+-- The arguments that may be files by mistake, unless standard input is named: the KEYs of `get`, but with a default, if
+-- no file is named, not the first one; the KEY of `comment`; and a PREFIX, if a file is named.
 abbrev pub possible_files : Source → Command → List (String Global)
 possible_files Dash command = []
-possible_files source (Get keys None end) = keys.items
 possible_files StandardInput (Get keys (Some default) end) = without_first keys.items
+possible_files source (Get keys default end) = keys.items
 possible_files source (Comment key) = key ∷ []
 possible_files (File path) command = prefix_of command
 possible_files source command = []
@@ -61,10 +57,10 @@ abbrev pub first_name : List (String Global) → Option (List ℕ)
 first_name [] = None
 first_name (file ∷ files) = Some (string_bytes file)
 
--- The first of these files, where a default would hide that it was taken for a KEY.
-abbrev pub refused_file : Command → List (String Global) → Option (List ℕ)
-refused_file (Get keys (Some default) end) files = first_name files
-refused_file command files = None
+-- The first of these files, where a default would hide that it was taken for a KEY, and no file is named.
+abbrev pub refused_file : Source → Command → List (String Global) → Option (List ℕ)
+refused_file StandardInput (Get keys (Some default) end) files = first_name files
+refused_file source command files = None
 
 -- ---- of an answer that finds nothing
 
@@ -96,22 +92,16 @@ abbrev pub IsFileHint : Encoding → List ℕ → List (List ℕ) → Option (Li
 IsFileHint e source files None = HoldsKeys e source files
 IsFileHint e source files (Some line) = NamesFile e source files line
 
--- The hint if a command found nothing in a source. These files are there.
-abbrev pub IsHintOf : Source → Encoding → Command → List (List ℕ) → List ℕ → Option (List ℕ) → Type 0
-IsHintOf from e (Get keys default end) files source hint = IsFileHint e source files hint
-IsHintOf from e (Comment key) files source hint = IsFileHint e source files hint
-IsHintOf from e (command.List prefix end) files source hint = hint ≡ prefix_hint from files (string_bytes prefix)
-IsHintOf from e (ListValues prefix end) files source hint = hint ≡ prefix_hint from files (string_bytes prefix)
-IsHintOf from e (ListJson prefix) files source hint = hint ≡ prefix_hint from files (string_bytes prefix)
-IsHintOf from e other files source hint = hint ≡ None
+-- the hint on a list that found something, or nothing
+abbrev pub list_hint : Bool → Source → List (List ℕ) → List (String Global) → Option (List ℕ)
+list_hint false source files (prefix ∷ []) = prefix_hint source files (string_bytes prefix)
+list_hint found source files prefixes = None
 
-abbrev pub IsHintIf : Bool → Job → List (List ℕ) → List ℕ → Option (List ℕ) → Type 0
-IsHintIf true job files source hint = hint ≡ None
-IsHintIf false job files source hint = IsHintOf job.source (encoding_of job.encoding) job.command files source hint
-
--- The hint on an answer with this status: none if something was found.
-abbrev pub IsHint : Job → List (List ℕ) → List ℕ → ℕ → Option (List ℕ) → Type 0
-IsHint job files source status hint = IsHintIf (status == 0) job files source hint
+-- The hint on a command whose answer has this status. These files are there.
+abbrev pub IsHintOf : Source → Encoding → Command → List (List ℕ) → List ℕ → ℕ → Option (List ℕ) → Type 0
+IsHintOf from e (Get keys default end) files source status hint = IsFileHint e source files hint
+IsHintOf from e (Comment key) files source status hint = IsFileHint e source files hint
+IsHintOf from e other files source status hint = hint ≡ list_hint (status == 0) from files (prefix_of other)
 
 abbrev pub hint_bytes : Option (String Global) → Option (List ℕ)
 hint_bytes hint = option_map string_bytes hint
@@ -123,9 +113,9 @@ PrintsHint sink old (Some line) new = HasPrintedLine sink old line new
 
 -- ---- an argument that may be meant otherwise
 
--- Listing the keys that begin with a prefix finds one, or none.
+-- Whether some of the keys of the source begin with a prefix.
 abbrev pub HasPrefix : Encoding → List ℕ → List ℕ → Bool → Type 0
-HasPrefix e source prefix found = (answer : Answer) × Lists e source prefix LineFeed (Ok answer) × (found ≡ (answer.status == 0))
+HasPrefix e source prefix found = (keys : List (List ℕ)) × AreKeysOf e source keys × (found ≡ not (length (listed_keys prefix keys) == 0))
 
 -- Whether the source bears it out: no pair has the KEY, and pairs have all that may be meant; or no key begins with the
 -- PREFIX, and one does with what it may mean.
@@ -136,7 +126,13 @@ Tells e source (Prefix prefix front) true = HasPrefix e source (characters prefi
 Tells e source (Prefix prefix front) false = HasPrefix e source (characters prefix) true ⊎ HasPrefix e source (characters front) false
 Tells e source (Value file) told = told ≡ true
 
--- Or it is refused, or memory ran out.
-abbrev pub TellsDoubt : Encoding → List ℕ → Doubt → Result Bool Failure → Type 0
-TellsDoubt e source doubt (Ok told) = Tells e source doubt told
-TellsDoubt e source doubt (Err failure) = IsUnsound e source failure ⊎ (IsSound e source → IsMemoryFailure failure)
+-- The line is that of this note, which the source bears out.
+abbrev pub IsNoteOf : Encoding → List ℕ → Option Note → List ℕ → Type 0
+IsNoteOf e source None line = ⊥
+IsNoteOf e source (Some note) line = Tells e source note.doubt true × (line ≡ string_bytes note.line)
+
+-- What is printed beside an answer with this status: the job's note, if the source bears it out, or else a hint.
+abbrev pub IsHint : Job → List (List ℕ) → List ℕ → ℕ → Option (List ℕ) → Type 0
+IsHint job files source status hint =
+    ((line : List ℕ) × IsNoteOf (encoding_of job.encoding) source job.note line × (hint ≡ Some line))
+    ⊎ IsHintOf job.source (encoding_of job.encoding) job.command files source status hint

@@ -1,5 +1,5 @@
 -- What `merge` sets: the pairs of a file, which is a properties file, or has texts that each end with a zero byte.
-use Rattle.std.specs.Prelude.{◌≡◌, ◌≢◌, ◌⊎◌, ℕ, Bool, false, ◌==◌, All, List, [], ◌∷◌, ◌++◌, Result, Ok, Err, map}
+use Rattle.std.specs.Prelude.{◌≡◌, ◌≢◌, ◌⊎◌, ℕ, Bool, false, ◌==◌, All, List, [], ◌∷◌, ◌++◌, None, Result, Ok, Err, map}
 use Rattle.std.specs.Global.{Vec}
 use Rattle.std.specs.List.{flat_map, list_any}
 use Rattle.std.specs.Str.{chars, IsUtf8}
@@ -126,7 +126,7 @@ change_by asked list = change.Edits (record { list = list; ascii_only = asked.as
 
 -- a change that goes there
 abbrev pub sent_to : Destination → Asked → Change → Merged
-sent_to (destination.Printed source) e change = outcome.Printed (record { encoding = e; source = source; command = command.Change change })
+sent_to (destination.Printed source) e change = outcome.Printed (record { encoding = e; source = source; command = command.Change change; note = None })
 sent_to (destination.InPlace path missing verbose) e change =
     outcome.InPlace (record { path = path; encoding = e; change = change; missing = missing; verbose = verbose })
 

@@ -19,8 +19,9 @@ use std::alloc::{AllocError, Global};
 /// Returns the texts of the comment lines directly above the last pair with a key, as they are written, each ended by a
 /// line feed. If no pair has the key, the status is 1.
 ///
-/// It refuses a source for its bytes: lines that are ill-formed in the encoding in force, or U+0000 if UTF-8 is in
-/// force without a byte order mark. It refuses a malformed escape in a pair too, and then UTF-16.
+/// It refuses a source for its bytes: the byte order mark of UTF-32, lines that are ill-formed in the encoding in
+/// force, or U+0000 if UTF-8 is in force without a byte order mark. It refuses a malformed escape in a pair too, and
+/// then UTF-16.
 ///
 /// ```text
 /// let answer = comment(alloc, b"# the front door\nport = 80\n", Encoding::UTF_8, "port")?;

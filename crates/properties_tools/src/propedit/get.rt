@@ -28,8 +28,8 @@ pub struct Shown<'a> {
 /// Returns the last value of each key, or the default if no pair has the key, and the byte that ends it. For a key with
 /// neither there is no text, and the status is 1.
 ///
-/// It refuses a source for its bytes: lines that are ill-formed in the encoding in force, or U+0000 if UTF-8 is in
-/// force without a byte order mark. It refuses a malformed escape in a pair too.
+/// It refuses a source for its bytes: the byte order mark of UTF-32, lines that are ill-formed in the encoding in
+/// force, or U+0000 if UTF-8 is in force without a byte order mark. It refuses a malformed escape in a pair too.
 ///
 /// ```text
 /// // If `keys` are `b` and `a`:

@@ -1,17 +1,17 @@
 // The hints on arguments that may have been meant otherwise.
 
-ghost use Rattle.std.specs.Prelude.{◌≡◌, map, IfOk, string_bytes};
+ghost use Rattle.std.specs.Prelude.{◌≡◌, map, IfOk, IfSome, string_bytes};
 ghost use Rattle.std.specs.Option.{option_map};
 ghost use Rattle.std.specs.Str.{chars};
 ghost use Rattle.counted_io.specs.Streams.{IsSameSink};
 ghost use Rattle.java_properties.specs.Maps.{characters};
 ghost use Rattle.properties_text.specs.Encoding.{encoding_of};
 ghost use Rattle.properties_tables.specs.Messages.{HasPrintedLine};
-ghost use Rattle.properties_tools.specs.Private.Hinting.{FindsFileHint, FindsHint, FindsLack, FindsPrefix};
-ghost use Rattle.properties_tools.specs.Propedit.Hints.{borrowed_bytes, hint_bytes, key_line, possible_files, prefix_hint, prefix_line, prefix_of, reading_line, refused_file, without_first, PrintsHint, TellsDoubt};
+ghost use Rattle.properties_tools.specs.Private.Hinting.{FindsFileHint, FindsHint, FindsPrefix, TellsDoubt};
+ghost use Rattle.properties_tools.specs.Propedit.Hints.{borrowed_bytes, hint_bytes, key_line, possible_files, prefix_hint, prefix_line, prefix_of, reading_line, refused_file, without_first, IsNoteOf, PrintsHint};
 
 use crate::propedit::list::list;
-use crate::propedit::request::{Command, Doubt, Job, Source, Terminator};
+use crate::propedit::request::{Command, Doubt, Job, Note, Source, Terminator};
 use counted_io::CountedWrite;
 use java_properties::Encoding;
 use properties_changing::change::first_absent;
@@ -25,7 +25,7 @@ const IS_A_FILE: &str = "a file is named by -f";
 const READING: &str = "propedit: reading standard input; '-f FILE' reads a file\n";
 
 /// Returns the arguments of a job that may be files by mistake, unless standard input is named: the KEYs of `get`, or
-/// with a default all but the first one, if no file is named; the KEY of `comment`; and a PREFIX, if a file is named.
+/// with a default, if no file is named, all but the first one; the KEY of `comment`; and a PREFIX, if a file is named.
 ///
 /// ```text
 /// // For the arguments `get port app.properties` it returns both.
@@ -36,8 +36,8 @@ pub fn possible_files(job: &Job) -> &[String]
 {
     match (&job.source, &job.command) {
         (Source::Dash, _) => &[],
-        (_, Command::Get(keys, None, _)) => keys.as_slice(),
         (Source::StandardInput, Command::Get(keys, Some(_), _)) => without_first(keys.as_slice()),
+        (_, Command::Get(keys, _, _)) => keys.as_slice(),
         (_, Command::Comment(key)) => slice::from_ref(key),
         (Source::File(_), command) => prefix_of(command),
         _ => &[],
@@ -64,18 +64,18 @@ fn without_first(keys: &[String]) -> &[String]
     }
 }
 
-/// Returns the first of the `files` if the job has a default, with which nothing would tell that its KEY was taken for
-/// a file. The files are those of its possible files that are there.
+/// Returns the first of the `files` if the job has a default and no file is named: nothing would tell that a KEY is
+/// meant as a file. The files are those of its possible files that are there.
 ///
 /// ```text
 /// // For the arguments `-d 80 get port app.properties` it returns the name, and else `None`.
 /// let file = refused_file(&job, &files);
 /// ```
 pub fn refused_file<'a>(job: &Job, files: &'a [String]) -> Option<&'a str>
-    ensures { option_map borrowed_bytes result ≡ refused_file job.now.command files.now }
+    ensures { option_map borrowed_bytes result ≡ refused_file job.now.source job.now.command files.now }
 {
-    match (&job.command, files) {
-        (Command::Get(_, Some(_), _), [file, ..]) => Some(file.as_str()),
+    match (&job.source, &job.command, files) {
+        (Source::StandardInput, Command::Get(_, Some(_), _), [file, ..]) => Some(file.as_str()),
         _ => None,
     }
 }
@@ -94,8 +94,9 @@ pub fn print_reading<E: CountedWrite>(errors: &mut E)
     print_line(errors, READING);
 }
 
-/// Returns the line that says, of an answer with this status, which argument may have been meant as a file: a PREFIX
-/// that no key begins with, if no file is named or it is one of the `files`, or a KEY that no pair has, if it is one.
+/// Returns the line beside an answer with this status: that of the job's note, if the source bears it out. Or it says
+/// which argument may have been meant as a file: a PREFIX that no key begins with, if no file is named or it is one of
+/// the `files`, or a KEY that no pair has, if it is one.
 pub(crate) fn hint(
     alloc: Global,
     job: &Job,
@@ -105,8 +106,8 @@ pub(crate) fn hint(
 ) -> Result<Option<String>, Failure>
     ensures { FindsHint job.now (map characters files.now) source.now status result }
 {
-    if status == 0 {
-        return Ok(None);
+    if let Some(line) = told(alloc, source, job.encoding, &job.note) {
+        return Ok(Some(line));
     }
     match &job.command {
         Command::Get(_, _, _) | Command::Comment(_) => file_hint(
@@ -115,10 +116,12 @@ pub(crate) fn hint(
             job.encoding,
             files,
         ),
-        Command::List(prefix, _) | Command::ListValues(prefix, _) | Command::ListJson(prefix) => {
-            Ok(prefix_hint(alloc, &job.source, files, prefix.as_str())?)
-        }
-        Command::Check(_) | Command::CheckAgainst(_, _) | Command::Change(_) => Ok(None),
+        command => match prefix_of(command) {
+            [prefix] if status != 0 => {
+                Ok(prefix_hint(alloc, &job.source, files, prefix.as_str())?)
+            }
+            _ => Ok(None),
+        },
     }
 }
 
@@ -179,15 +182,27 @@ fn prefix_line(alloc: Global, prefix: &str) -> Result<String, AllocError>
     format!(in alloc; "propedit: no key begins with '{prefix}'; {IS_A_FILE}\n")
 }
 
-/// Returns whether a source bears out that an argument may be meant otherwise: no pair has the KEY, and pairs have all
-/// keys that may be meant; or no key begins with the PREFIX, and one does with what it may mean. A VALUE tells by
-/// itself.
+/// Returns the line of a note, if the source bears it out, and there is memory to tell.
 ///
 /// ```text
-/// let doubt = Doubt::Prefix(prefix, front); // `server.*` and `server.`
-/// bears_out(alloc, b"server.port = 80\n", Encoding::UTF_8, &doubt)?; // true
+/// // If the note is on the PREFIX `server.*`, which may mean `server.`:
+/// let line = told(alloc, b"server.port = 80\n", Encoding::UTF_8, &note); // its line
 /// ```
-pub fn bears_out(
+pub fn told(alloc: Global, source: &[u8], encoding: Encoding, note: &Option<Note>) -> Option<String>
+    ensures { IfSome result (λ line. IsNoteOf (encoding_of encoding) source.now note.now (string_bytes line)) }
+{
+    match note {
+        Some(note) => match bears_out(alloc, source, encoding, &note.doubt) {
+            Ok(true) => note.line.clone().ok(),
+            _ => None,
+        },
+        None => None,
+    }
+}
+
+// Returns whether a source bears out that an argument may be meant otherwise: no pair has the KEY, and pairs have all
+// keys that may be meant; or no key begins with the PREFIX, and one does with what it may mean. A VALUE tells by itself.
+fn bears_out(
     alloc: Global,
     source: &[u8],
     encoding: Encoding,
@@ -197,33 +212,19 @@ pub fn bears_out(
 {
     match doubt {
         Doubt::Key(key, meant) => {
-            if !lacks_key(alloc, source, encoding, slice::from_ref(key))? {
-                return Ok(false);
-            }
-            Ok(!lacks_key(alloc, source, encoding, meant)?)
+            let key = slice::from_ref(key);
+            Ok(
+                first_absent(alloc, source, encoding, key)?.is_some()
+                    && first_absent(alloc, source, encoding, meant)?.is_none(),
+            )
         }
         Doubt::Prefix(prefix, front) => {
-            if has_prefix(alloc, source, encoding, prefix.as_str())? {
-                return Ok(false);
-            }
-            has_prefix(alloc, source, encoding, front.as_str())
+            Ok(
+                !has_prefix(alloc, source, encoding, prefix.as_str())?
+                    && has_prefix(alloc, source, encoding, front.as_str())?,
+            )
         }
         Doubt::Value(_) => Ok(true),
-    }
-}
-
-// Returns whether no pair of a source has one of these keys.
-fn lacks_key(
-    alloc: Global,
-    source: &[u8],
-    encoding: Encoding,
-    keys: &[String],
-) -> Result<bool, Failure>
-    ensures { FindsLack (encoding_of encoding) source.now (map characters keys.now) result }
-{
-    match first_absent(alloc, source, encoding, keys)? {
-        Some(_) => Ok(true),
-        None => Ok(false),
     }
 }
 
@@ -237,5 +238,5 @@ fn has_prefix(
     ensures { FindsPrefix (encoding_of encoding) source.now (chars prefix.now) result }
 {
     let answer = list(alloc, source, encoding, prefix, Terminator::LineFeed)?;
-    Ok(answer.status == 0)
+    Ok(!answer.text.is_empty())
 }

@@ -18,8 +18,8 @@ use std::alloc::{AllocError, Global};
 /// Returns the keys that begin with a prefix, each once and with the byte that ends it, in the order of their first
 /// pairs. If there is none, and the prefix isn't empty, the status is 1.
 ///
-/// It refuses a source for its bytes: lines that are ill-formed in the encoding in force, or U+0000 if UTF-8 is in
-/// force without a byte order mark. It refuses a malformed escape in a pair too.
+/// It refuses a source for its bytes: the byte order mark of UTF-32, lines that are ill-formed in the encoding in
+/// force, or U+0000 if UTF-8 is in force without a byte order mark. It refuses a malformed escape in a pair too.
 ///
 /// ```text
 /// let answer = list(alloc, b"b = 1\na = 2\nb = 3", Encoding::UTF_8, "", Terminator::LineFeed)?;

@@ -88,6 +88,7 @@ fn with_edits(asked: Merge, list: Vec<Edit>) -> Merged
             encoding,
             source,
             command: Command::Change(change),
+            note: None,
         }),
         Destination::InPlace(path, missing, verbose) => Merged::InPlace(FileChange {
             path,

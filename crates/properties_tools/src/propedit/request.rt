@@ -15,8 +15,8 @@ pub enum Request {
     Job(Job),
     /// A check of each of these files.
     CheckFiles(CheckedFiles),
-    /// A change of a file in place.
-    EditFile(FileChange),
+    /// A change of a file in place, and a note on it.
+    EditFile(FileChange, Option<Note>),
     /// A change by the pairs of another file.
     Merge(Merge),
     /// A comparison of two sources.
@@ -32,6 +32,8 @@ pub struct Job {
     pub source: Source,
     /// What is to be done.
     pub command: Command,
+    /// What is printed beside the answer, if the source bears it out.
+    pub note: Option<Note>,
 }
 
 /// Files that are checked one after another.
@@ -135,6 +137,13 @@ pub enum Command {
     CheckAgainst(Check, Base),
     /// Print the source after this change.
     Change(Change),
+}
+
+/// A line about an argument that may be meant otherwise.
+#[derive(Drop)]
+pub struct Note {
+    pub doubt: Doubt,
+    pub line: String,
 }
 
 /// An argument that may be meant otherwise.
