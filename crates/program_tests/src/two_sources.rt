@@ -86,6 +86,7 @@ fn check_files(
     };
     let mut job = Job {
         encoding,
+        latin_1: false,
         source: Source::Dash,
         command: Command::CheckAgainst(check, known),
         note: None,

@@ -19,6 +19,7 @@ mod labels;
 pub mod mistake;
 mod not_utf_8;
 mod options;
+pub mod other_format;
 pub mod parse;
 mod shell;
 pub mod typed;

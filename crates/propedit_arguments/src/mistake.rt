@@ -3,6 +3,7 @@
 use crate::command_line::{CommandName, CommandRow, OptionName, TypedOption, Usage, command_named};
 use crate::kinds::show_no_kind;
 use crate::labels::{TARGETS, show_ascii_encoding, show_no_target, show_unknown_encoding};
+use crate::other_format::{OtherFormat, show_other_format};
 use crate::shell::Quoted;
 use crate::typed::Stray;
 use crate::wrong_edits::{
@@ -169,6 +170,8 @@ pub enum Mistake<'a> {
     OptionForKeyOf(&'a str, &'static CommandRow),
     /// This key of `get` is the name of a file, and a default would hide it.
     FileAsKey(&'a str),
+    /// The file of this name was to be merged, and is in this format.
+    OtherFormat(&'a str, OtherFormat),
     /// The key and the value of a setting both look like NAME=TEXT.
     TwoAssignments(&'a str, &'a str),
     /// The key of a setting, which has this value, is empty, or ends in what ends a key in a file.
@@ -216,6 +219,7 @@ impl Mistake<'_> {
             Mistake::NoNewKey(_) | Mistake::OddName(_, _) => usage_of("rename"),
             Mistake::NoText(_) | Mistake::SetThenComment => usage_of("set-comment"),
             Mistake::FileAsKey(_) => usage_of("get"),
+            Mistake::OtherFormat(_, _) => usage_of("merge"),
             Mistake::NoEdit(_, _) => Usage::Edits,
             _ => Usage::All,
         }
@@ -340,6 +344,7 @@ impl fmt::Display for Mistake<'_> {
             Mistake::OptionForKey(row) => show_option_for_key(f, row),
             Mistake::OptionForKeyOf(key, row) => show_option_for_key_of(f, key, row),
             Mistake::FileAsKey(name) => show_file_as_key(f, name),
+            Mistake::OtherFormat(name, format) => show_other_format(f, name, format),
             Mistake::TwoAssignments(key, value) => show_two_assignments(f, key, value),
             Mistake::OddKey(key, value) => {
                 let setting = |key| Shown("set", key, Some(value));

@@ -1,7 +1,8 @@
 // The options before a command, and those after it.
 
 use crate::command_line::{
-    CommandRow, OptionName, TypedOption, allowed, command_named, is_latin_1, option_in, option_of,
+    CommandName, CommandRow, OptionName, TypedOption, allowed, command_named, is_latin_1,
+    option_in, option_of,
 };
 use crate::labels::means_ascii;
 use crate::mistake::{Mistake, NoRequest};
@@ -361,6 +362,8 @@ impl<'a> Options<'a> {
         let source = self.source(alloc)?;
         Ok(Request::Job(Job {
             encoding: self.encoding(row)?,
+            latin_1: self.is_latin_1()
+                && matches!(row.command, CommandName::Get | CommandName::List),
             source,
             command,
             note,

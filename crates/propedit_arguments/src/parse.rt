@@ -411,6 +411,7 @@ fn diff<'a>(
     }
     Ok(Request::Diff(Comparison {
         encoding: options.encoding(row)?,
+        latin_1: options.is_latin_1(),
         old: source_named(alloc, old.as_str())?,
         new: source_named(alloc, new.as_str())?,
         report: options.report(),
@@ -553,11 +554,17 @@ fn merge<'a>(
         _ => Ok(Request::Merge(Merge {
             pairs,
             form: options.form(),
+            is_judged: !options.has(OptionName::Null) && !is_after_dashes(words),
             encoding: options.encoding(row)?,
             edits: edits_with(options, Vec::new(alloc)),
             destination,
         })),
     }
+}
+
+// Returns whether `--` says that the argument after it is meant as it is.
+fn is_after_dashes(words: &[String]) -> bool {
+    matches!(words, [first, ..] if first.as_str() == "--")
 }
 
 fn convert<'a>(
@@ -601,6 +608,7 @@ fn change<'a>(
     match options.destination(alloc)? {
         Destination::Printed(source) => Ok(Request::Job(Job {
             encoding,
+            latin_1: false,
             source,
             command: Command::Change(change),
             note,

@@ -42,6 +42,7 @@ pub(crate) fn check_files<W: CountedWrite, E: CountedWrite>(
     }
     let mut job = Job {
         encoding,
+        latin_1: false,
         source: Source::Dash,
         command,
         note: None,

@@ -1,14 +1,16 @@
 // Sources, opened.
 
 use counted_io::{Counted, CountedWrite};
+use java_properties::{Encoding, read_source};
 use properties_tools::propedit::answers::name;
 use properties_tools::propedit::error::Failure;
 use properties_tools::propedit::exit_status;
+use properties_tools::propedit::hint::print_misread;
 use properties_tools::propedit::request::Source;
 use properties_tools::propedit::same_file::{INPUT, refuse_output};
 use std::alloc::AllocError;
 use std::fs::{self, File};
-use std::io::{self, IsTerminal, Read, Stdin};
+use std::io::{self, Cursor, IsTerminal, Read, Stdin};
 
 /// Where the bytes of standard input come from.
 #[derive(Clone, Copy)]
@@ -34,6 +36,8 @@ pub(crate) enum Input<'a> {
     Standard(Stdin),
     Bytes(&'a [u8]),
     File(File),
+    /// It was read already.
+    Read(Cursor<Vec<u8>>),
 }
 
 impl Read for Input<'_> {
@@ -42,6 +46,7 @@ impl Read for Input<'_> {
             Input::Standard(input) => input.read(buf),
             Input::Bytes(bytes) => bytes.read(buf),
             Input::File(file) => file.read(buf),
+            Input::Read(bytes) => bytes.read(buf),
         }
     }
 }
@@ -82,6 +87,39 @@ pub(crate) fn opened_or_explain<'a, E: CountedWrite>(
     }
 }
 
+/// Reads a source that Java reads as ISO 8859-1, so that a line says what it reads otherwise.
+pub(crate) fn noted<'a, E: CountedWrite>(
+    rt: &HostRuntime,
+    source: &Source,
+    latin_1: bool,
+    mut input: Counted<Input<'a>>,
+    errors: &mut E,
+) -> Result<Counted<Input<'a>>, u8> {
+    if !latin_1 {
+        return Ok(input);
+    }
+    let bytes = read_or_explain(rt, source, Encoding::WINDOWS_1252, &mut input, errors)?;
+    print_misread(rt.alloc(), errors, name(source), &bytes);
+    Ok(Counted::new(Input::Read(Cursor::new(bytes))))
+}
+
+/// Reads a source to its end. If it can't be read, a line says why, and the error is the status.
+pub(crate) fn read_or_explain<E: CountedWrite>(
+    rt: &HostRuntime,
+    source: &Source,
+    encoding: Encoding,
+    input: &mut Counted<Input<'_>>,
+    errors: &mut E,
+) -> Result<Vec<u8>, u8> {
+    match read_source(rt.alloc(), input, encoding) {
+        Ok(bytes) => Ok(bytes),
+        Err(error) => {
+            let failed = Err(Failure::from(error));
+            Err(exit_status(rt.alloc(), errors, name(source), failed))
+        }
+    }
+}
+
 /// Returns the names that files have.
 pub(crate) fn files_among(rt: &HostRuntime, names: &[String]) -> Result<Vec<String>, AllocError> {
     let mut files = Vec::new(rt.alloc());
@@ -94,18 +132,14 @@ pub(crate) fn files_among(rt: &HostRuntime, names: &[String]) -> Result<Vec<Stri
 }
 
 pub(crate) fn is_file(rt: &HostRuntime, name: &str) -> bool {
-    match fs::metadata(rt, name) {
-        Ok(metadata) => metadata.is_file(),
-        Err(_) => false,
-    }
+    fs::metadata(rt, name).is_ok_and(|metadata| metadata.is_file())
 }
 
 pub(crate) fn is_directory(rt: &HostRuntime, source: &Source) -> bool {
     match source {
-        Source::File(path) => match fs::metadata(rt, path.as_str()) {
-            Ok(metadata) => metadata.is_dir(),
-            Err(_) => false,
-        },
+        Source::File(path) => {
+            fs::metadata(rt, path.as_str()).is_ok_and(|metadata| metadata.is_dir())
+        }
         Source::StandardInput | Source::Dash => false,
     }
 }

@@ -6,18 +6,22 @@ mod input;
 mod notes;
 
 use crate::checking::check_files;
-use crate::input::{files_among, is_file, opened_or_explain};
+use crate::input::{Input, files_among, is_file, noted, opened_or_explain, read_or_explain};
 use crate::notes::{edit, lacks_file};
-use counted_io::CountedWrite;
+use counted_io::{Counted, CountedWrite};
 pub use input::StandardInput;
 use propedit_arguments::mistake::{Mistake, NoRequest};
+use propedit_arguments::other_format::other_format;
 use propedit_arguments::parse::explain_mistake;
 use propedit_arguments::{asked_for, explain, explain_not_utf_8, marked_words};
+use properties_tools::propedit::answers::name;
 use properties_tools::propedit::diff::run_diff;
-use properties_tools::propedit::hint::{possible_files, print_reading, refused_file};
+use properties_tools::propedit::hint::{
+    possible_files, print_misread, print_reading, refused_file,
+};
 use properties_tools::propedit::in_place::edit_file;
 use properties_tools::propedit::merge::{Merged, read_merge};
-use properties_tools::propedit::request::{Comparison, Job, Merge, Request, Source};
+use properties_tools::propedit::request::{Comparison, Form, Job, Merge, Request, Source};
 use properties_tools::propedit::streams::Sinks;
 use properties_tools::propedit::{print_out_of_memory, run};
 use std::alloc::AllocError;
@@ -77,15 +81,37 @@ fn merge<W: CountedWrite, E: CountedWrite>(
     sinks: &mut Sinks<W, E>,
 ) -> u8 {
     let alloc = rt.alloc();
-    let mut pairs = match opened_or_explain(rt, standard, &asked.pairs, &mut sinks.errors) {
-        Ok(pairs) => pairs,
+    let file = match file_to_merge(rt, standard, &asked, &mut sinks.errors) {
+        Ok(file) => file,
         Err(status) => return status,
     };
-    match read_merge(alloc, asked, &mut pairs, &mut sinks.errors) {
+    match read_merge(alloc, asked, &mut file.as_slice(), &mut sinks.errors) {
         Ok(Merged::Printed(mut job)) => do_job(rt, standard, &mut job, sinks),
         Ok(Merged::InPlace(file)) => edit_file(rt, alloc, &file, &mut sinks.errors),
         Err(status) => status,
     }
+}
+
+// Reads the file whose pairs are set, unless it is in another format.
+fn file_to_merge<E: CountedWrite>(
+    rt: &HostRuntime,
+    standard: StandardInput<'_>,
+    asked: &Merge,
+    errors: &mut E,
+) -> Result<Vec<u8>, u8> {
+    let source = &asked.pairs;
+    let mut input = opened_or_explain(rt, standard, source, errors)?;
+    let file = read_or_explain(rt, source, asked.encoding, &mut input, errors)?;
+    if asked.is_judged
+        && let Some(format) = other_format(source, &file)
+    {
+        let mistake = Mistake::OtherFormat(name(source), format);
+        return Err(explain_mistake(rt.alloc(), mistake, errors));
+    }
+    if asked.edits.latin_1 && asked.form == Form::Properties {
+        print_misread(rt.alloc(), errors, name(source), &file);
+    }
+    Ok(file)
 }
 
 // Opens the source, and runs the command on it, unless its bytes would go where they come from.
@@ -96,7 +122,7 @@ pub(crate) fn do_job<W: CountedWrite, E: CountedWrite>(
     sinks: &mut Sinks<W, E>,
 ) -> u8 {
     let alloc = rt.alloc();
-    let mut input = match opened_or_explain(rt, standard, &job.source, &mut sinks.errors) {
+    let input = match opened_or_explain(rt, standard, &job.source, &mut sinks.errors) {
         Ok(input) => input,
         Err(status) => return status,
     };
@@ -109,6 +135,10 @@ pub(crate) fn do_job<W: CountedWrite, E: CountedWrite>(
     if standard.is_typed(rt, &job.source) {
         print_reading(&mut sinks.errors);
     }
+    let mut input = match noted(rt, &job.source, job.latin_1, input, &mut sinks.errors) {
+        Ok(input) => input,
+        Err(status) => return status,
+    };
     // Of a file that is named, another one is said first.
     let is_second = matches!(job.source, Source::File(_)) && !files.is_empty();
     if is_second || lacks_file(rt, &job.note) {
@@ -124,13 +154,21 @@ fn compare<W: CountedWrite, E: CountedWrite>(
     sources: &Comparison,
     sinks: &mut Sinks<W, E>,
 ) -> u8 {
-    let mut old = match opened_or_explain(rt, standard, &sources.old, &mut sinks.errors) {
-        Ok(old) => old,
-        Err(status) => return status,
-    };
-    let mut new = match opened_or_explain(rt, standard, &sources.new, &mut sinks.errors) {
-        Ok(new) => new,
-        Err(status) => return status,
-    };
-    run_diff(rt.alloc(), sources, &mut old, &mut new, sinks)
+    match opened_both(rt, standard, sources, &mut sinks.errors) {
+        Ok((mut old, mut new)) => run_diff(rt.alloc(), sources, &mut old, &mut new, sinks),
+        Err(status) => status,
+    }
+}
+
+fn opened_both<'a, E: CountedWrite>(
+    rt: &HostRuntime,
+    standard: StandardInput<'a>,
+    sources: &Comparison,
+    errors: &mut E,
+) -> Result<(Counted<Input<'a>>, Counted<Input<'a>>), u8> {
+    let old = opened_or_explain(rt, standard, &sources.old, errors)?;
+    let new = opened_or_explain(rt, standard, &sources.new, errors)?;
+    let old = noted(rt, &sources.old, sources.latin_1, old, errors)?;
+    let new = noted(rt, &sources.new, sources.latin_1, new, errors)?;
+    Ok((old, new))
 }

@@ -9,12 +9,9 @@ use properties_tools::propedit::request::{Doubt, FileChange, Note};
 
 /// Returns whether a note is about a file that isn't there.
 pub(crate) fn lacks_file(rt: &HostRuntime, note: &Option<Note>) -> bool {
-    match note {
-        Some(note) => match &note.doubt {
-            Doubt::Value(Some(name)) => !is_file(rt, name.as_str()),
-            _ => false,
-        },
-        None => false,
+    match note.as_ref().map(|note| &note.doubt) {
+        Some(Doubt::Value(Some(name))) => !is_file(rt, name.as_str()),
+        _ => false,
     }
 }
 

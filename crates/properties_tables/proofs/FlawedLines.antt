@@ -30,10 +30,10 @@ use Rattle.properties_lines.specs.declared.scanner.Front.TheVariants.{Mark, Feed
 use Rattle.properties_lines.specs.declared.scanner.RawLine.{RawLine}
 use Rattle.properties_lines.specs.declared.scanner.Scanner.{Scanner}
 use Rattle.properties_lines.proofs.HeldLines.{body-next, body-after, body-lines_left}
-use Rattle.properties_tables.specs.Lines.{holds_byte, holds_zero, is_sought, starts_with_bom, AreFlawed, AreFlawedIn, HasLineFlaw, HasFlawed, IsFirstFlawed, IsFirstUtf8, IsWellFormedIn, LacksFlaw, LooksUtf8}
-use Rattle.properties_tables.specs.Private.Flawed.{are_paired, is_ascii, is_flawed, is_well_formed, unit_at, numbers_from, numbers_left, FindsFlawedLine, HasFlawedIn, HasLinesOf, IsFoundLine, IsScanning}
+use Rattle.properties_tables.specs.Lines.{holds_byte, holds_zero, is_sought, is_windows_1252, starts_with_bom, AreFlawed, AreFlawedIn, HasLineFlaw, HasFlawed, IsFirstFlawed, IsFirstUtf8, IsWellFormedIn, LacksFlaw, LooksUtf8}
+use Rattle.properties_tables.specs.Private.Flawed.{are_paired, is_ascii, is_flawed, is_of_windows_1252, is_well_formed, unit_at, numbers_from, numbers_left, FindsFlawedLine, HasFlawedIn, HasLinesOf, IsFoundLine, IsScanning}
 use Rattle.properties_tables.specs.declared.ill_formed.Flaw.{Flaw}
-use Rattle.properties_tables.specs.declared.ill_formed.Flaw.TheVariants.{IllFormed, Zero, NonAscii, Byte, MarkInside}
+use Rattle.properties_tables.specs.declared.ill_formed.Flaw.TheVariants.{IllFormed, Zero, NonAscii, Byte, MarkInside, Misread}
 use Rattle.properties_tables.proofs.NonAscii.{tells-ascii, told-nothing}
 use Rattle.properties_tables.proofs.PairedUnits.{paired-well_formed, well_formed-paired}
 
@@ -62,6 +62,7 @@ has-flaw IllFormed e d k = elim (cases_Bool (is_well_formed e d)) [ inl t ↦ ab
 has-flaw Zero e d k = k
 has-flaw (Byte byte) e d k = k
 has-flaw MarkInside e d k = k
+has-flaw Misread e d k = k
 has-flaw NonAscii e d k =
     let parts = and_parts (not (is_ascii e d)) (is_well_formed e d) k in
     (well e d parts.1, (decoded_line e d, decoded_line-meets e d, tells-ascii e d ∙ parts.0))
@@ -77,6 +78,7 @@ lacks-flaw IllFormed e d k = elim (cases_Bool (is_well_formed e d)) [ inl t ↦ 
 lacks-flaw Zero e d k = k
 lacks-flaw (Byte byte) e d k = k
 lacks-flaw MarkInside e d k = k
+lacks-flaw Misread e d k = k
 lacks-flaw NonAscii e d k = elim (cases_Bool (is_well_formed e d)) [
   | inl t ↦ inr (decoded_line e d, decoded_line-meets e d, tells-ascii e d ∙ first-false (not (is_ascii e d)) (is_well_formed e d) t k)
   | inr t ↦ inl (not-well e d t)
@@ -87,6 +89,7 @@ not-both IllFormed e d x y = y x
 not-both Zero e d x y = absurd (cc)
 not-both (Byte byte) e d x y = absurd (cc)
 not-both MarkInside e d x y = absurd (cc)
+not-both Misread e d x y = absurd (cc)
 not-both NonAscii e d (inl x) y = x y.0
 not-both NonAscii e d (inr (text, is, none)) (sound, (other, same, has)) =
     let x = decoded_line-only e d text is in
@@ -108,6 +111,7 @@ empty-flawless MarkInside windows_1252 = refl
 empty-flawless MarkInside utf_8 = refl
 empty-flawless MarkInside utf_16le = refl
 empty-flawless MarkInside utf_16be = refl
+empty-flawless Misread e = refl
 empty-flawless NonAscii e = let told = told-nothing e in rw told refl
 
 -- No place has a byte.
@@ -223,12 +227,18 @@ unsought-other e source body UTF_16LE is h = rw is refl
 unsought-other e source body UTF_16BE is h = rw is refl
 
 -- Other bytes are sought in windows-1252 alone.
-pub unsought-byte : (byte : ℕ) (e : Encoding) (source body : List ℕ) (f : code.Encoding)
-    → byte_order_mark e source ≡ record { encoding = encoding_of f; body = body } → f ≢ WINDOWS_1252 → is_sought (Byte byte) e source ≡ false
-unsought-byte byte e source body WINDOWS_1252 is h = absurd (h refl)
-unsought-byte byte e source body UTF_8 is h = rw is refl
-unsought-byte byte e source body UTF_16LE is h = rw is refl
-unsought-byte byte e source body UTF_16BE is h = rw is refl
+pub windows_1252-sought : (flaw : Flaw) (e : Encoding) (source : List ℕ) → is_of_windows_1252 flaw ≡ true
+    → is_sought flaw e source ≡ is_windows_1252 (byte_order_mark e source).encoding
+windows_1252-sought (Byte byte) e source of = refl
+windows_1252-sought Misread e source of = refl
+windows_1252-sought other e source of = absurd (cc)
+
+pub unsought-byte : (flaw : Flaw) (e : Encoding) (source body : List ℕ) (f : code.Encoding) → is_of_windows_1252 flaw ≡ true
+    → byte_order_mark e source ≡ record { encoding = encoding_of f; body = body } → f ≢ WINDOWS_1252 → is_sought flaw e source ≡ false
+unsought-byte flaw e source body WINDOWS_1252 of is h = absurd (h refl)
+unsought-byte flaw e source body UTF_8 of is h = windows_1252-sought flaw e source of ∙ rw is refl
+unsought-byte flaw e source body UTF_16LE of is h = windows_1252-sought flaw e source of ∙ rw is refl
+unsought-byte flaw e source body UTF_16BE of is h = windows_1252-sought flaw e source of ∙ rw is refl
 
 pub unsought-marked : (e : Encoding) (source body : List ℕ) → byte_order_mark e source ≡ record { encoding = utf_8; body = body }
     → starts_with_bom source ≡ true

@@ -8,13 +8,13 @@ use Rattle.std.specs.Global.{Vec}
 use Rattle.std.specs.List.{list_any, starts_with}
 use Rattle.properties_format.specs.Encoding.{Encoding, windows_1252, utf_8, utf_16le, utf_16be, byte_order_mark}
 use Rattle.properties_format.specs.Cut.{units, IsCut, IsDecodedLine}
-use Rattle.properties_format.specs.Lines.{end, Line, Lines, numbered_lines}
+use Rattle.properties_format.specs.Lines.{end, is_comment_line, Line, Lines, numbered_lines}
 use Rattle.properties_format.specs.Utf8.{IsWellFormedText}
 use Rattle.java_properties.specs.Errors.{IsBareError}
 use Rattle.properties_items.specs.declared.error.ErrorKind.TheVariants as kind
 use Rattle.properties_items.specs.declared.error.PropertiesError.{PropertiesError}
 use Rattle.properties_tables.specs.declared.ill_formed.Flaw.{Flaw}
-use Rattle.properties_tables.specs.declared.ill_formed.Flaw.TheVariants.{IllFormed, Zero, NonAscii, Byte, MarkInside}
+use Rattle.properties_tables.specs.declared.ill_formed.Flaw.TheVariants.{IllFormed, Zero, NonAscii, Byte, MarkInside, Misread}
 
 -- The bytes are a unit that isn't a surrogate.
 abbrev pub IsPlainUnit : (ℕ → ℕ → ℕ) → List ℕ → Type 0
@@ -63,6 +63,14 @@ holds_mark_in windows_1252 bytes = false
 holds_mark_in utf_8 bytes = holds_mark bytes
 holds_mark_in e bytes = list_any (λ u. u == 0xfeff) (units e bytes)
 
+-- whether ISO 8859-1 reads a byte as another character than windows-1252, as a control character
+abbrev pub is_read_otherwise : ℕ → Bool
+is_read_otherwise b = nat_le 0x80 b && (nat_le b 0x9f && not (b == 0x81 || (b == 0x8d || (b == 0x8f || (b == 0x90 || b == 0x9d)))))
+
+-- whether one of the bytes is such a one, if the first that isn't a blank is no comment sign
+abbrev pub is_misread_line : List ℕ → Bool
+is_misread_line bytes = not (is_comment_line bytes) && list_any is_read_otherwise bytes
+
 -- The bytes are well-formed in this encoding. In windows-1252 every byte is a character.
 abbrev pub IsWellFormedIn : Encoding → List ℕ → Type 0
 IsWellFormedIn windows_1252 bytes = Unit {0}
@@ -84,6 +92,7 @@ HasLineFlaw IllFormed e bytes = ¬ IsWellFormedIn e bytes
 HasLineFlaw Zero e bytes = holds_zero bytes ≡ true
 HasLineFlaw (Byte byte) e bytes = holds_byte byte bytes ≡ true
 HasLineFlaw MarkInside e bytes = holds_mark_in e bytes ≡ true
+HasLineFlaw Misread e bytes = is_misread_line bytes ≡ true
 HasLineFlaw NonAscii e bytes = IsWellFormedIn e bytes × TellsNonAscii e bytes true
 
 -- The bytes don't have it.
@@ -92,6 +101,7 @@ LacksFlaw IllFormed e bytes = IsWellFormedIn e bytes
 LacksFlaw Zero e bytes = holds_zero bytes ≡ false
 LacksFlaw (Byte byte) e bytes = holds_byte byte bytes ≡ false
 LacksFlaw MarkInside e bytes = holds_mark_in e bytes ≡ false
+LacksFlaw Misread e bytes = is_misread_line bytes ≡ false
 LacksFlaw NonAscii e bytes = (¬ IsWellFormedIn e bytes) ⊎ TellsNonAscii e bytes false
 
 -- ---- of a body
@@ -133,6 +143,7 @@ is_sought IllFormed e source = true
 is_sought NonAscii e source = true
 is_sought (Byte byte) e source = is_windows_1252 (byte_order_mark e source).encoding
 is_sought MarkInside e source = true
+is_sought Misread e source = is_windows_1252 (byte_order_mark e source).encoding
 is_sought Zero e source = is_utf_8 (byte_order_mark e source).encoding && not (starts_with_bom source)
 
 -- These are the numbers of the lines of a source that have this flaw, if it is sought.

@@ -302,6 +302,7 @@ impl fmt::Display for SystemError<'_> {
 }
 
 // Prints the words of an error, and leaves out the number that comes after them.
+#[derive(Drop)]
 struct Words<'a, W> {
     f: &'a mut fmt::Formatter<W>,
     has_some: bool,

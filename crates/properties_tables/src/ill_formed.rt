@@ -1,16 +1,17 @@
 // The lines of a source whose bytes are not those of a text, or not those of a text in ASCII.
 
-ghost use Rattle.std.specs.Prelude.{◌≡◌, false};
+ghost use Rattle.std.specs.Prelude.{◌≡◌, false, true};
 ghost use Rattle.properties_format.specs.Utf16.{is_high, is_low};
 ghost use Rattle.properties_text.specs.Encoding.{encoding_of};
 ghost use Rattle.properties_lines.specs.Scanner.{raw_line_bytes};
 ghost use Rattle.properties_tables.specs.Lines as spec;
 ghost use Rattle.properties_tables.specs.Lines.{FindsFlawed, IsFirstFlawed, IsFirstUtf8, starts_with_bom, starts_with_utf_32_mark};
-ghost use Rattle.properties_tables.specs.Private.Flawed.{are_ascii, are_paired, holds_mark_unit, is_ascii, is_flawed, is_well_formed, unit_at, FindsFlawedLine, HasLinesOf, IsFoundLine, IsScanning};
+ghost use Rattle.properties_tables.specs.Private.Flawed.{are_ascii, are_paired, holds_mark_unit, is_ascii, is_flawed, is_of_windows_1252, is_well_formed, unit_at, FindsFlawedLine, HasLinesOf, IsFoundLine, IsScanning};
 ghost use Rattle.properties_tables.specs.declared.ill_formed.Flaw.TheVariants.{Byte, IllFormed, MarkInside, NonAscii, Zero};
 
 use java_properties::{Encoding, PropertiesError};
 use memchr::memchr;
+use properties_lines::continuation::is_comment;
 use properties_lines::scanner::{RawLine, Scan, Scanner};
 use properties_text::encoding::byte_order_mark::encoding_in_force;
 use properties_text::encoding::well_formed_length;
@@ -30,6 +31,9 @@ pub enum Flaw {
     Byte(u8),
     /// They hold U+FEFF, which is a byte order mark only at the front of a source.
     MarkInside,
+    /// They are no comment line, and ISO 8859-1 reads one of them as another character than windows-1252. It is sought
+    /// only if windows-1252 is in force.
+    Misread,
 }
 
 /// Returns the numbers of the natural lines that are ill-formed in the encoding in force, in order. Fails only if
@@ -114,8 +118,9 @@ fn body_to_search(source: &[u8], encoding: Encoding, flaw: Flaw) -> (Encoding, &
         Flaw::IllFormed => body_to_decode(source, encoding),
         Flaw::Zero => body_with_zeros(source, encoding),
         Flaw::NonAscii => whole_body(source, encoding),
-        Flaw::Byte(byte) => body_in_windows_1252(source, encoding, byte),
+        Flaw::Byte(_) => body_in_windows_1252(source, encoding, flaw),
         Flaw::MarkInside => body_with_marks(source, encoding),
+        Flaw::Misread => body_in_windows_1252(source, encoding, flaw),
     }
 }
 
@@ -148,8 +153,9 @@ fn body_with_zeros(source: &[u8], encoding: Encoding) -> (Encoding, &[u8])
     (in_force, body)
 }
 
-fn body_in_windows_1252(source: &[u8], encoding: Encoding, byte: u8) -> (Encoding, &[u8])
-    ensures { HasLinesOf (Byte byte) (encoding_of encoding) source.now (encoding_of result.0) result.1.now }
+fn body_in_windows_1252(source: &[u8], encoding: Encoding, flaw: Flaw) -> (Encoding, &[u8])
+    requires { is_of_windows_1252 flaw ≡ true }
+    ensures { HasLinesOf flaw (encoding_of encoding) source.now (encoding_of result.0) result.1.now }
 {
     let (in_force, start) = encoding_in_force(source, encoding);
     match in_force {
@@ -206,6 +212,7 @@ fn has_flaw(encoding: Encoding, body: &[u8], line: &RawLine, flaw: Flaw) -> bool
         Flaw::Zero => holds_zero(&body[line.start..line.end]),
         Flaw::Byte(byte) => holds(&body[line.start..line.end], byte),
         Flaw::MarkInside => holds_mark_in(encoding, &body[line.start..line.end]),
+        Flaw::Misread => is_misread(&body[line.start..line.end]),
         Flaw::NonAscii => {
             !is_ascii(encoding, body, line) && is_well_formed(encoding, body, line)
         }
@@ -240,6 +247,27 @@ fn holds_zero(bytes: &[u8]) -> bool
     ensures { result ≡ spec.holds_zero bytes.now }
 {
     holds(bytes, 0)
+}
+
+// Returns whether a line is no comment line, and has a byte that ISO 8859-1 reads otherwise.
+fn is_misread(line: &[u8]) -> bool
+    ensures { result ≡ spec.is_misread_line line.now }
+{
+    if is_comment(line) {
+        return false;
+    }
+    for byte in line {
+        if is_read_otherwise(*byte) {
+            return true;
+        }
+    }
+    false
+}
+
+fn is_read_otherwise(byte: u8) -> bool
+    ensures { result ≡ spec.is_read_otherwise byte }
+{
+    byte >= 0x80 && byte <= 0x9f && !matches!(byte, 0x81 | 0x8d | 0x8f | 0x90 | 0x9d)
 }
 
 /// Returns whether this byte is among some.

@@ -9,9 +9,9 @@ use Rattle.properties_lines.specs.Private.HeldLines.{IsInBody, held_lines_left}
 use Rattle.properties_lines.specs.Scanner.{HasRightFlags, raw_line_bytes}
 use Rattle.properties_lines.specs.declared.scanner.RawLine.{RawLine}
 use Rattle.properties_lines.specs.declared.scanner.Scanner.{Scanner}
-use Rattle.properties_tables.specs.Lines.{holds_byte, holds_mark_in, holds_non_ascii, holds_zero, AreFlawedIn, HasFlawed}
+use Rattle.properties_tables.specs.Lines.{holds_byte, holds_mark_in, holds_non_ascii, holds_zero, is_misread_line, AreFlawedIn, HasFlawed}
 use Rattle.properties_tables.specs.declared.ill_formed.Flaw.{Flaw}
-use Rattle.properties_tables.specs.declared.ill_formed.Flaw.TheVariants.{IllFormed, Zero, NonAscii, Byte, MarkInside}
+use Rattle.properties_tables.specs.declared.ill_formed.Flaw.TheVariants.{IllFormed, Zero, NonAscii, Byte, MarkInside, Misread}
 
 -- ---- the bytes of a line
 
@@ -58,7 +58,14 @@ is_flawed IllFormed e bytes = not (is_well_formed e bytes)
 is_flawed Zero e bytes = holds_zero bytes
 is_flawed (Byte byte) e bytes = holds_byte byte bytes
 is_flawed MarkInside e bytes = holds_mark_in e bytes
+is_flawed Misread e bytes = is_misread_line bytes
 is_flawed NonAscii e bytes = not (is_ascii e bytes) && is_well_formed e bytes
+
+-- whether it is a flaw in windows-1252 alone
+abbrev pub is_of_windows_1252 : Flaw → Bool
+is_of_windows_1252 (Byte byte) = true
+is_of_windows_1252 Misread = true
+is_of_windows_1252 other = false
 
 -- ---- the lines of a body
 

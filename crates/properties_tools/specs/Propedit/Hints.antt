@@ -6,11 +6,14 @@ use Rattle.std.specs.Option.{option_map}
 use Rattle.std.specs.Str.{chars}
 use Rattle.std.specs.declared.string.String.{String}
 use Rattle.counted_io.specs.Streams.{Sink}
-use Rattle.properties_format.specs.Encoding.{Encoding}
+use Rattle.properties_format.specs.Encoding.{Encoding, windows_1252}
 use Rattle.properties_text.specs.Encoding.{encoding_of}
 use Rattle.properties_tables.specs.Messages.{escaped, printed_line, HasPrintedLine}
 use Rattle.java_properties.specs.Maps.{characters}
 use Rattle.properties_changing.specs.Keys.{HoldsKey, HoldsKeys, HoldsNoKey, IsFirstAbsent}
+use Rattle.properties_tables.specs.Failures.{message}
+use Rattle.properties_tables.specs.Lines.{IsFirstFlawed}
+use Rattle.properties_tables.specs.declared.ill_formed.Flaw.TheVariants.{Misread}
 use Rattle.properties_tools.specs.Propedit.Listing.{listed_keys, AreKeysOf}
 use Rattle.properties_tools.specs.declared.propedit.request.Command.{Command}
 use Rattle.properties_tools.specs.declared.propedit.request.Command.TheVariants.{Comment, Get, ListJson, ListValues}
@@ -31,6 +34,19 @@ borrowed_bytes text = text.now
 -- the line that is printed in a terminal
 abbrev pub reading_line : List ℕ
 reading_line = printed_line (codes "propedit: reading standard input; '-f FILE' reads a file")
+
+-- the line on the first line of a source with a byte that Java reads otherwise, if it reads ISO 8859-1
+abbrev pub misread_line : List ℕ → ℕ → List ℕ
+misread_line name number = printed_line (message name (Some number)
+    (codes "has a byte that Java reads as a control character; 'propedit check -e iso-8859-1' names each"))
+
+abbrev pub PrintsMisreadIn : {W : Type 0} → Sink W → List ℕ → Option ℕ → W → W → Type 0
+PrintsMisreadIn sink name None old new = new ≡ old
+PrintsMisreadIn sink name (Some number) old new = HasPrintedLine sink old (misread_line name number) new ⊎ (new ≡ old)
+
+-- It is printed if there is such a line, and memory for it.
+abbrev pub PrintsMisread : {W : Type 0} → Sink W → List ℕ → List ℕ → W → W → Type 0
+PrintsMisread sink name source old new = (first : Option ℕ) × IsFirstFlawed Misread windows_1252 source first × PrintsMisreadIn sink name first old new
 
 abbrev pub without_first : {X : Type 0} → List X → List X
 without_first [] = []

@@ -126,7 +126,7 @@ change_by asked list = change.Edits (record { list = list; ascii_only = asked.as
 
 -- a change that goes there
 abbrev pub sent_to : Destination → Asked → Change → Merged
-sent_to (destination.Printed source) e change = outcome.Printed (record { encoding = e; source = source; command = command.Change change; note = None })
+sent_to (destination.Printed source) e change = outcome.Printed (record { encoding = e; latin_1 = false; source = source; command = command.Change change; note = None })
 sent_to (destination.InPlace path missing verbose) e change =
     outcome.InPlace (record { path = path; encoding = e; change = change; missing = missing; verbose = verbose })
 

@@ -8,7 +8,7 @@ ghost use Rattle.java_properties.specs.Maps.{characters};
 ghost use Rattle.properties_text.specs.Encoding.{encoding_of};
 ghost use Rattle.properties_tables.specs.Messages.{HasPrintedLine};
 ghost use Rattle.properties_tools.specs.Private.Hinting.{FindsFileHint, FindsHint, FindsPrefix, TellsDoubt};
-ghost use Rattle.properties_tools.specs.Propedit.Hints.{borrowed_bytes, hint_bytes, key_line, possible_files, prefix_hint, prefix_line, prefix_of, reading_line, refused_file, without_first, IsNoteOf, PrintsHint};
+ghost use Rattle.properties_tools.specs.Propedit.Hints.{borrowed_bytes, hint_bytes, key_line, misread_line, possible_files, prefix_hint, prefix_line, prefix_of, reading_line, refused_file, without_first, IsNoteOf, PrintsHint, PrintsMisread};
 
 use crate::propedit::list::list;
 use crate::propedit::request::{Command, Doubt, Job, Note, Source, Terminator};
@@ -16,11 +16,15 @@ use counted_io::CountedWrite;
 use java_properties::Encoding;
 use properties_changing::change::first_absent;
 use properties_tables::error::Failure;
+use properties_tables::ill_formed::{Flaw, first_flawed_line};
 use properties_tables::messages::{Escaped, print_line};
 use std::alloc::{AllocError, Global};
 use std::slice;
 
 const IS_A_FILE: &str = "a file is named by -f";
+
+const IS_MISREAD: &str =
+    "has a byte that Java reads as a control character; 'propedit check -e iso-8859-1' names each";
 
 const READING: &str = "propedit: reading standard input; '-f FILE' reads a file\n";
 
@@ -92,6 +96,31 @@ pub fn print_reading<E: CountedWrite>(errors: &mut E)
     ensures same_sink { IsSameSink E.CountedWrite errors.old errors.new }
 {
     print_line(errors, READING);
+}
+
+/// Prints on `errors` the first line with a byte that Java reads as a control character, if it reads the source as ISO
+/// 8859-1, and windows-1252 doesn't: if there is one that is no comment line, and memory for the message. What can't be
+/// printed is dropped.
+///
+/// ```text
+/// print_misread(alloc, &mut errors, "a.properties", b"a=5 \x80"); // They name line 1.
+/// ```
+pub fn print_misread<E: CountedWrite>(alloc: Global, errors: &mut E, name: &str, source: &[u8])
+    ensures prints { PrintsMisread E.CountedWrite name.now source.now errors.old errors.new }
+    ensures same_sink { IsSameSink E.CountedWrite errors.old errors.new }
+{
+    if let Some(number) = first_flawed_line(source, Encoding::WINDOWS_1252, Flaw::Misread)
+        && let Ok(line) = misread_line(alloc, name, number)
+    {
+        print_line(errors, line.as_str());
+    }
+}
+
+fn misread_line(alloc: Global, name: &str, number: usize) -> Result<String, AllocError>
+    ensures { IfOk result (λ line. string_bytes line ≡ misread_line name.now number) }
+{
+    let name = Escaped(name);
+    format!(in alloc; "propedit: {name}:{number}: {IS_MISREAD}\n")
 }
 
 /// Returns the line beside an answer with this status: that of the job's note, if the source bears it out. Or it says

@@ -86,6 +86,7 @@ fn with_edits(asked: Merge, list: Vec<Edit>) -> Merged
     match destination {
         Destination::Printed(source) => Merged::Printed(Job {
             encoding,
+            latin_1: false,
             source,
             command: Command::Change(change),
             note: None,

@@ -28,6 +28,8 @@ pub enum Request {
 pub struct Job {
     /// The encoding of the source. A byte order mark overrides it.
     pub encoding: Encoding,
+    /// Whether pairs are printed of a source that Java reads as ISO 8859-1.
+    pub latin_1: bool,
     /// Where its source is read from.
     pub source: Source,
     /// What is to be done.
@@ -65,6 +67,8 @@ pub struct CheckedBase {
 pub struct Comparison {
     /// The encoding of each. A byte order mark overrides it.
     pub encoding: Encoding,
+    /// Whether Java reads each as ISO 8859-1.
+    pub latin_1: bool,
     /// Where the first is read from.
     pub old: Source,
     /// Where the second is read from.
@@ -80,6 +84,8 @@ pub struct Merge {
     pub pairs: Source,
     /// How they are written there.
     pub form: Form,
+    /// Whether a file that looks like one in another format is refused.
+    pub is_judged: bool,
     /// The encoding of both. A byte order mark overrides it.
     pub encoding: Encoding,
     /// How the pairs are set. There are no edits yet.

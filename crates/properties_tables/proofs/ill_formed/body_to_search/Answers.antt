@@ -9,8 +9,5 @@ returns-in-Zero c = rw c.in-Zero.is c.body_with_zeros.ensures
 pub returns-in-NonAscii : goal.returns-in-NonAscii
 returns-in-NonAscii c = rw c.in-NonAscii.is c.whole_body.ensures
 
-pub returns-in-Byte : goal.returns-in-Byte
-returns-in-Byte c = rw c.in-Byte.is c.body_in_windows_1252.ensures
-
 pub returns-in-MarkInside : goal.returns-in-MarkInside
 returns-in-MarkInside c = rw c.in-MarkInside.is c.body_with_marks.ensures
