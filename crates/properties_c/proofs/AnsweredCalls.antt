@@ -4,13 +4,10 @@ use Rattle.std.specs.Str.{IsUtf8, chars}
 use Rattle.std.proofs.lemmas.Str.{IsUtf8-nil}
 use Rattle.properties_format.specs.Encoding.{Encoding}
 use Rattle.properties_text.specs.Encoding.{encoding_of}
-use Rattle.properties_c.specs.Crossing.{Crossing, RefusesCall}
+use Rattle.properties_c.specs.{Crossing.Crossing, Crossing.RefusesCall, declared.encoding.Flags.Flags, declared.key_call.AskedKey.AskedKey}
+use Rattle.properties_c.specs.{declared.key_call.KeyCall.KeyCall, declared.key_call.Refusal.Refusal}
 use Rattle.properties_c.specs.Inputs.{InEncoding, WithFlags, WithSource, WithText}
 use Rattle.properties_c.specs.Private.KeyCalls.{refusal_line, refusal_status, CrossesKeyCall, IsAsked, IsRefused}
-use Rattle.properties_c.specs.declared.encoding.Flags.{Flags}
-use Rattle.properties_c.specs.declared.key_call.AskedKey.{AskedKey}
-use Rattle.properties_c.specs.declared.key_call.KeyCall.{KeyCall}
-use Rattle.properties_c.specs.declared.key_call.Refusal.{Refusal}
 
 module _ (taken : Flags) (call : KeyCall) (x : Crossing) where
   -- with two texts

@@ -1,22 +1,15 @@
 -- The items of a source, packed logical line after logical line.
 use Rattle.std.proofs.Common.{◌≡◌, ◌≢◌, ℕ, List, [], ◌∷◌, ◌++◌, ap, sym, ◌∙◌, subst, refl, inl, inr, false, true, append_assoc, append-nil}
 use Rattle.std.specs.Prelude.{◌⊎◌, Result, Ok, Err}
-use Rattle.std.specs.Borrow.{Bor}
-use Rattle.std.specs.Global.{Vec}
-use Rattle.std.specs.Str.{chars}
-use Rattle.properties_format.specs.Encoding.{Encoding}
+use Rattle.std.specs.{Borrow.Bor, Global.Vec, Str.chars}
+use Rattle.properties_format.specs.{Encoding.Encoding, ItemsToCome.ReaderState, ItemsToCome.start, Computed.ItemsToCome.natural_to_come}
+use Rattle.properties_format.specs.{Computed.Lines.groups_of, Split.Logical}
 use Rattle.properties_format.specs.Escapes.{Malformed, not_enough_digits, not_hex, invalid_character}
 use Rattle.properties_format.specs.Items.{Entry, Outcome, ignored, given, broken, item, malformed, AreEntries, IsFollowed, IsOutcome, IsItems}
-use Rattle.properties_format.specs.ItemsToCome.{ReaderState, start}
 use Rattle.properties_format.specs.Lines.{Line, HasGroups, end, first_number, joined, line_endings, lines_in}
-use Rattle.properties_format.specs.Computed.ItemsToCome.{natural_to_come}
-use Rattle.properties_format.specs.Computed.Lines.{groups_of}
-use Rattle.properties_format.specs.Split.{Logical}
 use Rattle.properties_format.proofs.Items.Unique.{items_of-only}
-use Rattle.properties_lines.specs.LineReader.{Passes}
-use Rattle.properties_lines.specs.LineJoiner.{JoinsNext, LineState}
-use Rattle.properties_items.specs.Errors.{kind_of, malformed_kind}
-use Rattle.properties_items.specs.declared.error.PropertiesError.{PropertiesError}
+use Rattle.properties_lines.specs.{LineReader.Passes, LineJoiner.JoinsNext, LineJoiner.LineState}
+use Rattle.properties_items.specs.{Errors.kind_of, Errors.malformed_kind, declared.error.PropertiesError.PropertiesError}
 use Rattle.java_properties.specs.Private.LineByLine.{Collected}
 use Rattle.java_properties.proofs.MalformedEscapes.{collected-start, collected-next, collected-on, collected-lines}
 use Rattle.java_properties.proofs.Readings.{reading-of}
@@ -25,11 +18,9 @@ use Rattle.properties_c.specs.Crossing.{Crossing, Crosses, Delivers, RefusesCall
 use Rattle.properties_c.specs.Items.{AreAsked, AreAskedEntries, GivesAsked, GivesGroups, GivesItems, GivesAskedLine, GivesPart, GivesSource}
 use Rattle.properties_c.specs.Packed.{item_record, packed, packed_items, reading_line, reading_status}
 use Rattle.properties_c.specs.Private.Results.{AppendsOutcome, HasItems, PacksGroups, PushesLine}
-use Rattle.properties_c.specs.Statuses.{line_or_none, malformed_status, status_of_kind}
-use Rattle.properties_c.specs.declared.asked.Asked.{Asked}
-use Rattle.properties_c.specs.declared.asked.Texts.TheVariants.{Read}
-use Rattle.properties_c.specs.declared.items.PackedItems.{PackedItems}
-use Rattle.properties_c.specs.declared.status.Status.TheVariants.{Done, NoMemory}
+use Rattle.properties_c.specs.{Statuses.line_or_none, Statuses.malformed_status, Statuses.status_of_kind, declared.asked.Asked.Asked}
+use Rattle.properties_c.specs.{declared.asked.Texts.TheVariants.Read, declared.items.PackedItems.PackedItems, declared.status.Status.TheVariants.Done}
+use Rattle.properties_c.specs.declared.status.Status.TheVariants.{NoMemory}
 
 -- ---- where all is read
 

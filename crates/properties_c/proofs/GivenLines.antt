@@ -2,30 +2,20 @@
 use Rattle.std.proofs.Common.{◌≡◌, ℕ, false, true, List, ◌∷◌, [], ◌++◌, refl, sym, ap, ap₂, ◌∙◌, subst, inl, inr, append_assoc, append-nil}
 use Rattle.std.specs.Prelude.{◌⊎◌, ◌&&◌, Bool, Option, Some, None, Result, Ok, Err}
 use Rattle.std.specs.Str.{chars}
-use Rattle.properties_format.specs.Escapes.{Malformed, means}
-use Rattle.properties_format.specs.Split.{Logical, blank, IsSplit}
+use Rattle.properties_format.specs.{Escapes.Malformed, Escapes.means, Split.Logical, Split.blank, Split.IsSplit, Computed.Escapes.meaning_of}
 use Rattle.properties_format.specs.Items.{Content, Outcome, ignored, given, broken, IsOutcome}
-use Rattle.properties_format.specs.Computed.Escapes.{meaning_of}
 use Rattle.properties_format.specs.Computed.Items.{comment_outcome, pair_outcome, split_outcome, outcome_of}
-use Rattle.properties_format.proofs.Escapes.Laws.{meaning_of-plain}
-use Rattle.properties_format.proofs.Items.Unique.{outcome_of-meets}
-use Rattle.properties_format.proofs.Split.Unique.{split_of-only}
-use Rattle.properties_text.specs.Escaping.{holds_backslash}
-use Rattle.properties_text.specs.Parsing.{in_characters, spanned}
-use Rattle.properties_text.specs.declared.parse.ParsedSpans.{ParsedSpans}
+use Rattle.properties_format.proofs.{Escapes.Laws.meaning_of-plain, Items.Unique.outcome_of-meets, Split.Unique.split_of-only}
+use Rattle.properties_text.specs.{Escaping.holds_backslash, Parsing.in_characters, Parsing.spanned, declared.parse.ParsedSpans.ParsedSpans}
 use Rattle.properties_text.specs.declared.parse.ParsedSpans.TheVariants as spans
 use Rattle.properties_text.proofs.Texts.Resolving.{holds-part, no_backslash}
 use Rattle.properties_items.specs.BorrowedItems.{IsFoundIn, borrowed_content, borrowed_entry, found_content, found_entry}
-use Rattle.properties_items.specs.declared.borrowed.LineRef.{LineRef}
-use Rattle.properties_items.specs.declared.error.PropertiesError.{PropertiesError}
-use Rattle.properties_items.specs.declared.found.Found.{Found}
+use Rattle.properties_items.specs.{declared.borrowed.LineRef.LineRef, declared.error.PropertiesError.PropertiesError, declared.found.Found.Found}
 use Rattle.properties_items.proofs.FoundItems.{found-item}
 use Rattle.properties_c.specs.Items.{standing, asked_texts, IsShown, IsShownAs, TakesOutcome, shown}
-use Rattle.properties_c.specs.Packed.{packed}
+use Rattle.properties_c.specs.{Packed.packed, declared.asked.Asked.Asked, declared.asked.Texts.Texts, declared.asked.Texts.TheVariants.PassedOver}
+use Rattle.properties_c.specs.{declared.asked.Texts.TheVariants.Raw, declared.asked.Texts.TheVariants.Read}
 use Rattle.properties_c.specs.Private.Results.{PushesLine, PushesRead, Resolves, passes, reads, standing_record}
-use Rattle.properties_c.specs.declared.asked.Asked.{Asked}
-use Rattle.properties_c.specs.declared.asked.Texts.{Texts}
-use Rattle.properties_c.specs.declared.asked.Texts.TheVariants.{PassedOver, Raw, Read}
 
 -- ---- how it is read
 

@@ -1,33 +1,19 @@
 -- The items of a source in parts: those of its front come first, whatever follows.
 use Rattle.std.proofs.Common.{◌≡◌, ◌≢◌, ◌⊎◌, ℕ, ◌+◌, List, [], ◌∷◌, ◌++◌, refl, ap, ap₂, sym, subst, ◌∙◌, inl, inr, append-nil, arith}
 use Rattle.std.specs.Prelude.{map}
-use Rattle.properties_format.specs.Encoding.{Encoding, byte_order_mark}
+use Rattle.properties_format.specs.{Encoding.Encoding, Encoding.byte_order_mark, Split.Logical, Split.blank, Split.IsSplit, Computed.Encoding.decoded_of}
+use Rattle.properties_format.specs.{Computed.Lines.groups_in, Computed.Lines.groups_of, Computed.Lines.lines_of, Computed.Split.split_of, Text.piece_characters}
 use Rattle.properties_format.specs.Items.{Entry, Outcome, ignored, given, broken, item, malformed, read_fault}
 use Rattle.properties_format.specs.Lines.{Line, HasGroups, end, joined, line_endings, numbered_lines}
-use Rattle.properties_format.specs.Split.{Logical, blank, IsSplit}
-use Rattle.properties_format.specs.Computed.Encoding.{decoded_of}
-use Rattle.properties_format.specs.Computed.Lines.{groups_in, groups_of, lines_of}
-use Rattle.properties_format.specs.Computed.Split.{split_of}
-use Rattle.properties_format.specs.Text.{piece_characters}
-use Rattle.properties_format.proofs.Encodings.Pieces.{decoded_of-meets, decoded_of-only, pieces_of-nil}
-use Rattle.properties_format.proofs.Groups.Meets.{groups_of-meets}
-use Rattle.properties_format.proofs.Groups.Only.{groups_of-only}
-use Rattle.properties_format.proofs.Groups.Steps.{groups_of-closed}
-use Rattle.properties_format.proofs.Lines.Meets.{lines_of-meets}
-use Rattle.properties_format.proofs.Lines.Only.{lines_of-only}
-use Rattle.properties_format.proofs.Split.Unique.{split_of-only}
-use Rattle.properties_c.specs.Crossing.{Crossing, Delivers}
+use Rattle.properties_format.proofs.{Encodings.Pieces.decoded_of-meets, Encodings.Pieces.decoded_of-only, Encodings.Pieces.pieces_of-nil}
+use Rattle.properties_format.proofs.{Groups.Meets.groups_of-meets, Groups.Only.groups_of-only, Groups.Steps.groups_of-closed, Lines.Meets.lines_of-meets}
+use Rattle.properties_format.proofs.{Lines.Only.lines_of-only, Split.Unique.split_of-only}
+use Rattle.properties_c.specs.{Crossing.Crossing, Crossing.Delivers, Private.Results.HasFront, Private.Results.HasItems, declared.asked.Asked.Asked}
+use Rattle.properties_c.specs.{declared.items.PackedItems.PackedItems, declared.status.Status.Status, declared.status.Status.TheVariants.Done}
 use Rattle.properties_c.specs.Items.{AreAsked, AreAskedEntries, GivesFront, GivesAskedLine}
 use Rattle.properties_c.specs.Packed.{end_bytes, end_record, packed, packed_items, reading_status}
 use Rattle.properties_c.specs.Parts.{IsDivided, IsLineEnd, followed_by, later_entry}
-use Rattle.properties_c.specs.Private.Results.{HasFront, HasItems}
-use Rattle.properties_c.specs.declared.asked.Asked.{Asked}
-use Rattle.properties_c.specs.declared.items.PackedItems.{PackedItems}
-use Rattle.properties_c.specs.declared.status.Status.{Status}
-use Rattle.properties_c.specs.declared.status.Status.TheVariants.{Done}
-use Rattle.properties_c.proofs.GivenItems.{asked-of}
-use Rattle.properties_c.proofs.PartedBytes.{two-parts}
-use Rattle.properties_c.proofs.PartedTexts.{joined-later}
+use Rattle.properties_c.proofs.{GivenItems.asked-of, PartedBytes.two-parts, PartedTexts.joined-later}
 use Rattle.properties_c.proofs.PartedTexts as lines
 
 -- ---- an empty line

@@ -1,11 +1,9 @@
 -- The first line of a source that isn't text.
 use Rattle.std.proofs.Common.{ℕ, List, true, refl, inl, inr}
 use Rattle.properties_format.specs.Encoding.{Encoding}
-use Rattle.properties_tables.specs.Sources.{HasUnsoundBytes}
-use Rattle.properties_tables.specs.declared.error.Failure.{Failure}
+use Rattle.properties_tables.specs.{Sources.HasUnsoundBytes, declared.error.Failure.Failure}
 use Rattle.properties_tables.specs.declared.error.Failure.TheVariants.{Utf32Mark, HoldsZero, NotUtf8, NotUtf8ByMark, NotUtf16}
-use Rattle.properties_c.specs.Inputs.{TellsUnsound}
-use Rattle.properties_c.specs.Private.Results.{unsound_line}
+use Rattle.properties_c.specs.{Inputs.TellsUnsound, Private.Results.unsound_line}
 
 pub unsound-told : (e : Encoding) (source : List ℕ) (failure : Failure) → HasUnsoundBytes e source failure
     → TellsUnsound true e source (unsound_line failure)

@@ -1,10 +1,7 @@
 -- The lines of a comment.
 use Rattle.std.proofs.Common.{◌≡◌, ◌∙◌, ◌<◌, ◌+◌, ℕ, List, [], ◌∷◌, ◌++◌, length, drop, get_or, map, ap, sym, append_assoc}
 use Rattle.std.proofs.lemmas.List.{drop_more}
-use Rattle.std.specs.Global.{Global}
-use Rattle.std.specs.List.{flat_map}
-use Rattle.std.specs.Prelude.{string_bytes}
-use Rattle.std.specs.declared.string.String.{String}
+use Rattle.std.specs.{Global.Global, List.flat_map, Prelude.string_bytes, declared.string.String.String}
 use Rattle.properties_format.specs.Text.{line_feed}
 use Rattle.properties_items.specs.Texts.{characters}
 use Rattle.properties_c.specs.Keys.{text_line}

@@ -2,14 +2,12 @@
 use Rattle.std.proofs.Common.{◌≡◌, ℕ, ◌-◌, ◌<◌, List, [], ◌∷◌, ◌++◌, length, take, drop, refl, ap, sym, ◌∙◌, arith, append_assoc}
 use Rattle.std.proofs.lemmas.List.{append-nil, drop_at, map-append, take_at}
 use Rattle.std.proofs.lemmas.List.Concat.{flat_map-append}
-use Rattle.properties_renaming.specs.KeyEdits.{key_edit_in, key_edits_in}
-use Rattle.properties_renaming.specs.declared.key_edits.KeyEdit.{KeyEdit}
+use Rattle.properties_renaming.specs.{KeyEdits.key_edit_in, KeyEdits.key_edits_in, declared.key_edits.KeyEdit.KeyEdit}
 use Rattle.properties_c.specs.Packed.{Meaning, edits, AreMeant, BeginsList, Record, IsSized, packed}
 use Rattle.properties_c.specs.Private.Lists.{header_bytes, header_of, Splits, IsFirstThing, RefusesFirst, RefusesRecord}
-use Rattle.properties_c.specs.declared.status.Status.{Status}
-use Rattle.properties_c.specs.declared.status.Status.TheVariants.{NoMemory, NotUtf8, BadList}
-use Rattle.properties_c.proofs.Packing.{packed-header, sizes}
-use Rattle.properties_c.proofs.Splitting.{packed-only}
+use Rattle.properties_c.specs.{declared.status.Status.Status, declared.status.Status.TheVariants.NoMemory, declared.status.Status.TheVariants.NotUtf8}
+use Rattle.properties_c.specs.declared.status.Status.TheVariants.{BadList}
+use Rattle.properties_c.proofs.{Packing.packed-header, Packing.sizes, Splitting.packed-only}
 
 -- The list is refused for what its first record is refused for.
 pub first-refused : {A : Type 0} (m : Meaning A) (list : List ℕ) (r : Record) (rest : List ℕ) (status : Status)

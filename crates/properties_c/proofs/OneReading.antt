@@ -3,12 +3,10 @@ use Rattle.std.proofs.Common.{◌≡◌, ◌<◌, ℕ, List, [], ◌∷◌, ◌+
 use Rattle.std.proofs.lemmas.List.{nil_from_length}
 use Rattle.properties_format.specs.Edits.{Edit, put, remove, set_value}
 use Rattle.properties_format.specs.Items.{Content, comment, pair}
-use Rattle.properties_renaming.specs.Commenting.{new_text}
+use Rattle.properties_renaming.specs.{Commenting.new_text, Renames.new_name}
 use Rattle.properties_renaming.specs.KeyEdits.{KeyEdit, edit, rename, remove_with_comment, set_comment}
-use Rattle.properties_renaming.specs.Renames.{new_name}
 use Rattle.properties_c.specs.Packed.{Meaning, MeansEdit, MeansLine, AreMeant, BeginsList, IsPackedList, Record, packed_all}
-use Rattle.properties_c.proofs.Packing.{length-packed}
-use Rattle.properties_c.proofs.Splitting.{packed-only}
+use Rattle.properties_c.proofs.{Packing.length-packed, Splitting.packed-only}
 
 pair-one : (r : Record) (a b : Edit) → MeansEdit r (edit a) → MeansEdit r (edit b) → a ≡ b
 pair-one r (put k v) (put l w) h g = cc

@@ -1,5 +1,5 @@
 -- The groups of a source, packed one after another.
-use Rattle.std.proofs.Common.{◌≡◌, ℕ, List, [], ◌∷◌, ◌++◌, ap, ap₂, sym, ◌∙◌, subst, refl, true, false, append_assoc, append-nil}
+use Rattle.std.proofs.Common.{◌≡◌, ℕ, List, [], ◌∷◌, ◌++◌, ap, sym, ◌∙◌, subst, refl, true, false, append_assoc, append-nil}
 use Rattle.std.specs.Prelude.{Option, Some, None, Ok, encode_utf8_all}
 use Rattle.std.specs.Str.{IsUtf8, chars}
 use Rattle.std.proofs.lemmas.Str.{encodes-chars}
@@ -9,12 +9,10 @@ use Rattle.properties_format.proofs.Split.Laws.{split-unique}
 use Rattle.properties_editing.specs.Views.{OpenView, GivesNext, TakesNext, IsGroup, IsRawKey, IsRawValue, group_kind, viewed_line, text_or_value}
 use Rattle.properties_editing.specs.declared.group.GroupKind.TheVariants as group
 use Rattle.properties_editing.specs.declared.group.ViewedGroup.{ViewedGroup}
-use Rattle.properties_c.specs.Items.{ArePacked, IsPackedGroup, IsShown, key_in, kind_number, standing, asked_texts}
+use Rattle.properties_c.specs.Items.{AreNumbersOf, ArePacked, IsPackedGroup, IsShown, key_in, kind_number, standing, asked_texts}
 use Rattle.properties_c.specs.Items as given
-use Rattle.properties_c.specs.Private.Results.{AreNumbersOf, PushesGroup, is_read, reads}
-use Rattle.properties_c.specs.declared.asked.Asked.{Asked}
-use Rattle.properties_c.specs.declared.asked.Texts.TheVariants.{Read}
-use Rattle.properties_c.specs.Packed.{Record, spanned}
+use Rattle.properties_c.specs.{Private.Results.PushesGroup, Private.Results.is_read, Private.Results.reads, declared.asked.Asked.Asked}
+use Rattle.properties_c.specs.{declared.asked.Texts.TheVariants.Read, Packed.Record, Packed.spanned}
 use Rattle.properties_c.proofs.GivenLines.{is-read}
 
 -- ---- group after group
@@ -98,17 +96,5 @@ pub group-packed : (a : Asked) (v : OpenView) (group : ViewedGroup) (numbers : L
     → AreNumbersOf v group numbers → IsShown a (viewed_line v) shows
     → r ≡ record { kind = kind_number group.kind; line = group.line_number; key = encode_utf8_all (key_in shows); value = encode_utf8_all (given.outcome_value shows) }
     → IsPackedGroup a v (spanned r numbers)
-group-packed a v group numbers r shows g (places, are, ordered, (flaw, tells, (ill_formed, told, same))) s is = record {
-  group = group;
-  is_group = g;
-  places = places;
-  are_places = are;
-  ordered = ordered;
-  flaw = flaw;
-  tells_flaw = tells;
-  ill_formed = ill_formed;
-  tells_ill_formed = told;
-  shows = shows;
-  is_shown = s;
-  is = ap₂ spanned is same;
-}
+group-packed a v group numbers r shows g are s is =
+    record { group = group; is_group = g; numbers = numbers; are_numbers = are; shows = shows; is_shown = s; is = ap (λ w. spanned w numbers) is }

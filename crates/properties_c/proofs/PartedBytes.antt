@@ -5,17 +5,13 @@ use Rattle.properties_editing.proofs.LastPairs.{cr-last}
 use Rattle.properties_format.specs.Text.{line_feed, carriage_return, backslash, is_line_ending, line_ending_text, Piece, piece_characters}
 use Rattle.properties_format.specs.Encoding.{Encoding, windows_1252, utf_8, utf_16le, utf_16be, IsPieces, IsAligned, ascii_bytes, byte_order_mark, begins_like_bom}
 use Rattle.properties_format.specs.Lines.{Ended, put_together, is_open, without_last}
-use Rattle.properties_format.specs.Computed.Encoding.{pieces_of, decoded_of}
-use Rattle.properties_format.specs.Computed.Lines.{ends_in_cr, lines_of}
+use Rattle.properties_format.specs.{Computed.Encoding.pieces_of, Computed.Encoding.decoded_of, Computed.Lines.ends_in_cr, Computed.Lines.lines_of}
 use Rattle.properties_c.specs.Parts.{EndsIn, IsLineEnd}
-use Rattle.properties_format.proofs.Encodings.ByteOrderMarks.{followed, byte_order_mark-append, byte_order_mark-none}
-use Rattle.properties_format.proofs.Encodings.Characters.{pieces_of-ascii, piece-ascii}
-use Rattle.properties_format.proofs.Encodings.Cuts.{characters-append, pieces-cut, pieces_of-cut_ascii}
-use Rattle.properties_format.proofs.Encodings.Pieces.{pieces_of-meets}
-use Rattle.properties_format.proofs.Groups.Open.{open-ends}
-use Rattle.properties_format.proofs.Lines.Meets.{lines_of-meets}
+use Rattle.properties_format.proofs.{Encodings.ByteOrderMarks.followed, Encodings.ByteOrderMarks.byte_order_mark-append}
+use Rattle.properties_format.proofs.{Encodings.ByteOrderMarks.byte_order_mark-none, Encodings.Characters.pieces_of-ascii, Encodings.Characters.piece-ascii}
+use Rattle.properties_format.proofs.{Encodings.Cuts.characters-append, Encodings.Cuts.pieces-cut, Encodings.Cuts.pieces_of-cut_ascii}
+use Rattle.properties_format.proofs.{Encodings.Pieces.pieces_of-meets, Groups.Open.open-ends, Lines.Meets.lines_of-meets, ReadBack.Unmarked.byte_order_mark-cut}
 use Rattle.properties_c.proofs.PartedTexts.{ArePartGroups, part-groups}
-use Rattle.properties_format.proofs.ReadBack.Unmarked.{byte_order_mark-cut}
 
 -- ---- the byte order mark
 

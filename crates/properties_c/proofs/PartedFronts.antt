@@ -1,12 +1,10 @@
 -- Where the front of a part ends, and how many line endings it has.
 use Rattle.std.proofs.Common.{◌≡◌, ◌⊎◌, ℕ, ◌+◌, ◌-◌, ◌%◌, ◌≤◌, ◌==◌, Bool, true, List, ◌++◌, length, take, drop, ap, ap₂, sym, subst, ◌∙◌, inl, inr, arith, length-append, length-drop}
 use Rattle.std.specs.Prelude.{◌&&◌, ◌||◌, not, Some}
-use Rattle.std.specs.Bool.{Decides}
-use Rattle.std.specs.List.{starts_with, ends_with}
-use Rattle.std.proofs.Math.Seq.{drop-append_seam, take-append_seam}
+use Rattle.std.specs.{Bool.Decides, List.starts_with, List.ends_with}
+use Rattle.std.proofs.{Math.Seq.drop-append_seam, Math.Seq.take-append_seam, lemmas.List.append_cancel_right, lemmas.List.drop-drop}
+use Rattle.std.proofs.{lemmas.List.take-append-drop, lemmas.Slice.Eq.slice_eq-Decides}
 use Rattle.std.proofs.lemmas.Bool.Decides.{Decides-and, Decides-at, Decides-eqb, Decides-like, Decides-not, Decides-or}
-use Rattle.std.proofs.lemmas.List.{append_cancel_right, drop-drop, take-append-drop}
-use Rattle.std.proofs.lemmas.Slice.Eq.{slice_eq-Decides}
 use Rattle.properties_format.specs.Text.{line_feed, carriage_return, backslash}
 use Rattle.properties_format.specs.Encoding.{Encoding, InForce, windows_1252, utf_8, utf_16le, utf_16be, IsAligned, ascii_bytes, byte_order_mark}
 use Rattle.properties_format.proofs.Encodings.ByteOrderMarks.{followed}

@@ -2,24 +2,18 @@
 use Rattle.std.proofs.Common.{◌≡◌, ◌≤◌, ℕ, suc, ◌+◌, ◌==◌, true, false, inl, inr, List, [], ◌∷◌, ◌++◌, length, None, refl, ap, sym, ◌∙◌, arith}
 use Rattle.std.proofs.lemmas.Bool.{cases_Bool, false_from_ne_true}
 use Rattle.memchr.specs.Find.{IsFirstByte, is_byte}
-use Rattle.properties_format.specs.Text.{carriage_return, piece_characters, line_feed}
-use Rattle.properties_format.specs.Encoding.{Encoding, InForce, byte_order_mark}
-use Rattle.properties_format.specs.ItemsToCome.{ReaderState, start}
-use Rattle.properties_format.specs.Lines.{Ended, line_endings}
-use Rattle.properties_format.specs.Computed.Body.{held_lines_of, held_of}
-use Rattle.properties_format.specs.Computed.Cut.{cut_of}
-use Rattle.properties_format.specs.Computed.Encoding.{decoded_of, pieces_of}
-use Rattle.properties_format.specs.Computed.Lines.{character_before, lines_of}
+use Rattle.properties_format.specs.{Text.carriage_return, Text.piece_characters, Text.line_feed, Encoding.Encoding, Encoding.InForce, Encoding.byte_order_mark}
+use Rattle.properties_format.specs.{ItemsToCome.ReaderState, ItemsToCome.start, Lines.Ended, Lines.line_endings, Computed.Body.held_lines_of}
+use Rattle.properties_format.specs.{Computed.Body.held_of, Computed.Cut.cut_of, Computed.Encoding.decoded_of, Computed.Encoding.pieces_of}
+use Rattle.properties_format.specs.{Computed.Lines.character_before, Computed.Lines.lines_of}
 use Rattle.properties_format.proofs.Cut.Byline.{decoded_ended, decoded_lines-cut}
 use Rattle.properties_text.specs.Encoding.{encoding_of}
 use Rattle.properties_text.specs.declared.encoding.Encoding as code
-use Rattle.properties_lines.specs.Private.HeldLines.{held_lines_left}
-use Rattle.properties_lines.specs.Scanner.{Fits, GivesScannedLine, scanner_state}
+use Rattle.properties_lines.specs.{Private.HeldLines.held_lines_left, Scanner.Fits, Scanner.GivesScannedLine, Scanner.scanner_state}
 use Rattle.properties_lines.specs.declared.scanner.Scanner.{Scanner}
 use Rattle.properties_lines.proofs.HeldLines.{body-lines_left}
 use Rattle.properties_c.specs.Private.Results.{feeds}
-use Rattle.properties_tables.specs.Private.Flawed.{IsScanning}
-use Rattle.properties_tables.specs.declared.ill_formed.Flaw.TheVariants.{NonAscii}
+use Rattle.properties_tables.specs.{Private.Flawed.IsScanning, declared.ill_formed.Flaw.TheVariants.NonAscii}
 use Rattle.properties_tables.proofs.FlawedLines.{found-scanning, lines-body, scanning-start}
 
 -- The lines before the scanner's place and those to come are the lines of the body.

@@ -1,15 +1,12 @@
 -- The lines and the groups of a text in two parts, the second of which begins with a line ending.
 use Rattle.std.proofs.Common.{arith, ◌≡◌, ℕ, suc, ◌+◌, ◌==◌, Bool, true, false, List, [], ◌∷◌, ◌++◌, length, refl, ap, ap₂, sym, ◌∙◌, inl, inr, append-nil}
 use Rattle.std.specs.Prelude.{map}
-use Rattle.std.proofs.lemmas.Bool.{cases_Bool}
-use Rattle.std.proofs.lemmas.Bool.Decides.{eqb_tells}
+use Rattle.std.proofs.{lemmas.Bool.cases_Bool, lemmas.Bool.Decides.eqb_tells}
 use Rattle.properties_format.specs.Text.{line_feed, carriage_return, is_line_ending, LineEnding, lf, cr, crlf, line_ending_text}
 use Rattle.properties_format.specs.Lines.{Ended, InputEnd, end, more, Line, is_open, joined, joined_after, line_endings, numbered, numbered_lines}
 use Rattle.properties_format.specs.Computed.Lines.{begins_with_lf, ends_in_cr, closes, groups_after, groups_of, lines_of, lines_to_come}
 use Rattle.properties_format.proofs.Groups.Steps.{closes-closed, groups_after-close, groups_after-leave, groups_of-closed}
-use Rattle.properties_format.proofs.Lines.Append.{lines_to_come-append}
-use Rattle.properties_format.proofs.Lines.Plain.{last-plain}
-use Rattle.properties_format.proofs.Lines.Steps.{lines_to_come-line, lines_to_come-no_lf}
+use Rattle.properties_format.proofs.{Lines.Append.lines_to_come-append, Lines.Plain.last-plain, Lines.Steps.lines_to_come-line, Lines.Steps.lines_to_come-no_lf}
 
 -- ---- numbers
 

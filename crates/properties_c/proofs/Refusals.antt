@@ -1,11 +1,9 @@
 -- A call that is refused because of a list.
 use Rattle.std.proofs.Common.{ℕ, List, refl, inl, inr}
 use Rattle.std.specs.Prelude.{◌⊎◌, ℤ}
-use Rattle.properties_c.specs.Crossing.{crossing, AnswersCall, RefusesCall}
-use Rattle.properties_c.specs.Packed.{Meaning, IsBadList, LacksText}
-use Rattle.properties_c.specs.Private.Lists.{RefusesList}
-use Rattle.properties_c.specs.declared.status.Status.{Status}
-use Rattle.properties_c.specs.declared.status.Status.TheVariants.{NoMemory, NotUtf8, BadList}
+use Rattle.properties_c.specs.{Crossing.crossing, Crossing.AnswersCall, Crossing.RefusesCall, Packed.Meaning, Packed.IsBadList, Packed.LacksText}
+use Rattle.properties_c.specs.{Private.Lists.RefusesList, declared.status.Status.Status, declared.status.Status.TheVariants.NoMemory}
+use Rattle.properties_c.specs.{declared.status.Status.TheVariants.NotUtf8, declared.status.Status.TheVariants.BadList}
 
 pub list-crossed : {A : Type 0} (m : Meaning A) (list : List ℕ) (status : Status) (out : List ℕ) (returned : ℤ) (count line : ℕ)
     → RefusesList m list status → AnswersCall status 0 0 returned count line

@@ -1,13 +1,10 @@
 -- What is found and read in a slice, which is read to its end and without a fault.
 use Rattle.std.proofs.Common.{◌≡◌, ℕ, List, [], ◌∷◌, ◌++◌, ap, ◌∙◌, refl}
-use Rattle.std.specs.Prelude.{if◌then◌else◌}
-use Rattle.std.specs.List.{flat_map}
+use Rattle.std.specs.{Prelude.if◌then◌else◌, List.flat_map}
 use Rattle.properties_format.specs.Escapes.{Malformed, not_enough_digits, not_hex, invalid_character}
 use Rattle.properties_format.specs.Found as format
-use Rattle.java_properties.specs.Errors.{malformed_kind}
-use Rattle.java_properties.specs.Findings.{escape_records}
-use Rattle.properties_c.specs.Packed.{escape_bytes, escape_kind, finding_bytes}
-use Rattle.properties_c.specs.Private.Results.{malformed_bytes, kind_of_finding}
+use Rattle.java_properties.specs.{Errors.malformed_kind, Findings.escape_records}
+use Rattle.properties_c.specs.{Packed.escape_bytes, Packed.escape_kind, Packed.finding_bytes, Private.Results.malformed_bytes, Private.Results.kind_of_finding}
 
 found-same : (how : Malformed) (number more : ℕ) → finding_bytes (kind_of_finding (malformed_kind how)) number more [] ≡ finding_bytes (escape_kind how) number more []
 found-same not_enough_digits number more = refl

@@ -1,11 +1,9 @@
 -- Packed bytes have one division into records.
 use Rattle.std.proofs.Common.{◌≡◌, ℕ, ◌^◌, ◌<◌, List, ◌++◌, length, take, drop, ap, sym, ◌∙◌, refl, arith, append_assoc}
 use Rattle.std.specs.Int.{w64, from_le_bytes}
-use Rattle.std.proofs.lemmas.List.{take_at, drop_at, take-append-drop}
-use Rattle.std.proofs.lemmas.Nat.{from_le_bytes-to_le_bytes_8}
+use Rattle.std.proofs.{lemmas.List.take_at, lemmas.List.drop_at, lemmas.List.take-append-drop, lemmas.Nat.from_le_bytes-to_le_bytes_8}
 use Rattle.properties_c.specs.Packed.{number_bytes, Record, packed, IsSized}
-use Rattle.properties_c.specs.Private.Lists.{header_bytes, IsSizedHeader, Splits}
-use Rattle.properties_c.specs.declared.records.Header.{Header}
+use Rattle.properties_c.specs.{Private.Lists.header_bytes, Private.Lists.IsSizedHeader, Private.Lists.Splits, declared.records.Header.Header}
 use Rattle.properties_c.proofs.Packing.{length-number_bytes}
 
 from-number_bytes : (n : ℕ) → n < 2 ^ 64 → from_le_bytes w64 (number_bytes n) ≡ n

@@ -1,12 +1,9 @@
 -- The texts of records.
 use Rattle.std.proofs.Common.{◌≡◌, ℕ, List, [], ap, ap₂, refl, sym, ◌∙◌}
-use Rattle.std.specs.Prelude.{encode_utf8_all, string_bytes}
-use Rattle.std.specs.Str.{IsUtf8, chars}
-use Rattle.std.specs.declared.string.String.{String}
+use Rattle.std.specs.{Prelude.encode_utf8_all, Prelude.string_bytes, Str.IsUtf8, Str.chars, declared.string.String.String}
 use Rattle.std.proofs.lemmas.Str.{encodes-chars, IsUtf8-string_bytes}
 use Rattle.properties_format.specs.Items.{Content, comment, pair}
-use Rattle.properties_c.specs.Packed.{Record, item_record}
-use Rattle.properties_c.specs.Private.Results.{content_record, kind_of_content}
+use Rattle.properties_c.specs.{Packed.Record, Packed.item_record, Private.Results.content_record, Private.Results.kind_of_content}
 
 pub encoded-text : {Z : Type 0} (text : String Z) → encode_utf8_all (chars (string_bytes text)) ≡ string_bytes text
 encoded-text text = encodes-chars (string_bytes text) (IsUtf8-string_bytes text)

@@ -2,23 +2,15 @@
 use Rattle.std.proofs.Common.{◌≡◌, not, ℕ, Bool, true, false, List, [], ◌∷◌, map, length, refl, ap, sym, ◌∙◌, inl, inr, Result, Err, drop}
 use mathlib.Core.Bool.{beq}
 use Rattle.std.proofs.lemmas.List.{drop_at}
-use Rattle.properties_format.specs.Encoding.{Encoding, output_encoding}
-use Rattle.properties_format.specs.Items.{Content, comment, pair}
-use Rattle.properties_format.specs.Settings.{Settings, IsGoodPrefix, IsGoodSeparator}
-use Rattle.properties_format.specs.Writing.{is_accepted, wrote}
+use Rattle.properties_format.specs.{Encoding.Encoding, Encoding.output_encoding, Items.Content, Items.comment, Items.pair, Settings.Settings}
+use Rattle.properties_format.specs.{Settings.IsGoodPrefix, Settings.IsGoodSeparator, Writing.is_accepted, Writing.wrote}
 use Rattle.java_properties.specs.PropertiesWriter.{Writing, call_of, SetsText}
-use Rattle.properties_items.specs.Errors.{kind_of}
+use Rattle.properties_items.specs.{Errors.kind_of, declared.error.PropertiesError.PropertiesError}
 use Rattle.properties_items.specs.declared.error.ErrorKind.TheVariants as kind
-use Rattle.properties_items.specs.declared.error.PropertiesError.{PropertiesError}
-use Rattle.std.specs.Prelude.{Ok}
-use Rattle.std.specs.Global.{Vec}
-use Rattle.properties_c.specs.Crossing.{Crossing, Delivers, RefusesCall}
-use Rattle.properties_c.specs.Packed.{WithList, lines}
-use Rattle.properties_c.specs.Private.Lists.{RefusesList}
+use Rattle.std.specs.{Prelude.Ok, Global.Vec}
+use Rattle.properties_c.specs.{Crossing.Crossing, Crossing.Delivers, Crossing.RefusesCall, Packed.WithList, Packed.lines, Private.Lists.RefusesList}
+use Rattle.properties_c.specs.{Statuses.status_of_kind, Writing.WritesLines, Writing.has_refused, Writing.lines_before, declared.status.Status.Status}
 use Rattle.properties_c.specs.Private.Results.{RefusesCalls, SetsSettings, WritesOn, has_refused_call, opening}
-use Rattle.properties_c.specs.Statuses.{status_of_kind}
-use Rattle.properties_c.specs.Writing.{WritesLines, has_refused, lines_before}
-use Rattle.properties_c.specs.declared.status.Status.{Status}
 use Rattle.properties_c.specs.declared.status.Status.TheVariants.{Done, NoMemory, NotUtf8, BadList, BadPrefix, BadSeparator, EmptyKey}
 
 pub prefix-refused : {V W : Type 0} (w : Writing V) (old new : Writing W) (s : Settings) (text : List ℕ) (error : PropertiesError)

@@ -1,30 +1,20 @@
 -- Lines of a packed list that were written, one after another.
 use Rattle.std.proofs.Common.{◌≡◌, Bool, true, false, not, ◌||◌, cond, ℕ, List, [], ◌∷◌, ◌++◌, map, ap, refl, sym, ◌∙◌, subst, inl, inr}
-use Rattle.std.specs.List.{list_any}
+use Rattle.std.specs.{List.list_any, Global.Vec}
 use Rattle.std.specs.Prelude.{Some, None, Result, Ok, Err}
-use Rattle.std.specs.Global.{Vec}
 use Rattle.std.proofs.lemmas.List.{map-append}
 use mathlib.Core.Bool.{beq}
-use Rattle.counted_io.specs.Counting.{counted_inner}
-use Rattle.counted_io.specs.Streams.{Sink}
-use Rattle.counted_io.specs.declared.counted.Counted.{Counted}
-use Rattle.properties_format.specs.Encoding.{Encoding, output_encoding}
-use Rattle.properties_format.specs.Items.{Content, comment, pair}
-use Rattle.properties_format.specs.Settings.{Settings}
+use Rattle.counted_io.specs.{Counting.counted_inner, Streams.Sink, declared.counted.Counted.Counted}
+use Rattle.properties_format.specs.{Encoding.Encoding, Encoding.output_encoding, Items.Content, Items.comment, Items.pair, Settings.Settings}
 use Rattle.properties_format.specs.Writing.{answers, comment_call, pair_call, wrote}
 use Rattle.java_properties.specs.Calls.{after_calls, HasMade, HasMadeCall}
 use Rattle.java_properties.specs.PropertiesWriter.{Writing, WritesLine, IsRefusedBy, call_of, new_writer, with_settings}
 use Rattle.java_properties.proofs.Calls.Made.{made-quiet, made-line, pair-made, made-more, answers-more}
-use Rattle.properties_items.specs.Errors.{kind_of}
-use Rattle.properties_items.specs.declared.error.ErrorKind.{ErrorKind}
+use Rattle.properties_items.specs.{Errors.kind_of, declared.error.ErrorKind.ErrorKind, declared.error.PropertiesError.PropertiesError}
 use Rattle.properties_items.specs.declared.error.ErrorKind.TheVariants as kind
-use Rattle.properties_items.specs.declared.error.PropertiesError.{PropertiesError}
-use Rattle.properties_c.specs.Packed.{lines, BeginsList}
-use Rattle.properties_c.specs.Private.Lists.{IsFirstThing}
-use Rattle.properties_c.specs.Private.Results.{acceptance, accepted_for, WritesContent, HasOpened, has_refused_call}
-use Rattle.properties_c.specs.Writing.{AreGood}
-use Rattle.properties_c.specs.declared.status.Status.{Status}
+use Rattle.properties_c.specs.{Packed.lines, Packed.BeginsList, Private.Lists.IsFirstThing, Writing.AreGood, declared.status.Status.Status}
 use Rattle.properties_c.specs.declared.status.Status.TheVariants.{EmptyKey}
+use Rattle.properties_c.specs.Private.Results.{acceptance, accepted_for, WritesContent, HasOpened, has_refused_call}
 use Rattle.properties_c.proofs.ListFronts.{Begins-more}
 
 -- ---- one line

@@ -1,5 +1,5 @@
 -- What the call for items gives: the items of the logical lines of a source, or its groups with the places of their parts.
-use Rattle.std.specs.Prelude.{◌≡◌, ◌≢◌, ◌⊎◌, ℕ, Bool, true, false, List, [], ◌∷◌, ◌++◌, map, Option, Some, None, encode_utf8_all}
+use Rattle.std.specs.Prelude.{◌≡◌, ◌≢◌, ◌⊎◌, ℕ, Bool, true, false, List, [], ◌∷◌, ◌++◌, map, Option, Some, None, unwrap_or, encode_utf8_all}
 use Rattle.properties_format.specs.Encoding.{Encoding, byte_order_mark}
 use Rattle.properties_format.specs.Body.{HeldLine}
 use Rattle.properties_format.specs.Edited.{is_editable}
@@ -105,31 +105,28 @@ abbrev pub flaw_numbers : Option Flaw → List ℕ
 flaw_numbers None = 0 ∷ 0 ∷ 0 ∷ 0 ∷ []
 flaw_numbers (Some flaw) = flaw_status flaw.kind ∷ flaw.place ∷ flaw.line_number ∷ flaw.column ∷ []
 
-abbrev pub number_or_none : Option ℕ → ℕ
-number_or_none None = 0
-number_or_none (Some number) = number
-
 -- the twelve numbers of a group
 abbrev pub span_numbers : ViewedGroup → PartPlaces → Option Flaw → Option ℕ → List ℕ
 span_numbers group places flaw ill_formed =
     group.start ∷ places.key_start ∷ places.key_end ∷ places.value_start ∷ places.value_end ∷ group.end ∷ group.next
-    ∷ (flaw_numbers flaw ++ number_or_none ill_formed ∷ [])
+    ∷ (flaw_numbers flaw ++ unwrap_or ill_formed 0 ∷ [])
+
+-- They are those of the group that a view gave last: where its parts are, and what is wrong in it.
+abbrev pub AreNumbersOf : OpenView → ViewedGroup → List ℕ → Type 0
+AreNumbersOf v group numbers =
+    (places : PartPlaces) × ArePlaces v places × AreOrdered v places
+    × ((flaw : Option Flaw) × TellsFlaw v flaw × ((ill_formed : Option ℕ) × TellsIllFormed v ill_formed × (numbers ≡ span_numbers group places flaw ill_formed)))
 
 -- These are the bytes of the group that a view gave last.
 pub record IsPackedGroup (a : Asked) (v : OpenView) (bytes : List ℕ) : Type 0 where
   pub group : ViewedGroup
   pub is_group : IsGroup v group
-  pub places : PartPlaces
-  pub are_places : ArePlaces v places
-  pub ordered : AreOrdered v places
-  pub flaw : Option Flaw
-  pub tells_flaw : TellsFlaw v flaw
-  pub ill_formed : Option ℕ
-  pub tells_ill_formed : TellsIllFormed v ill_formed
+  pub numbers : List ℕ
+  pub are_numbers : AreNumbersOf v group numbers
   pub shows : Outcome
   pub is_shown : IsShown a (viewed_line v) shows
   pub is : bytes ≡ spanned (record { kind = kind_number group.kind; line = group.line_number; key = encode_utf8_all (key_in shows); value = encode_utf8_all (outcome_value shows) })
-      (span_numbers group places flaw ill_formed)
+      numbers
 
 -- the view with this group given, and these to come
 abbrev pub passed : OpenView → List HeldLine → List (List HeldLine) → OpenView

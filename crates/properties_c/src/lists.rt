@@ -1,8 +1,11 @@
 // Packed lists that come from C: edits, and lines to write.
 
 ghost use Rattle.std.specs.Prelude.{◌≡◌, ◌++◌, ◌≤◌, length, take, drop};
-ghost use Rattle.properties_c.specs.Packed.{record_in};
-ghost use Rattle.properties_c.specs.Private.Lists.{CopiesKey, CopiesText, CopiesTexts, MakesEdit, MakesLine, ReadsEdits, ReadsFirstEdit, ReadsFirstLine, TakesText, TakesTexts};
+ghost use Rattle.std.specs.Str.{chars};
+ghost use Rattle.properties_items.specs.Texts.{characters};
+ghost use Rattle.properties_renaming.specs.KeyEdits.{key_edit_in};
+ghost use Rattle.properties_c.specs.Packed.{edits, lines, record_in};
+ghost use Rattle.properties_c.specs.Private.Lists.{CopiesKey, GivesText, GivesTexts, MakesThing, ReadsEdits, ReadsFirst, line_content};
 ghost use Rattle.properties_c.specs.declared.status.Status.TheVariants.{NoMemory};
 
 use crate::encoding::text_of;
@@ -78,7 +81,7 @@ pub fn edits_of(alloc: Global, list: &[u8]) -> Result<Vec<KeyEdit>, Status>
 // Returns the first edit of a list and what comes after it.
 #[tactic(auto, using(crate::proofs::ListFronts::taking))]
 fn first_edit(alloc: Global, list: &[u8]) -> Result<(KeyEdit, &[u8]), Status>
-    ensures { ReadsFirstEdit list.now result }
+    ensures { ReadsFirst edits list.now result key_edit_in }
 {
     let Some((first, rest)) = split_record(list) else {
         return Err(Status::BadList);
@@ -93,7 +96,7 @@ fn first_edit(alloc: Global, list: &[u8]) -> Result<(KeyEdit, &[u8]), Status>
 #[inline(always)]
 #[tactic(auto, using(crate::proofs::ListFronts::taking))]
 pub fn first_line(list: &[u8]) -> Result<(Line<'_>, &[u8]), Status>
-    ensures { ReadsFirstLine list.now result }
+    ensures { ReadsFirst lines list.now result line_content }
 {
     let Some((first, rest)) = split_record(list) else {
         return Err(Status::BadList);
@@ -106,7 +109,7 @@ pub fn first_line(list: &[u8]) -> Result<(Line<'_>, &[u8]), Status>
 }
 
 fn edit_of(alloc: Global, given: Record<'_>) -> Result<KeyEdit, Status>
-    ensures { MakesEdit (record_in given.entry) result }
+    ensures { MakesThing edits (record_in given.entry) result key_edit_in }
 {
     match given.kind {
         PUT => {
@@ -133,7 +136,7 @@ fn edit_of(alloc: Global, given: Record<'_>) -> Result<KeyEdit, Status>
 
 // Returns copies of both texts of a record.
 fn texts_of(alloc: Global, given: Record<'_>) -> Result<(String, String), Status>
-    ensures { CopiesTexts (record_in given.entry) result }
+    ensures { let r = record_in given.entry in GivesTexts r.key r.value result characters }
 {
     let key = copy_of(alloc, given.key)?;
     let value = copy_of(alloc, given.value)?;
@@ -154,7 +157,7 @@ fn key_of(alloc: Global, given: Record<'_>) -> Result<String, Status>
 #[inline(always)]
 fn line_of<'a>(given: Record<'a>, texts: &'a [u8]) -> Result<Line<'a>, Status>
     requires { let r = record_in given in texts.now ≡ r.key ++ r.value }
-    ensures { MakesLine (record_in given.entry) result }
+    ensures { MakesThing lines (record_in given.entry) result line_content }
 {
     match given.kind {
         COMMENT => {
@@ -174,7 +177,7 @@ fn line_of<'a>(given: Record<'a>, texts: &'a [u8]) -> Result<Line<'a>, Status>
 // Returns the text with these bytes.
 #[inline(always)]
 fn sound_text(bytes: &[u8]) -> Result<&str, Status>
-    ensures { TakesText bytes.now result }
+    ensures { GivesText bytes.now result (λ text. chars text.now) }
 {
     match text_of(bytes) {
         Some(text) => Ok(text),
@@ -187,7 +190,7 @@ fn sound_text(bytes: &[u8]) -> Result<&str, Status>
 #[inline(always)]
 fn sound_texts(bytes: &[u8], at: usize) -> Result<(&str, &str), Status>
     requires { at ≤ length bytes.now }
-    ensures { TakesTexts (take at bytes.now) (drop at bytes.now) result }
+    ensures { GivesTexts (take at bytes.now) (drop at bytes.now) result (λ text. chars text.now) }
 {
     let Some(texts) = text_of(bytes) else {
         return Err(Status::NotUtf8);
@@ -200,7 +203,7 @@ fn sound_texts(bytes: &[u8], at: usize) -> Result<(&str, &str), Status>
 
 // Returns a copy of a text.
 fn copy_of(alloc: Global, bytes: &[u8]) -> Result<String, Status>
-    ensures { CopiesText bytes.now result }
+    ensures { GivesText bytes.now result characters }
 {
     let Some(text) = text_of(bytes) else {
         return Err(Status::NotUtf8);

@@ -5,8 +5,8 @@ ghost use Rattle.std.specs.Str.{chars};
 ghost use Rattle.properties_text.specs.Encoding.{encoding_of};
 ghost use Rattle.properties_format.specs.Split.{Logical, IsSplit};
 ghost use Rattle.properties_editing.specs.Views.{IsGroup, viewed_line};
-ghost use Rattle.properties_c.specs.Items.{flaw_numbers, flaw_status as status_in, key_in, kind_number, standing};
-ghost use Rattle.properties_c.specs.Private.Results.{AreNumbersOf, PacksGroups, PushesGroup, Resolves, is_read};
+ghost use Rattle.properties_c.specs.Items.{AreNumbersOf, flaw_numbers, flaw_status as status_in, key_in, kind_number, standing};
+ghost use Rattle.properties_c.specs.Private.Results.{PacksGroups, PushesGroup, Resolves, is_read};
 
 use crate::asked::{Asked, are_read};
 use crate::items::item_record;

@@ -48,7 +48,7 @@ one-more test keys i n is below tells counted =
     ap₂ (λ v b. v + from_bool b) counted tells ∙ ap (λ v. count_by test (take i keys) + v) (as-number (test (get_or keys i [])))
     ∙ sym (sum_by_more (λ k. cond (test k) 1 0) keys i [] below)
 
-keys-length : (rows : List Row) → length (row_keys rows) ≡ length rows
+pub keys-length : (rows : List Row) → length (row_keys rows) ≡ length rows
 keys-length rows = length-map rows (λ r. r.key)
 
 key-at : (rows : List Row) (i : ℕ) (d : Row) → i < length rows → get_or (row_keys rows) i [] ≡ (get_or rows i d).key

@@ -24,10 +24,10 @@ abbrev Finds : List ℕ → List Row → Option Row → Type 0
 Finds key rows None = Has key (row_keys rows) → ⊥
 Finds key rows (Some r) = (r.key ≡ key) × Contains rows r
 
-at-front : (r : Row) (rows : List Row) → Contains (r ∷ rows) r
+at-front : {X : Type 0} (r : X) (rows : List X) → Contains (r ∷ rows) r
 at-front r rows = (0, omega arith, refl)
 
-further : (r s : Row) (rows : List Row) → Contains rows s → Contains (r ∷ rows) s
+further : {X : Type 0} (r s : X) (rows : List X) → Contains rows s → Contains (r ∷ rows) s
 further r s rows c = (suc c.0, (let l = c.1 in omega arith), c.2)
 
 finds-further : (key : List ℕ) (r : Row) (rows : List Row) (found : Option Row) → r.key ≢ key → Finds key rows found → Finds key (r ∷ rows) found
@@ -60,7 +60,7 @@ row-with pairs rows key h = of (row_with key rows) (finds key rows)
     of None f = no-value pairs key (λ value v. f (contained key (row_keys rows) ((h.keys.each key).1 (value, v))))
     of (Some r) f = (All-contains (IsRow pairs) rows r h.each f.1, f.0)
 
-last-value : {pairs : List Entry} {r : Row} → IsRow pairs r → IsLastValue pairs r.key r.value
+pub last-value : {pairs : List Entry} {r : Row} → IsRow pairs r → IsLastValue pairs r.key r.value
 last-value {r = r} h = record { before = h.last.before; number = r.last; after = h.last.after; division = h.last.division; no_later = h.last.none_after }
 
 -- its value is the last one
@@ -133,10 +133,7 @@ own-came s (Some r) = inl refl
 key-there : (ds : List Difference) (d : Difference) (key : List ℕ) → Contains ds d → key_of d ≡ key → Contains (map key_of ds) key
 key-there [] d key (n, l, e) same = absurd (omega arith)
 key-there (x ∷ ds) d key (zero, l, e) same = (0, omega arith, ap key_of e ∙ same)
-key-there (x ∷ ds) d key (suc n, l, e) same = let c = key-there ds d key (n, omega arith, e) same in further-key (key_of x) key (map key_of ds) c
-  where
-    further-key : (k key : List ℕ) (ks : List (List ℕ)) → Contains ks key → Contains (k ∷ ks) key
-    further-key k key ks c = (suc c.0, (let l = c.1 in omega arith), c.2)
+key-there (x ∷ ds) d key (suc n, l, e) same = further (key_of x) key (map key_of ds) (key-there ds d key (n, omega arith, e) same)
 
 key-of : (ds : List Difference) (P : Difference → Type 0) (key : List ℕ) → All P ds → Contains (map key_of ds) key → (d : Difference) × P d × (key_of d ≡ key)
 key-of [] P key h (n, l, e) = absurd (omega arith)

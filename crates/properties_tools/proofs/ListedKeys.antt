@@ -1,6 +1,6 @@
 -- The keys of a source are those of no other list.
-use Rattle.std.proofs.Common.{◌≡◌, ◌≢◌, ℕ, zero, suc, ◌<◌, List, [], ◌∷◌, ◌++◌, refl, ap, sym, ◌∙◌, inl, inr, subst, arith}
-use Rattle.std.specs.Prelude.{AllPairs, get_or, map}
+use Rattle.std.proofs.Common.{◌≡◌, ◌≢◌, ℕ, zero, suc, List, [], ◌∷◌, ◌++◌, refl, ap, sym, ◌∙◌, inl, inr, subst, arith}
+use Rattle.std.specs.Prelude.{AllPairs, map}
 use Rattle.properties_format.specs.Encoding.{Encoding}
 use Rattle.properties_format.specs.Items.{comment, pair, Entry, item, malformed, read_fault}
 use Rattle.properties_format.specs.Maps.{HasNoPair, PairComesBefore, AreKeys, IsLastValue}
@@ -12,7 +12,8 @@ use Rattle.std.proofs.lemmas.List.Elements.{All-map}
 use Rattle.std.proofs.lemmas.Simd.{map-map}
 use Rattle.properties_format.specs.Writing.{Pair}
 use Rattle.properties_tables.specs.Private.Table.{row_pair}
-use Rattle.properties_tables.specs.Table.{HasRows, IsRow, Row}
+use Rattle.properties_tables.specs.Table.{HasRows, Row}
+use Rattle.properties_tools.proofs.Differences.{last-value}
 
 no_pair-tail : (key : List ℕ) (x : Entry) (xs : List Entry) → HasNoPair key (x ∷ xs) → HasNoPair key xs
 no_pair-tail key (item n (pair k v)) xs h = h.1
@@ -85,13 +86,10 @@ keys-only e source keys others h k = ordered-same h.entries others keys other.in
     other : AreKeys h.entries others
     other = subst (λ v. AreKeys v others) (pairs_of-only e source k.entries k.are ∙ sym (pairs_of-only e source h.entries h.are)) k.each
 
-last-value : (pairs : List Entry) (r : Row) → IsRow pairs r → IsLastValue pairs r.key r.value
-last-value pairs r h = record { before = h.last.before; number = r.last; after = h.last.after; division = h.last.division; no_later = h.last.none_after }
-
 pub last-pairs : {e : Encoding} {source : List ℕ} {rows : List Row} → HasRows e source rows → AreLastPairs e source (map row_pair rows)
 last-pairs {rows = rows} h = record {
   entries = h.pairs;
   are = h.are;
   keys = subst (AreKeys h.pairs) (sym (map-map (λ (p : Pair). p.0) row_pair rows)) h.have.keys;
-  values = All-map (λ (p : Pair). IsLastValue h.pairs p.0 p.1) row_pair rows (λ k d l. last-value h.pairs (get_or rows k d) (h.have.each k d l));
+  values = All-map (λ (p : Pair). IsLastValue h.pairs p.0 p.1) row_pair rows (λ k d l. last-value (h.have.each k d l));
 }

@@ -3,7 +3,7 @@ use Rattle.std.proofs.Common.{◌≡◌, ℕ, zero, suc, Bool, true, false, List
 use Rattle.std.specs.Prelude.{◌&&◌, not, AllPairs, Contains, Option, Some, None, bytes_eq, filter, is_some, string_bytes}
 use Rattle.std.specs.Global.{Global}
 use Rattle.std.specs.declared.string.String.{String}
-use Rattle.std.proofs.lemmas.Bool.{cases_Bool}
+use Rattle.std.proofs.lemmas.Bool.{cases_Bool, and_parts, not-true, not-false}
 use Rattle.std.proofs.lemmas.List.Elements.{All-contains, All-contains_itself, All-filter, filter_passes}
 use Rattle.std.proofs.lemmas.List.Kept.{AllPairs-filter}
 use Rattle.std.proofs.lemmas.Slice.Eq.{bytes_eq-Decides}
@@ -40,19 +40,11 @@ among-none : (key : List ℕ) (keys : List (List ℕ)) → HasNot key keys → i
 among-none key [] h = refl
 among-none key (k ∷ ks) h = rw (other-test k key h.0) (among-none key ks h.1)
 
-told-none : (is : Bool) → false ≡ not is → is ≡ true
-told-none true h = refl
-told-none false h = absurd (let no : false ≡ true = h in cc)
-
-told-some : (is : Bool) → true ≡ not is → is ≡ false
-told-some false h = refl
-told-some true h = absurd (let no : false ≡ true = sym h in cc)
-
 -- A key isn't found if it isn't among the keys.
 pub found-told : (key : List ℕ) (keys : List (List ℕ)) (found : Option ℕ) (is : Bool) → FindsKey key keys found → is_some found ≡ not is
     → is ≡ not (is_among key keys)
-found-told key keys None is f h = rw (among-none key keys f) (told-none is h)
-found-told key keys (Some row) is f h = rw (among-found key keys row f) (told-some is h)
+found-told key keys None is f h = rw (among-none key keys f) (not-false is (sym h))
+found-told key keys (Some row) is f h = rw (among-found key keys row f) (not-true is (sym h))
 
 among-contained : (key : List ℕ) (keys : List (List ℕ)) → Contains keys key → is_among key keys ≡ true
 among-contained key [] (n, l, e) = absurd (omega arith)
@@ -90,15 +82,6 @@ kept-there p (k ∷ ks) key (suc n, l, e) h =
 
 -- ---- keys that the other table doesn't have
 
-both-true : (a b : Bool) → a && b ≡ true → (a ≡ true) × (b ≡ true)
-both-true true true h = (refl, refl)
-both-true true false h = absurd (cc)
-both-true false b h = absurd (cc)
-
-not-true : (a : Bool) → not a ≡ true → a ≡ false
-not-true true h = absurd (cc)
-not-true false h = refl
-
 -- A key with a value has a pair.
 some-pair : (pairs : List Entry) (key value : List ℕ) → IsLastValue pairs key value → HasNoPair key pairs → ⊥
 some-pair pairs key value is none =
@@ -122,7 +105,7 @@ module _ (w : Bool) (pairs other : List Entry) (places : List KeyPlace) (keys : 
       let there = All-contains (Contains (keys_at places)) Kept key
       (All-filter lacks (Contains (keys_at places)) (keys_at places) (All-contains_itself (keys_at places))) c in
       let passes = All-contains (λ k. lacks k ≡ true) Kept key (filter_passes lacks (keys_at places)) c in
-      let both = both-true (not (is_among key keys)) (is_compared w key) passes in
+      let both = and_parts (not (is_among key keys)) (is_compared w key) passes in
       let has = (own.keys.each key).0 there in
       (has.0, has.1, no-pair key (not-true (is_among key keys) both.0), both.1)
 

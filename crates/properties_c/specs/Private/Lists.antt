@@ -1,6 +1,6 @@
 -- What taking a packed list apart returns.
 use Rattle.std.specs.Prelude.{◌≡◌, ◌++◌, ℕ, List, [], length, ◌<◌, ◌^◌, Option, Some, None, Result, Ok, Err}
-use Rattle.properties_c.specs.Packed.{number_bytes, IsPackedText, Meaning, edits, lines, IsPackedList, IsBadList, LacksText, HasNoRecord, HasNoText, Record, packed, record_in, IsSized}
+use Rattle.properties_c.specs.Packed.{number_bytes, IsPackedText, Meaning, edits, IsPackedList, IsBadList, LacksText, HasNoRecord, HasNoText, Record, packed, record_in, IsSized}
 use Rattle.properties_c.specs.declared.lists.Line.{Line}
 use Rattle.properties_c.specs.declared.lists.Line.TheVariants.{Comment, Pair}
 use Rattle.properties_c.specs.declared.records.Header.{Header}
@@ -8,7 +8,7 @@ use Rattle.std.specs.Borrow.{Bor}
 use Rattle.std.specs.Global.{Vec}
 use Rattle.std.specs.Str.{IsUtf8, chars}
 use Rattle.properties_format.specs.Items.{Content, comment, pair}
-use Rattle.properties_renaming.specs.KeyEdits.{key_edit_in, key_edits_in}
+use Rattle.properties_renaming.specs.KeyEdits.{key_edits_in}
 use Rattle.properties_renaming.specs.declared.key_edits.KeyEdit.{KeyEdit}
 use Rattle.std.specs.declared.string.String.{String}
 use Rattle.properties_items.specs.Texts.{characters}
@@ -65,56 +65,37 @@ pub record IsFirstThing {A : Type 0} (m : Meaning A) (list : List ℕ) (thing : 
 
 -- ---- texts
 
--- the result of copying a text
-abbrev pub CopiesText : {Z : Type 0} → List ℕ → Result (String Z) Status → Type 0
-CopiesText bytes (Ok text) = IsPackedText bytes (characters text)
-CopiesText bytes (Err status) = RefusesFor ⊥ (¬ IsUtf8 bytes) status
+-- What reading a text gives, and what it is; or it isn't UTF-8.
+abbrev pub GivesText : {T : Type 0} → List ℕ → Result T Status → (T → List ℕ) → Type 0
+GivesText bytes (Ok given) text = IsPackedText bytes (text given)
+GivesText bytes (Err status) text = RefusesFor ⊥ (¬ IsUtf8 bytes) status
 
--- the result of copying both texts of a record
-abbrev pub CopiesTexts : {Z Y : Type 0} → Record → Result (String Z × String Y) Status → Type 0
-CopiesTexts r (Ok (key, value)) = IsPackedText r.key (characters key) × IsPackedText r.value (characters value)
-CopiesTexts r (Err status) = RefusesFor ⊥ (IsUtf8 r.key → IsUtf8 r.value → ⊥) status
+-- The same of two texts.
+abbrev pub GivesTexts : {T : Type 0} → List ℕ → List ℕ → Result (T × T) Status → (T → List ℕ) → Type 0
+GivesTexts key value (Ok (name, given)) text = IsPackedText key (text name) × IsPackedText value (text given)
+GivesTexts key value (Err status) text = RefusesFor ⊥ (IsUtf8 key → IsUtf8 value → ⊥) status
 
 -- the result of copying the key of a record that may have no value
 abbrev pub CopiesKey : {Z : Type 0} → Record → Result (String Z) Status → Type 0
 CopiesKey r (Ok key) = IsPackedText r.key (characters key) × (r.value ≡ [])
 CopiesKey r (Err status) = RefusesFor (¬ (r.value ≡ [])) ((r.value ≡ []) × ¬ (IsUtf8 r.key)) status
 
--- ---- edits
+-- ---- things: edits, and lines to write
 
-abbrev pub MakesEdit : Record → Result KeyEdit Status → Type 0
-MakesEdit r (Ok edit) = edits.Means r (key_edit_in edit)
-MakesEdit r (Err status) = RefusesRecord edits r status
+-- What a record is made into, and which thing that is.
+abbrev pub MakesThing : {A T : Type 0} → Meaning A → Record → Result T Status → (T → A) → Type 0
+MakesThing m r (Ok made) thing = m.Means r (thing made)
+MakesThing m r (Err status) thing = RefusesRecord m r status
 
-abbrev pub ReadsFirstEdit : List ℕ → Result (KeyEdit × Bor (List ℕ)) Status → Type 0
-ReadsFirstEdit list (Ok (edit, rest)) = IsFirstThing edits list (key_edit_in edit) rest.now
-ReadsFirstEdit list (Err status) = RefusesFirst edits list status
+abbrev pub ReadsFirst : {A T : Type 0} → Meaning A → List ℕ → Result (T × Bor (List ℕ)) Status → (T → A) → Type 0
+ReadsFirst m list (Ok (made, rest)) thing = IsFirstThing m list (thing made) rest.now
+ReadsFirst m list (Err status) thing = RefusesFirst m list status
 
 abbrev pub ReadsEdits : List ℕ → Result (Vec KeyEdit) Status → Type 0
 ReadsEdits list (Ok found) = IsPackedList edits list (key_edits_in found.items)
 ReadsEdits list (Err status) = RefusesList edits list status
 
--- ---- lines to write
-
--- the result of taking a text
-abbrev pub TakesText : List ℕ → Result (Bor (List ℕ)) Status → Type 0
-TakesText bytes (Ok text) = IsPackedText bytes (chars text.now)
-TakesText bytes (Err status) = RefusesFor ⊥ (¬ IsUtf8 bytes) status
-
--- the result of taking two texts
-abbrev pub TakesTexts : List ℕ → List ℕ → Result (Bor (List ℕ) × Bor (List ℕ)) Status → Type 0
-TakesTexts key value (Ok (name, text)) = IsPackedText key (chars name.now) × IsPackedText value (chars text.now)
-TakesTexts key value (Err status) = RefusesFor ⊥ (IsUtf8 key → IsUtf8 value → ⊥) status
-
 -- what a line holds
 abbrev pub line_content : Line → Content
 line_content (Comment text) = comment (chars text.now)
 line_content (Pair key value) = pair (chars key.now) (chars value.now)
-
-abbrev pub MakesLine : Record → Result Line Status → Type 0
-MakesLine r (Ok line) = lines.Means r (line_content line)
-MakesLine r (Err status) = RefusesRecord lines r status
-
-abbrev pub ReadsFirstLine : List ℕ → Result (Line × Bor (List ℕ)) Status → Type 0
-ReadsFirstLine list (Ok (line, rest)) = IsFirstThing lines list (line_content line) rest.now
-ReadsFirstLine list (Err status) = RefusesFirst lines list status

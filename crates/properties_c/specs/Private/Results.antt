@@ -13,13 +13,10 @@ use Rattle.properties_format.specs.Escapes.{Malformed}
 use Rattle.properties_items.specs.BorrowedItems.{IsNoItem, borrowed_content}
 use Rattle.properties_items.specs.Errors.{IsMalformed, kind_of}
 use Rattle.properties_items.specs.declared.borrowed.LineRef.{LineRef}
-use Rattle.properties_editing.specs.Views.{OpenView, IsViewOf, ArePlaces, AreOrdered, TellsFlaw, TellsIllFormed}
-use Rattle.properties_editing.specs.declared.group.Flaw.{Flaw}
+use Rattle.properties_editing.specs.Views.{OpenView, IsViewOf}
 use Rattle.properties_editing.specs.declared.group.GroupKind.{GroupKind}
 use Rattle.properties_editing.specs.declared.group.GroupKind.TheVariants as group
-use Rattle.properties_editing.specs.declared.group.PartPlaces.{PartPlaces}
-use Rattle.properties_editing.specs.declared.group.ViewedGroup.{ViewedGroup}
-use Rattle.properties_c.specs.Items.{AreAsked, GivesAskedLine, IsPackedGroup, ArePacked, key_in, span_numbers, outcome_value}
+use Rattle.properties_c.specs.Items.{AreAsked, GivesAskedLine, IsPackedGroup, ArePacked, key_in, outcome_value}
 use Rattle.properties_c.specs.Parts.{IsLineEnd}
 use Rattle.properties_c.specs.Packed.{IsPackedList, lines, end_bytes, item_record, Record, packed, packed_items, reading_line, reading_status, finding_bytes, packed_findings}
 use Rattle.properties_c.specs.declared.asked.Asked.{Asked}
@@ -144,12 +141,6 @@ abbrev pub PacksGroups : Asked → Encoding → List ℕ → Result (Vec ℕ) Pr
 PacksGroups a e source (Ok bytes) = (view : OpenView) × IsViewOf e source view × ArePacked a view view.to_come bytes.items
 PacksGroups a e source (Err error) =
     (is_editable (byte_order_mark e source).encoding ≡ false) × IsBareError kind.Unsupported error ⊎ IsBareError kind.Memory error
-
--- These are the places of the group that was given last, and what is wrong in it.
-abbrev pub AreNumbersOf : OpenView → ViewedGroup → List ℕ → Type 0
-AreNumbersOf v group numbers =
-    (places : PartPlaces) × ArePlaces v places × AreOrdered v places
-    × ((flaw : Option Flaw) × TellsFlaw v flaw × ((ill_formed : Option ℕ) × TellsIllFormed v ill_formed × (numbers ≡ span_numbers group places flaw ill_formed)))
 
 -- ---- Why a source isn't text.
 

@@ -1,17 +1,11 @@
 use Rattle.std.proofs.Common.{ℕ, Bool, List, refl, rules, inl, inr}
 use Rattle.std.specs.Prelude.{◌⊎◌, Result, Ok, Err, IfOk, IfErr}
 use Rattle.std.specs.Global.{Vec}
-use Rattle.properties_format.specs.Encoding.{Encoding}
-use Rattle.properties_format.specs.Converting.{IsConverted}
-use Rattle.properties_text.specs.Encoding.{encoding_of}
-use Rattle.properties_text.specs.Printing.{in_format}
-use Rattle.properties_text.specs.declared.print.Repertoire.{Repertoire}
-use Rattle.properties_items.specs.Errors.{IsBareError}
+use Rattle.properties_format.specs.{Encoding.Encoding, Converting.IsConverted}
+use Rattle.properties_text.specs.{Encoding.encoding_of, Printing.in_format, declared.print.Repertoire.Repertoire}
+use Rattle.properties_items.specs.{Errors.IsBareError, declared.error.PropertiesError.PropertiesError}
 use Rattle.properties_items.specs.declared.error.ErrorKind.TheVariants as kind
-use Rattle.properties_items.specs.declared.error.PropertiesError.{PropertiesError}
-use Rattle.properties_c.specs.Editing.{GivesConverted}
-use Rattle.properties_c.specs.Crossing.{Crossing, Crosses, RefusesCall}
-use Rattle.properties_c.specs.declared.status.Status.TheVariants.{NoMemory}
+use Rattle.properties_c.specs.{Editing.GivesConverted, Crossing.Crossing, Crossing.Crosses, Crossing.RefusesCall, declared.status.Status.TheVariants.NoMemory}
 use Rattle.properties_c.proofs.convert.todrenval_convert.Goals as goal
 
 crossed : (e : Encoding) (t : Repertoire) (readable : Bool) (source : List ℕ) (outcome : Result (Vec ℕ) PropertiesError) (x : Crossing)

@@ -1,12 +1,11 @@
 use Rattle.std.proofs.Common.{◌≡◌, ◌++◌, ◌∙◌, ap, sym, refl, false}
-use Rattle.std.specs.Prelude.{◌&&◌, Some}
-use Rattle.std.specs.Str.{chars}
+use Rattle.std.specs.{Prelude.◌&&◌, Prelude.Some, Str.chars}
 use Rattle.properties_text.specs.Parsing.{in_characters, spanned}
-use Rattle.properties_c.specs.Packed.{packed}
-use Rattle.properties_c.specs.Private.Results.{reads}
-use Rattle.properties_c.proofs.GivenLines.{is-read, read-line, standing-line}
+use Rattle.properties_c.specs.{Packed.packed, Private.Results.reads}
+use Rattle.properties_c.proofs.{GivenLines.is-read, GivenLines.read-line, GivenLines.standing-line}
+use Rattle.properties_c.proofs.items.push_line.Goals.{else-is_escaped-via-then-is_escaped+else-are_read}
+use Rattle.properties_c.proofs.items.push_line.Goals.{else-is_escaped-via-else-is_escaped}
 use Rattle.properties_c.proofs.items.push_line.Goals as goal
-use Rattle.properties_c.proofs.items.push_line.Goals.{else-is_escaped-via-then-is_escaped+else-are_read, else-is_escaped-via-else-is_escaped}
 
 pub returns-then-are_read : goal.returns-then-are_read
 returns-then-are_read c =

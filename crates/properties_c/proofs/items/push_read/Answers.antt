@@ -1,8 +1,7 @@
 use Rattle.std.proofs.Common.{◌≡◌, ◌++◌, ◌∙◌, ap}
 use Rattle.properties_items.specs.BorrowedItems.{borrowed_content}
 use Rattle.properties_c.specs.Packed.{item_record, packed, record_in}
-use Rattle.properties_c.proofs.GivenLines.{item-outcome}
-use Rattle.properties_c.proofs.Texts.{item-content}
+use Rattle.properties_c.proofs.{GivenLines.item-outcome, Texts.item-content}
 use Rattle.properties_c.proofs.items.push_read.Goals as goal
 
 pub returns : goal.returns

@@ -1,6 +1,5 @@
 use Rattle.std.proofs.Common.{◌≡◌, ◌++◌, drop}
-use Rattle.std.specs.List.{flat_map}
-use Rattle.std.specs.Prelude.{map}
+use Rattle.std.specs.{List.flat_map, Prelude.map}
 use Rattle.properties_items.specs.Texts.{characters}
 use Rattle.properties_c.specs.Keys.{text_line}
 use Rattle.properties_c.proofs.keys.lines_of.Given as goal

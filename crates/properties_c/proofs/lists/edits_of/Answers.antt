@@ -1,5 +1,4 @@
-use Rattle.std.proofs.Common.{arith}
-use Rattle.std.proofs.lemmas.Bool.Decides.{nat_tests}
+use Rattle.std.proofs.{Common.arith, lemmas.Bool.Decides.nat_tests}
 use Rattle.properties_c.proofs.OneReading.{edit-one, list-read}
 use Rattle.properties_c.proofs.lists.edits_of.Goals as goal
 

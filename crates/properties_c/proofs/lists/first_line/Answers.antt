@@ -1,6 +1,5 @@
 use Rattle.std.proofs.Common.{arith}
-use Rattle.properties_c.proofs.Packing.{sizes}
-use Rattle.properties_c.proofs.ListFronts.{first-texts}
+use Rattle.properties_c.proofs.{Packing.sizes, ListFronts.first-texts}
 use Rattle.properties_c.proofs.lists.first_line.Goals as goal
 
 pub slice_bounds-texts-count : goal.slice_bounds-texts-count

@@ -1,6 +1,4 @@
-use Rattle.std.proofs.lemmas.Bool.{false≢true}
-use Rattle.std.proofs.lemmas.List.{take-append-drop}
-use Rattle.std.proofs.lemmas.Str.{IsCharBoundary-from_take, IsUtf8-append}
+use Rattle.std.proofs.{lemmas.Bool.false≢true, lemmas.List.take-append-drop, lemmas.Str.IsCharBoundary-from_take, lemmas.Str.IsUtf8-append}
 use Rattle.properties_c.proofs.lists.sound_texts.Goals as goal
 
 pub returns-in_default : goal.returns-in_default

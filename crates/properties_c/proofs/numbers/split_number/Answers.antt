@@ -1,7 +1,6 @@
 use Rattle.std.proofs.Common.{◌≡◌, ◌++◌, ap, sym, ◌∙◌, length, arith}
 use Rattle.std.specs.Int.{w64, to_le_bytes}
-use Rattle.std.proofs.lemmas.List.{length-take-le}
-use Rattle.std.proofs.lemmas.Nat.{le_bytes_8}
+use Rattle.std.proofs.{lemmas.List.length-take-le, lemmas.Nat.le_bytes_8}
 use Rattle.properties_text.proofs.PrintedTexts.Runs.{small-take}
 use Rattle.properties_c.specs.Packed.{number_bytes}
 use Rattle.properties_c.proofs.Splitting.{parted}

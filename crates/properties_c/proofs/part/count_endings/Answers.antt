@@ -1,5 +1,4 @@
-use Rattle.std.proofs.Common.{ap, sym, ◌∙◌}
-use Rattle.std.proofs.lemmas.List.{take_rest}
+use Rattle.std.proofs.{Common.ap, Common.sym, Common.◌∙◌, lemmas.List.take_rest}
 use Rattle.properties_format.specs.Encoding.{InForce}
 use Rattle.properties_text.specs.Encoding.{encoding_of}
 use Rattle.properties_c.proofs.PartedLines.{cut-lines}

@@ -1,7 +1,6 @@
 use Rattle.std.proofs.Common.{rules}
-use Rattle.properties_c.proofs.GivenParts.{front-done, front-other}
+use Rattle.properties_c.proofs.{GivenParts.front-done, GivenParts.front-other, part.front_items.Goals.in-Done+in_ok-push_end, part.front_items.Goals.in_default}
 use Rattle.properties_c.proofs.part.front_items.Goals as goal
-use Rattle.properties_c.proofs.part.front_items.Goals.{in-Done+in_ok-push_end, in_default}
 
 pub returns : goal.returns
 returns c = elim c.match-items.branch [

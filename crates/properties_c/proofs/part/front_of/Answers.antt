@@ -1,5 +1,4 @@
-use Rattle.std.proofs.Common.{◌+◌, drop}
-use Rattle.std.proofs.lemmas.List.{take_rest}
+use Rattle.std.proofs.{Common.◌+◌, Common.drop, lemmas.List.take_rest}
 use Rattle.properties_text.specs.Encoding.{encoding_of}
 use Rattle.properties_c.proofs.PartedFronts.{divided-at}
 use Rattle.properties_c.proofs.part.front_of.Goals as goal

@@ -1,5 +1,4 @@
-use Rattle.std.proofs.Common.{rules}
-use Rattle.std.proofs.lemmas.Bool.Decides.{Decides-at}
+use Rattle.std.proofs.{Common.rules, lemmas.Bool.Decides.Decides-at}
 use Rattle.properties_format.specs.Text.{backslash, carriage_return, line_feed}
 use Rattle.properties_text.specs.Encoding.{encoding_of}
 use Rattle.properties_c.proofs.PartedFronts.{begins-decides, ends-decides, line-end-decides}

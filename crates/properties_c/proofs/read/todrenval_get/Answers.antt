@@ -1,6 +1,5 @@
 use Rattle.std.proofs.Common.{◌≡◌, refl, subst, rules, to_z, of_z, w32}
-use Rattle.std.specs.Global.{Global}
-use Rattle.std.specs.Str.{chars}
+use Rattle.std.specs.{Global.Global, Str.chars}
 use Rattle.java_properties.specs.Findings.{TellsValueWith}
 use Rattle.properties_c.specs.Reading.{GivesValueOf}
 use Rattle.properties_c.proofs.AnsweredCalls.{key-answered, key-refused}

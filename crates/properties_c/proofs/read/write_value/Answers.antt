@@ -1,6 +1,5 @@
 use Rattle.std.proofs.Common.{◌≡◌, ◌∙◌, rules, sym, string_bytes}
-use Rattle.std.specs.Prelude.{encode_utf8_all}
-use Rattle.std.specs.Str.{chars}
+use Rattle.std.specs.{Prelude.encode_utf8_all, Str.chars}
 use Rattle.properties_c.proofs.Texts.{encoded-text}
 use Rattle.properties_c.proofs.read.write_value.Goals as goal
 

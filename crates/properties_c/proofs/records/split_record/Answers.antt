@@ -1,6 +1,5 @@
 use Rattle.std.proofs.Common.{arith}
-use Rattle.properties_c.proofs.Packing.{sizes}
-use Rattle.properties_c.proofs.Splitting.{Splits-header, Splits-made, parted}
+use Rattle.properties_c.proofs.{Packing.sizes, Splitting.Splits-header, Splitting.Splits-made, Splitting.parted}
 use Rattle.properties_c.proofs.records.split_record.Goals as goal
 
 pub returns-in_default-split_at_checked : goal.returns-in_default-split_at_checked

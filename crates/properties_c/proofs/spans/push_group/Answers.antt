@@ -4,9 +4,7 @@ use Rattle.properties_text.specs.Escaping.{holds_backslash}
 use Rattle.properties_text.proofs.Texts.Resolving.{holds_backslash-text}
 use Rattle.properties_items.specs.BorrowedItems.{borrowed_content}
 use Rattle.properties_editing.specs.Views.{viewed_line}
-use Rattle.properties_c.specs.Items.{standing}
-use Rattle.properties_c.specs.Packed.{record_in, spanned}
-use Rattle.properties_c.specs.Private.Results.{content_record}
+use Rattle.properties_c.specs.{Items.standing, Packed.record_in, Packed.spanned, Private.Results.content_record}
 use Rattle.properties_c.proofs.GivenLines.{no-item, shown-read, shown-standing}
 use Rattle.properties_c.proofs.PackedGroups.{group-packed, is-not-read, raw-value, read-texts, standing-record}
 use Rattle.properties_c.proofs.spans.push_group.Goals as goal

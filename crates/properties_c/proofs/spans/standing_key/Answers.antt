@@ -1,5 +1,4 @@
-use Rattle.std.proofs.Common.{◌∙◌, ap, sym}
-use Rattle.std.proofs.lemmas.Str.{chars-nil}
+use Rattle.std.proofs.{Common.◌∙◌, Common.ap, Common.sym, lemmas.Str.chars-nil}
 use Rattle.properties_format.proofs.Split.Laws.{split-unique}
 use Rattle.properties_editing.specs.Views.{group_kind, viewed_line}
 use Rattle.properties_c.proofs.PackedGroups.{no-key, raw-key}

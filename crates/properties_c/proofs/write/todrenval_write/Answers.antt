@@ -1,7 +1,6 @@
 use Rattle.std.proofs.Common.{◌≡◌, refl, rules, inl, inr}
 use Rattle.std.proofs.lemmas.List.{take_rest}
-use Rattle.std.specs.Prelude.{Ok, Err}
-use Rattle.std.specs.Str.{chars}
+use Rattle.std.specs.{Prelude.Ok, Prelude.Err, Str.chars}
 use Rattle.properties_text.specs.Encoding.{encoding_of}
 use Rattle.properties_c.specs.Writing.{settings_for}
 use Rattle.properties_c.proofs.WriterSettings.{lines-crossed}

@@ -1,8 +1,5 @@
-use Rattle.std.proofs.Common.{arith}
-use Rattle.std.proofs.lemmas.Bool.Decides.{nat_tests}
-use Rattle.properties_c.proofs.OneReading.{line-one, list-read}
-use Rattle.properties_c.proofs.ListFronts.{IsFirst-shorter}
-use Rattle.properties_c.proofs.WrittenLines.{added-refused, added-accepted}
+use Rattle.std.proofs.{Common.arith, lemmas.Bool.Decides.nat_tests}
+use Rattle.properties_c.proofs.{OneReading.line-one, OneReading.list-read, ListFronts.IsFirst-shorter, WrittenLines.added-refused, WrittenLines.added-accepted}
 use Rattle.properties_c.proofs.write.write_lines.Goals as goal
 
 pub loop-rest-smaller-then-has_refused : goal.loop-rest-smaller-then-has_refused

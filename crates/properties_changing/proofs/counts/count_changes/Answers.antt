@@ -16,7 +16,7 @@ loop-row-preserved c =
     let h = c.loop-row.invariant in
     let changed = h.few_changed in
     let kept = h.few_kept in
-    elim c.match-find.branch [
+    elim c.match-find_near.branch [
       | in-Some w ↦
           let told : w.ne.result ≡ not (bytes_eq (get_or olds c.loop-row.row no_row).value (get_or news w.in-Some.found no_row).value) =
           w.ne.ensures ∙ ap not (same-characters w.value.result.now w.value-in-Some.result.now w.value.utf8 w.value-in-Some.utf8)
@@ -28,7 +28,7 @@ loop-row-preserved c =
             few_changed = omega arith;
             few_kept = omega arith;
             counted = more-kept olds news c.loop-row.row c.loop-row.changed c.loop-row.kept no_row below h.counted _ w.in-Some.found no_row _ _ w.ne.result
-                changes keeps (c.key.ensures no_row) (rw w.in-Some.is at c.find.ensures) told;
+                changes keeps (c.key.ensures no_row) (rw w.in-Some.is at c.find_near.ensures) told;
           }
       | in_default w ↦
           let changes = w.changed-is in
@@ -37,7 +37,7 @@ loop-row-preserved c =
             few_changed = omega arith;
             few_kept = omega arith;
             counted = more-gone olds news c.loop-row.row c.loop-row.changed c.loop-row.kept no_row below h.counted _ _ _ changes keeps (c.key.ensures no_row)
-                (rw w.in_default.is at c.find.ensures);
+                (rw w.in_default.is at c.find_near.ensures);
           }
     ]
 
