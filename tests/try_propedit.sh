@@ -526,18 +526,16 @@ run check --pairs --base base.properties two.properties base.properties
 gives 0 '' ''
 run check --base base.properties two.properties
 gives 1 "$comment" ''
-# A key of a malformed pair is in neither, and if a line is ill-formed, keys with U+FFFD aren't compared.
+# A key beside a malformed value is there, and if a line is ill-formed, keys with U+FFFD aren't compared.
 printf 'title=1\nprice=\\u12\na\\ key=\xe9\nabout=\n\xe8=1\nnew=1\n' >one.properties
 run check --base base.properties one.properties
 gives 1 'one.properties:2: Malformed \\uxxxx encoding: not enough digits.
 one.properties:3: not UTF-8; if it is in windows-1252 or Latin-1, -e windows-1252 reads it
 one.properties:5: not UTF-8
-one.properties: key \x27price\x27 is missing (base.properties:2)
 one.properties:6: key \x27new\x27 is not in base.properties
 ' ''
 run check -e latin1 --base base.properties one.properties
 gives 1 'one.properties:2: Malformed \\uxxxx encoding: not enough digits.
-one.properties: key \x27price\x27 is missing (base.properties:2)
 one.properties:5: key \x27\xc3\xa8\x27 is not in base.properties
 one.properties:6: key \x27new\x27 is not in base.properties
 ' ''

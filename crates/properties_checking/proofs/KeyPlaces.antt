@@ -53,7 +53,7 @@ places_in (e ∷ es) = places_in es
 keys-places : (fs : List Finding) → keys_among fs ≡ places_in (found_pairs fs)
 keys-places [] = refl
 keys-places (found_pair number key value ∷ fs) = ap (λ v. place number key ∷ v) (keys-places fs)
-keys-places (found_escape escape ∷ fs) = keys-places fs
+keys-places (found_escape escape x ∷ fs) = keys-places fs
 
 first-at : (before : List Entry) (n : ℕ) (key value : List ℕ) (after : List Entry) → HasNoPair key before
     → first_place (places_in (before ++ item n (pair key value) ∷ after)) key ≡ Some n

@@ -1,6 +1,6 @@
 -- What is wrong in the logical lines of a source, as it is taken.
-use Rattle.std.proofs.Common.{◌≡◌, ℕ, Bool, List, [], ◌∷◌, ◌++◌, map, refl, sym, ap, ◌∙◌, subst, append_assoc, append-nil}
-use Rattle.std.specs.Prelude.{Result, Ok, Err, OnOk}
+use Rattle.std.proofs.Common.{◌≡◌, ℕ, Bool, List, [], ◌∷◌, ◌++◌, map, refl, sym, ap, ◌∙◌, inl, inr, subst, append_assoc, append-nil}
+use Rattle.std.specs.Prelude.{None, Result, Ok, Err, OnOk}
 use Rattle.std.specs.declared.alloc.AllocError.{AllocError}
 use Rattle.std.specs.List.{flat_map}
 use Rattle.std.specs.Option.{unwrap_or}
@@ -16,16 +16,20 @@ use Rattle.java_properties.specs.Findings.{KeyEntry, KeyPlace}
 use Rattle.java_properties.proofs.KeyLines.{entries-added, first_place, groups-key_lines, key_entries, keys_in}
 use Rattle.properties_tables.specs.Private.Fold.{escapes_among, found_escape, found_pair, keys_among, found_pairs, Takes, TakesAll, TookSome}
 use Rattle.properties_tables.specs.Private.Fold as fold
-use Rattle.properties_checking.specs.Private.Checking.{no_place, place_at, row_findings, said_of}
+use Rattle.properties_checking.specs.Private.Checking.{no_place, place_at, row_findings, said_of, FindsSoundKeys}
 use Rattle.properties_checking.specs.Private.LineFindings.{NotesPair, FindsInLines, TookFindings}
-use Rattle.properties_tables.specs.Private.Table.{table_places, HoldPlaces, IsKeyTable}
+use Rattle.properties_tables.specs.Private.Table.{table_places, HasPlaces, HoldPlaces, IsKeyTable, TookKeys}
+use Rattle.properties_tables.specs.SoundKeys.{AreKeyedPairs}
+use Rattle.properties_tables.specs.declared.key_table.KeyTable.{KeyTable}
+use Rattle.properties_tables.specs.Sources.{first_in_pair}
 use Rattle.properties_checking.specs.Check.{repeats_of}
 use Rattle.properties_checking.specs.declared.check.Finding.{Finding}
 use Rattle.properties_checking.specs.declared.line_findings.LineFindings.{LineFindings}
 use Rattle.properties_tables.proofs.SourceFindings.{escapes-append, escapes-groups, findings-groups, keys-append, keys-groups, pairs-append}
 use Rattle.properties_checking.proofs.CheckFindings.{said-row}
 use Rattle.properties_checking.proofs.KeyPlaces.{puts-at, puts-extends, puts-number}
-use Rattle.properties_tables.proofs.Rows.{places-none, places-put, places-read}
+use Rattle.properties_tables.proofs.KeyedPairs.{keyed-read, keyed-same}
+use Rattle.properties_tables.proofs.Rows.{places-none, places-put}
 
 -- ---- one key more
 
@@ -107,10 +111,10 @@ module _ (old new : LineFindings) (setting : new.is_well_formed ≡ old.is_well_
   took-result number key value (Err error) none kept = tt
 
   -- a malformed escape
-  pub took-escape : (escape : MalformedEscape) → new.escapes.items ≡ old.escapes.items ++ escape ∷ [] → new.repeats ≡ old.repeats
-      → new.keys ≡ old.keys → Takes TookFindings old (found_escape escape) new
-  took-escape escape added repeats keys = λ first findings took.
-      let more = found_escape escape ∷ [] in
+  pub took-escape : (escape : MalformedEscape) (x : List ℕ) → new.escapes.items ≡ old.escapes.items ++ escape ∷ [] → new.repeats ≡ old.repeats
+      → new.keys ≡ old.keys → Takes TookFindings old (found_escape escape x) new
+  took-escape escape x added repeats keys = λ first findings took.
+      let more = found_escape escape x ∷ [] in
       let stays = keys-append findings more ∙ append-nil (keys_among findings) in
       record {
         setting = setting ∙ took.setting;
@@ -147,5 +151,22 @@ findings-read e source first (Ok new) (findings, are, took) =
       repeats = ap (λ v. map (said_of v) new.repeats.items) (sym (append-nil P)) ∙ took.repeats []
           ∙ ap (λ v. flat_map (repeats_of first.is_well_formed) (key_entries v)) (ap keys_among g.2 ∙ keys-groups g.0);
       table = took.table;
-      places = places-read e source findings are P took.hold;
+      places = λ none.
+          let same = keyed-same findings (ap first_in_pair (sym took.escapes) ∙ none) in
+          keyed-read e source findings P are (subst (λ v. HoldPlaces v P) (sym same) took.hold);
     }
+
+-- ---- its keys
+
+-- all of them, in another pass
+pub sound-read : (e : Encoding) (source : List ℕ) (first keys : KeyTable) (escapes : List MalformedEscape) (result : Result KeyTable PropertiesError)
+    → TakesAll TookKeys first e source result → FindsSoundKeys e source keys escapes result
+sound-read e source first keys escapes (Ok t) (findings, are, took) = inr (took.table, keyed-read e source findings (table_places t) are took.hold)
+sound-read e source first keys escapes (Err error) h = h
+
+-- either way
+pub keys-sound : (e : Encoding) (source : List ℕ) (keys t : KeyTable) (escapes : List MalformedEscape) → IsKeyTable keys
+    → (first_in_pair escapes ≡ None → HasPlaces (AreKeyedPairs e source) (table_places keys)) → FindsSoundKeys e source keys escapes (Ok t)
+    → IsKeyTable t × HasPlaces (AreKeyedPairs e source) (table_places t)
+keys-sound e source keys t escapes table places (inl (none, same)) = rw same (table, places none)
+keys-sound e source keys t escapes table places (inr h) = h

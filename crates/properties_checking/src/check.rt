@@ -8,13 +8,13 @@ ghost use Rattle.java_properties.specs.Findings.{KeyPlace};
 ghost use Rattle.properties_text.specs.Encoding.{encoding_of};
 ghost use Rattle.properties_checking.specs.Check.{comment_words, first_of, first_words, ill_formed_of, ill_formed_text, finding_kind, said_line, said_value, words_after, words_of, ReportsFindings};
 ghost use Rattle.properties_checking.specs.Kinds.{reported};
-ghost use Rattle.properties_checking.specs.Private.Checking.{escape_finding, finding_of, ill_formed_finding, place_at, said_of, what_of, ArrangesFindings, ChecksKeys, FindsBytes, FindsOtherBytes, FindsOtherwise, FindsRefused};
+ghost use Rattle.properties_checking.specs.Private.Checking.{escape_finding, finding_of, ill_formed_finding, place_at, said_of, what_of, ArrangesFindings, ChecksKeys, FindsBytes, FindsOtherBytes, FindsOtherwise, FindsRefused, FindsSoundKeys};
 ghost use Rattle.properties_checking.specs.Private.Objects.{AddsReport};
 ghost use Rattle.properties_tables.specs.Private.Table.{table_places, IsKeyTable};
 
 use crate::check_json::push_value;
 use crate::kinds::{Ignored, Kind};
-use crate::line_findings::line_findings;
+use crate::line_findings::{LineFindings, line_findings};
 use crate::misread::{Misread, find_misread};
 use crate::request::{Allowed, Check, Report};
 use java_properties::{Encoding, MalformedEscape, PropertiesError};
@@ -22,9 +22,10 @@ use properties_tables::error::{HOLDS_ZERO, NOT_UTF_8, NOT_UTF_8_BY_MARK, NOT_UTF
 use properties_tables::ill_formed::{
     Flaw, first_flawed_line, first_utf_8_line, flawed_lines, has_byte_order_mark, ill_formed_lines,
 };
+use properties_tables::fold::take_all;
 use properties_tables::key_table::KeyTable;
 use properties_tables::messages::Escaped;
-use properties_tables::sound::in_utf_16;
+use properties_tables::sound::{first_in_pair, in_utf_16};
 use properties_text::encoding::LineEncoding;
 use std::alloc::{AllocError, Global};
 use std::fmt::{self, Write};
@@ -107,12 +108,12 @@ pub fn report(
     Ok(checked(alloc, name, source, encoding, asked)?.text)
 }
 
-/// What is wrong in a source, and the keys of its pairs.
+/// What is wrong in a source, and its keys.
 #[derive(Drop)]
 pub struct Reported {
     /// What is wrong, as [`report`] returns it.
     pub text: String,
-    /// The keys of its pairs.
+    /// The keys of its pairs, also of those whose values are malformed.
     pub keys: KeyTable,
     /// Whether no line is ill-formed.
     pub is_well_formed: bool,
@@ -150,12 +151,31 @@ pub fn checked(
         report: asked.report,
         ignored: asked.ignored,
     };
-    push_findings(alloc, &mut text, heading, &in_lines.keys, &findings)?;
+    let LineFindings { escapes, keys, .. } = in_lines;
+    push_findings(alloc, &mut text, heading, &keys, &findings)?;
     Ok(Reported {
         text,
-        keys: in_lines.keys,
+        keys: sound_keys(alloc, source, encoding, keys, &escapes)?,
         is_well_formed: numbers.is_empty(),
     })
+}
+
+// Returns the keys of the pairs of a source, also of those whose values are malformed, given its malformed escapes and
+// the keys of its other pairs.
+fn sound_keys(
+    alloc: Global,
+    source: &[u8],
+    encoding: Encoding,
+    keys: KeyTable,
+    escapes: &[MalformedEscape],
+) -> Result<KeyTable, PropertiesError>
+    ensures { FindsSoundKeys (encoding_of encoding) source.now keys escapes.now result }
+{
+    if first_in_pair(escapes).is_none() {
+        return Ok(keys);
+    }
+    let none = KeyTable::for_source(alloc, source.len())?;
+    take_all(alloc, source, encoding, none)
 }
 
 fn push_first(

@@ -61,7 +61,12 @@ impl Taker for LineFindings {
     }
 
     #[tactic(auto, using(crate::proofs::LineFindings::taken))]
-    fn malformed(&mut self, escape: MalformedEscape) -> Result<(), AllocError> {
+    fn malformed(
+        &mut self,
+        _alloc: Global,
+        escape: MalformedEscape,
+        _line: &str,
+    ) -> Result<(), AllocError> {
         Ok(self.escapes.push(escape)?)
     }
 }

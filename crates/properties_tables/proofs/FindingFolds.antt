@@ -102,10 +102,10 @@ module _ {T : Type 0} (Took : T → List Finding → T → Type 0) (number : ℕ
   -- a malformed escape
   pub takes-malformed : (error : PropertiesError) (in_comment : Bool) → IsNoItem number x error → kind_of error ≢ kind.Memory
       → in_comment ≡ is_comment_line x
-      → Takes Took old (found_escape (record { line_number = number; kind = kind_of error; in_comment = in_comment })) new
+      → Takes Took old (found_escape (record { line_number = number; kind = kind_of error; in_comment = in_comment }) x) new
       → TakesLine Took number x old (Ok tt) new
   takes-malformed error in_comment (inl (how, is, says)) other same takes =
       subst (λ o. TakesSome Took old (outcome_finding number x o) new) (sym is)
-      (subst (λ b. Takes Took old (found_escape (record { line_number = number; kind = malformed_kind how; in_comment = b })) new) same
-      (subst (λ k. Takes Took old (found_escape (record { line_number = number; kind = k; in_comment = in_comment })) new) says.its_kind takes))
+      (subst (λ b. Takes Took old (found_escape (record { line_number = number; kind = malformed_kind how; in_comment = b }) x) new) same
+      (subst (λ k. Takes Took old (found_escape (record { line_number = number; kind = k; in_comment = in_comment }) x) new) says.its_kind takes))
   takes-malformed error in_comment (inr is) other same takes = absurd (other is.its_kind)

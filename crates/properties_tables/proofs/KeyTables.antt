@@ -13,17 +13,18 @@ use Rattle.std.proofs.lemmas.List.Elements.{All-append}
 use Rattle.std.proofs.lemmas.Slice.Eq.{bytes_eq-Decides}
 use Rattle.std.proofs.lemmas.Str.{encodes-chars}
 use Rattle.properties_format.specs.Encoding.{Encoding}
+use Rattle.properties_format.specs.Items.{pair, item}
 use Rattle.properties_format.specs.Computed.Maps.{HasNot}
 use Rattle.properties_format.proofs.Keys.{contained, contains}
 use Rattle.properties_format.proofs.Changed.Maps.{other-test, same-test}
 use Rattle.java_properties.specs.Findings.{KeyPlace}
 use Rattle.java_properties.specs.Private.LineByLine.{number_at}
 use Rattle.properties_items.specs.declared.findings.MalformedEscape.{MalformedEscape}
-use Rattle.properties_tables.specs.Private.Fold.{found_escape, found_pair, found_pairs, Takes, TakesSound}
+use Rattle.properties_tables.specs.Private.Fold.{found_escape, found_pair, keyed_pairs, Takes, TakesSound}
+use Rattle.properties_tables.proofs.KeyedPairs.{keyed-append, keyed-same}
 use Rattle.properties_tables.specs.Private.Table.{bytes_at, hash_from, in_slot, no_row, key_place_in, place_keys, table_places, row_bytes, slot_for, FindsKey, HoldPlaces, HoldsText, IsFound, IsKeyTable, KeptRow, PutsKey, ReadsKeys, SlotHas, TookKeys}
 use Rattle.properties_tables.specs.declared.key_table.KeyRow.{KeyRow}
 use Rattle.properties_tables.specs.declared.key_table.KeyTable.{KeyTable}
-use Rattle.properties_tables.proofs.SourceFindings.{pairs-append}
 use Rattle.properties_tables.proofs.FirstKeys.{has_not, no-both}
 use Rattle.properties_tables.proofs.HeldTexts.{holds-kept, kept-at}
 use Rattle.properties_tables.proofs.Rows.{all-one, places-none, places-put, places-read}
@@ -295,17 +296,34 @@ pub took-pair : (old new : KeyTable) (number : ℕ) (key value : List ℕ) (row 
     → Takes TookKeys old (found_pair number key value) new
 took-pair old new number key value row puts table = λ first findings took. record {
   table = table;
-  hold = subst (λ v. HoldPlaces v (table_places new)) (sym (pairs-append findings (found_pair number key value ∷ [])))
-      (places-put (found_pairs findings) number key value (table_places old) (table_places new) row took.hold puts);
+  hold = subst (λ v. HoldPlaces v (table_places new)) (sym (keyed-append findings (found_pair number key value ∷ [])))
+      (places-put (keyed_pairs findings) number key value (table_places old) (table_places new) row took.hold puts);
 }
 
 -- a malformed escape
-pub took-escape : (s : KeyTable) (escape : MalformedEscape) → Takes TookKeys s (found_escape escape) s
-took-escape s escape = λ first findings took. record {
+pub took-escape : (s : KeyTable) (escape : MalformedEscape) (x : List ℕ) → keyed_pairs (found_escape escape x ∷ []) ≡ []
+    → Takes TookKeys s (found_escape escape x) s
+took-escape s escape x none = λ first findings took. record {
   table = took.table;
-  hold = subst (λ v. HoldPlaces v (table_places s)) (sym (pairs-append findings (found_escape escape ∷ []) ∙ append-nil (found_pairs findings))) took.hold;
+  hold = subst (λ v. HoldPlaces v (table_places s))
+      (sym (keyed-append findings (found_escape escape x ∷ []) ∙ ap (λ v. keyed_pairs findings ++ v) none ∙ append-nil (keyed_pairs findings))) took.hold;
+}
+
+-- and one of a value
+pub took-keyed : (old new : KeyTable) (escape : MalformedEscape) (x key : List ℕ) (row : ℕ)
+    → keyed_pairs (found_escape escape x ∷ []) ≡ item escape.line_number (pair key []) ∷ []
+    → PutsKey escape.line_number key (table_places old) row (table_places new) → IsKeyTable new → Takes TookKeys old (found_escape escape x) new
+took-keyed old new escape x key row one puts table = λ first findings took. record {
+  table = table;
+  hold = subst (λ v. HoldPlaces v (table_places new))
+      (sym (keyed-append findings (found_escape escape x ∷ []) ∙ ap (λ v. keyed_pairs findings ++ v) one))
+      (places-put (keyed_pairs findings) escape.line_number key [] (table_places old) (table_places new) row took.hold puts);
 }
 
 -- the keys of a source
 pub reads-keys : (e : Encoding) (source : List ℕ) (first t : KeyTable) → TakesSound TookKeys first e source (Ok t) → ReadsKeys e source (Ok t.keys)
-reads-keys e source first t (sound, (findings, are, took)) = (sound, took.table.texts, places-read e source findings are (table_places t) took.hold)
+reads-keys e source first t (sound, (findings, are, none, took)) = (
+  sound,
+  took.table.texts,
+  places-read e source findings are (table_places t) (subst (λ v. HoldPlaces v (table_places t)) (keyed-same findings none) took.hold),
+)

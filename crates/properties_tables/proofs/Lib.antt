@@ -5,6 +5,7 @@ pub mod FlawedLines
 pub mod FindingFolds
 pub mod HeldTexts
 pub mod KeyTables
+pub mod KeyedPairs
 pub mod Marks
 pub mod NonAscii
 pub mod PairedUnits

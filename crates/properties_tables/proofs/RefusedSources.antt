@@ -92,11 +92,11 @@ first-kept findings number key value =
     ap first_in_pair (escapes-append findings (found_pair number key value ∷ []) ∙ append-nil (escapes_among findings))
 
 -- one more malformed escape
-pub first-more : (findings : List Finding) (escape : MalformedEscape) (old new : Option MalformedEscape) → old ≡ first_in_pair (escapes_among findings)
-    → new ≡ or_else old (first_in_pair (escape ∷ [])) → new ≡ first_in_pair (escapes_among (findings ++ found_escape escape ∷ []))
-first-more findings escape old new before now =
+pub first-more : (findings : List Finding) (escape : MalformedEscape) (x : List ℕ) (old new : Option MalformedEscape) → old ≡ first_in_pair (escapes_among findings)
+    → new ≡ or_else old (first_in_pair (escape ∷ [])) → new ≡ first_in_pair (escapes_among (findings ++ found_escape escape x ∷ []))
+first-more findings escape x old new before now =
     now ∙ ap (λ o. or_else o (first_in_pair (escape ∷ []))) before
-    ∙ sym (ap first_in_pair (escapes-append findings (found_escape escape ∷ [])) ∙ first-append (escapes_among findings) (escape ∷ []))
+    ∙ sym (ap first_in_pair (escapes-append findings (found_escape escape x ∷ [])) ∙ first-append (escapes_among findings) (escape ∷ []))
 
 module _ (e : Encoding) (source : List ℕ) (findings : List Finding) (are : AreFindings e source findings) where
   -- No escape of a pair is malformed.

@@ -194,7 +194,7 @@ module _ (e : Encoding) (source : List ℕ) (findings : List Finding) (are : Are
       (pairs_in g.0, found-in_groups _ g.1, ap found_pairs g.2 ∙ pairs-groups g.0)
 
   -- The keys are those of the source,
-  pub places-read : (places : List KeyPlace) → HoldPlaces (found_pairs findings) places → HasPlaces e source places
+  pub places-read : (places : List KeyPlace) → HoldPlaces (found_pairs findings) places → HasPlaces (ArePairs e source) places
   places-read places h =
       let p = pairs-found in
       let k : HoldPlaces p.0 places = subst (λ v. HoldPlaces v places) p.2 h in

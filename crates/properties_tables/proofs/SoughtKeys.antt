@@ -193,16 +193,16 @@ module _ (old new : Sought) (number : ℕ) (key value : List ℕ) (seeking : IsS
       (ap (λ v. Some (Some v)) is ∙ sym (ap (λ o. option_map (λ h. Some value) (option_map (option_map characters) o)) found)))
 
 -- a malformed escape
-pub took-escape : (old new : Sought) (escape : MalformedEscape) → new.values ≡ old.values → new.marks ≡ old.marks
-    → new.malformed ≡ or_else old.malformed (first_in_pair (escape ∷ [])) → Takes TookSought old (found_escape escape) new
-took-escape old new escape values marks now_first = λ first findings took. record {
-  malformed = first-more findings escape old.malformed new.malformed took.malformed now_first;
+pub took-escape : (old new : Sought) (escape : MalformedEscape) (x : List ℕ) → new.values ≡ old.values → new.marks ≡ old.marks
+    → new.malformed ≡ or_else old.malformed (first_in_pair (escape ∷ [])) → Takes TookSought old (found_escape escape x) new
+took-escape old new escape x values marks now_first = λ first findings took. record {
+  malformed = first-more findings escape x old.malformed new.malformed took.malformed now_first;
   seeking = record {
     ordered = rw values took.seeking.ordered;
     some = rw marks took.seeking.some;
     marked = λ key value held. rw marks (took.seeking.marked key value (rw values at held));
   };
-  values = λ key. rw (values, pairs-append findings (found_escape escape ∷ []) ∙ append-nil (found_pairs findings)) (took.values key);
+  values = λ key. rw (values, pairs-append findings (found_escape escape x ∷ []) ∙ append-nil (found_pairs findings)) (took.values key);
 }
 
 -- ---- a source

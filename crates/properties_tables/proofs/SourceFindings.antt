@@ -69,14 +69,14 @@ escapes-groups (g ∷ gs) = escapes-step (first_number g) (joined g) (findings_i
 pub pairs-append : (fs gs : List Finding) → found_pairs (fs ++ gs) ≡ found_pairs fs ++ found_pairs gs
 pairs-append [] gs = refl
 pairs-append (found_pair number key value ∷ fs) gs = ap (λ v. item number (pair key value) ∷ v) (pairs-append fs gs)
-pairs-append (found_escape escape ∷ fs) gs = pairs-append fs gs
+pairs-append (found_escape escape x ∷ fs) gs = pairs-append fs gs
 
 pub keys-append : (fs gs : List Finding) → keys_among (fs ++ gs) ≡ keys_among fs ++ keys_among gs
 keys-append [] gs = refl
 keys-append (found_pair number key value ∷ fs) gs = ap (λ v. place number key ∷ v) (keys-append fs gs)
-keys-append (found_escape escape ∷ fs) gs = keys-append fs gs
+keys-append (found_escape escape x ∷ fs) gs = keys-append fs gs
 
 pub escapes-append : (fs gs : List Finding) → escapes_among (fs ++ gs) ≡ escapes_among fs ++ escapes_among gs
 escapes-append [] gs = refl
 escapes-append (found_pair number key value ∷ fs) gs = escapes-append fs gs
-escapes-append (found_escape escape ∷ fs) gs = ap (λ v. escape ∷ v) (escapes-append fs gs)
+escapes-append (found_escape escape x ∷ fs) gs = ap (λ v. escape ∷ v) (escapes-append fs gs)

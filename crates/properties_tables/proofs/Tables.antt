@@ -200,13 +200,13 @@ took-pair old new number key value row puts table = λ first findings took. reco
 }
 
 -- a malformed escape
-pub took-escape : (t : Table) (escape : MalformedEscape) → Takes TookRows t (found_escape escape) t
-took-escape t escape = λ first findings took. record {
+pub took-escape : (t : Table) (escape : MalformedEscape) (x : List ℕ) → Takes TookRows t (found_escape escape x) t
+took-escape t escape x = λ first findings took. record {
   table = took.table;
-  hold = subst (λ v. HoldRows v (rows_of t)) (sym (pairs-append findings (found_escape escape ∷ []) ∙ append-nil (found_pairs findings))) took.hold;
+  hold = subst (λ v. HoldRows v (rows_of t)) (sym (pairs-append findings (found_escape escape x ∷ []) ∙ append-nil (found_pairs findings))) took.hold;
 }
 
 -- the rows of a source
 pub reads-table : (e : Encoding) (source : List ℕ) (first : Table) (r : Result Table Failure) → TakesSound TookRows first e source r → ReadsTable e source r
-reads-table e source first (Ok t) (sound, (findings, are, took)) = (sound, took.table, rows-read e source findings are (rows_of t) took.hold)
+reads-table e source first (Ok t) (sound, (findings, are, none, took)) = (sound, took.table, rows-read e source findings are (rows_of t) took.hold)
 reads-table e source first (Err failure) h = h

@@ -28,10 +28,15 @@ pub trait Taker: Drop {
         requires { TookSome took self.old }
         ensures { OnOk result (Takes took self.old (found_pair line_number (chars key.now) (chars value.now)) self.new) };
 
-    /// Takes the first malformed escape of a logical line.
-    fn malformed(&mut self, escape: MalformedEscape) -> Result<(), AllocError>
+    /// Takes the first malformed escape of a logical line, which is this one.
+    fn malformed(
+        &mut self,
+        alloc: Global,
+        escape: MalformedEscape,
+        line: &str,
+    ) -> Result<(), AllocError>
         requires { TookSome took self.old }
-        ensures { OnOk result (Takes took self.old (found_escape escape) self.new) };
+        ensures { OnOk result (Takes took self.old (found_escape escape (chars line.now)) self.new) };
 }
 
 /// Has a taker take each pair of a source, and the first malformed escape of each logical line. Fails only if memory
@@ -71,7 +76,7 @@ fn take_line<T: Taker>(
             Ok(take_item(alloc, taker, line_number, item)?)
         }
         Ok(None) => Ok(()),
-        Err(error) => take_malformed(taker, line_number, line, error),
+        Err(error) => take_malformed(alloc, taker, line_number, line, error),
     }
 }
 
@@ -96,6 +101,7 @@ fn take_item<T: Taker>(
 
 // Has it take the malformed escape of a logical line. Fails if memory ran out.
 fn take_malformed<T: Taker>(
+    alloc: Global,
     taker: &mut T,
     line_number: usize,
     line: &str,
@@ -113,7 +119,7 @@ fn take_malformed<T: Taker>(
                 kind,
                 in_comment: is_comment(line.as_bytes()),
             };
-            Ok(taker.malformed(escape)?)
+            Ok(taker.malformed(alloc, escape, line)?)
         }
     }
 }

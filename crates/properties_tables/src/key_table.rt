@@ -6,14 +6,17 @@ ghost use Rattle.std.specs.Str.{chars};
 ghost use Rattle.std.specs.String.{string_cmp};
 ghost use Rattle.java_properties.specs.Findings.{KeyPlace};
 ghost use Rattle.properties_text.specs.Encoding.{encoding_of};
-ghost use Rattle.properties_tables.specs.Private.Table.{hash_after, place_keys, places_in, table_places, slot_for, FindsKey, HoldKeys, IsKeyTable, KeepsRow, PutsKey, ReadsKeys, TookKeys};
+ghost use Rattle.properties_tables.specs.Private.Table.{hash_after, place_keys, places_in, table_places, slot_for, FindsKey, HoldKeys, IsKeyTable, KeepsRow, PutsKey, ReadsKeys, TellsSoundKey, TookKeys};
 
 use crate::error::Failure;
 use crate::fold::Taker;
 use crate::sound_pairs::take_sound;
 use crate::texts::{Place, append, text_at};
 use java_properties::{Encoding, MalformedEscape};
+use properties_text::escape::{UnescapeError, unescape};
+use properties_text::parse::{ParsedSpans, parse_spans};
 use std::alloc::{AllocError, Global};
+use std::borrow::CowStr;
 use std::collections::BTreeMap;
 
 // The factor of the hash.
@@ -234,8 +237,36 @@ impl Taker for KeyTable {
         Ok(())
     }
 
-    fn malformed(&mut self, _escape: MalformedEscape) -> Result<(), AllocError> {
+    // If the value alone is malformed, the key is one all the same.
+    fn malformed(
+        &mut self,
+        alloc: Global,
+        escape: MalformedEscape,
+        line: &str,
+    ) -> Result<(), AllocError> {
+        if escape.in_comment {
+            return Ok(());
+        }
+        let Some(key) = sound_key(alloc, line)? else {
+            return Ok(());
+        };
+        self.put(alloc, escape.line_number, key.as_str())?;
         Ok(())
+    }
+}
+
+// Returns the key of a logical line, if the line is a pair and no escape of its key is malformed.
+fn sound_key(alloc: Global, line: &str) -> Result<Option<CowStr<'_>>, AllocError>
+    ensures { IfOk result (TellsSoundKey (chars line.now)) }
+{
+    match parse_spans(line) {
+        Some(ParsedSpans::KVPair(key, _)) => match unescape(alloc, key.cut(line)) {
+            Ok(key) => Ok(Some(key)),
+            Err(UnescapeError::Malformed(_)) => Ok(None),
+            Err(UnescapeError::Memory) => Err(AllocError),
+        },
+        Some(ParsedSpans::Comment(_)) => Ok(None),
+        None => Ok(None),
     }
 }
 

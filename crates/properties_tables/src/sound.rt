@@ -23,8 +23,8 @@ pub fn refuse_unsound(alloc: Global, source: &[u8], encoding: Encoding) -> Resul
     }
 }
 
-// Returns the first escape that isn't in a comment.
-fn first_in_pair(escapes: &[MalformedEscape]) -> Option<MalformedEscape>
+/// Returns the first escape that isn't in a comment.
+pub fn first_in_pair(escapes: &[MalformedEscape]) -> Option<MalformedEscape>
     ensures { result ≡ first_in_pair escapes.now }
 {
     for escape in escapes {

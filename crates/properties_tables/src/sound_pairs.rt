@@ -55,9 +55,14 @@ impl<T: Taker> Taker for Refusing<T> {
         self.taker.pair(alloc, line_number, key, value)
     }
 
-    fn malformed(&mut self, escape: MalformedEscape) -> Result<(), AllocError> {
+    fn malformed(
+        &mut self,
+        alloc: Global,
+        escape: MalformedEscape,
+        line: &str,
+    ) -> Result<(), AllocError> {
         self.malformed = first_of(self.malformed, escape);
-        self.taker.malformed(escape)
+        self.taker.malformed(alloc, escape, line)
     }
 }
 

@@ -148,7 +148,12 @@ impl Taker for Table {
         Ok(())
     }
 
-    fn malformed(&mut self, _escape: MalformedEscape) -> Result<(), AllocError> {
+    fn malformed(
+        &mut self,
+        _alloc: Global,
+        _escape: MalformedEscape,
+        _line: &str,
+    ) -> Result<(), AllocError> {
         Ok(())
     }
 }

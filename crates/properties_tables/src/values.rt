@@ -126,7 +126,12 @@ impl Taker for Sought {
         Ok(())
     }
 
-    fn malformed(&mut self, escape: MalformedEscape) -> Result<(), AllocError> {
+    fn malformed(
+        &mut self,
+        _alloc: Global,
+        escape: MalformedEscape,
+        _line: &str,
+    ) -> Result<(), AllocError> {
         self.malformed = first_of(self.malformed, escape);
         Ok(())
     }

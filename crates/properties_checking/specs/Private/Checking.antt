@@ -1,5 +1,5 @@
 -- The findings of a check, as the code holds them.
-use Rattle.std.specs.Prelude.{◌≡◌, ℕ, ◌==◌, ◌&&◌, not, Bool, if◌then◌else◌, get_or, length, List, [], ◌∷◌, Result, Ok, Err, string_bytes}
+use Rattle.std.specs.Prelude.{◌≡◌, ◌⊎◌, None, ℕ, ◌==◌, ◌&&◌, not, Bool, if◌then◌else◌, get_or, length, List, [], ◌∷◌, Result, Ok, Err, string_bytes}
 use Rattle.std.specs.Global.{Vec}
 use Rattle.std.specs.List.Sorted.{IsNonDecreasingBy, IsStableByKey}
 use Rattle.std.specs.Ordering.{nat_cmp}
@@ -12,6 +12,9 @@ use Rattle.properties_items.specs.declared.findings.MalformedEscape.{MalformedEs
 use Rattle.properties_tables.specs.Private.Table.{table_places, HasPlaces, IsKeyTable}
 use Rattle.properties_checking.specs.Check.{has_replacement, holds_zero, is_ill_formed, is_malformed, is_misread, is_non_ascii, is_read_otherwise, looks_like_utf_8, repeats_key, IsReport, SaidFinding, What, AreOtherBytes, AreOtherwise, AreRefused, AreWithBytes}
 use Rattle.properties_tables.specs.Lines.{AreFlawedLines}
+use Rattle.properties_tables.specs.SoundKeys.{AreKeyedPairs}
+use Rattle.properties_tables.specs.Sources.{first_in_pair}
+use Rattle.properties_tables.specs.declared.key_table.KeyTable.{KeyTable}
 use Rattle.properties_checking.specs.Misread.{AreMisread}
 use Rattle.properties_checking.specs.declared.check.Reported.{Reported}
 use Rattle.properties_checking.specs.declared.check.FindingKind.{FindingKind}
@@ -86,10 +89,16 @@ FindsMisread e source (Err error) = IsBareError kind.Memory error
 pub record IsChecked (name : List ℕ) (e : Encoding) (check : Check) (source : List ℕ) (c : Reported) : Type 0 where
   pub report : IsReport name e check source (string_bytes c.text)
   pub table : IsKeyTable c.keys
-  pub places : HasPlaces e source (table_places c.keys)
+  pub places : HasPlaces (AreKeyedPairs e source) (table_places c.keys)
   pub ill_formed : List ℕ
   pub are_ill_formed : AreFlawedLines flaw.IllFormed e source ill_formed
   pub well_formed : c.is_well_formed ≡ (length ill_formed == 0)
+
+-- What returns the sound keys of a source, given those of its pairs and its malformed escapes. It fails only if memory runs out.
+abbrev pub FindsSoundKeys : Encoding → List ℕ → KeyTable → List MalformedEscape → Result KeyTable PropertiesError → Type 0
+FindsSoundKeys e source keys escapes (Ok t) =
+    ((first_in_pair escapes ≡ None) × (t ≡ keys)) ⊎ (IsKeyTable t × HasPlaces (AreKeyedPairs e source) (table_places t))
+FindsSoundKeys e source keys escapes (Err error) = IsBareError kind.Memory error
 
 -- What checking returns. It fails only if memory runs out.
 abbrev pub ChecksKeys : Encoding → Check → List ℕ → List ℕ → Result Reported PropertiesError → Type 0

@@ -1,5 +1,5 @@
 -- What is found wrong in a source, line by line.
-use Rattle.std.specs.Prelude.{◌≡◌, ℕ, List, Result, Ok, Err, ◌+◌, map, ◌++◌, Bool}
+use Rattle.std.specs.Prelude.{◌≡◌, ℕ, None, List, Result, Ok, Err, ◌+◌, map, ◌++◌, Bool}
 use Rattle.properties_format.specs.Encoding.{Encoding}
 use Rattle.properties_format.specs.Found.{AreMalformedEscapes}
 use Rattle.properties_items.specs.Errors.{IsBareError}
@@ -9,6 +9,8 @@ use Rattle.std.specs.List.{flat_map}
 use Rattle.java_properties.specs.Findings.{AreKeyLines, KeyEntry, KeyPlace, escape_records}
 use Rattle.properties_checking.specs.Check.{repeats_of}
 use Rattle.properties_checking.specs.Private.Checking.{place_at, row_findings, said_of}
+use Rattle.properties_tables.specs.SoundKeys.{AreKeyedPairs}
+use Rattle.properties_tables.specs.Sources.{first_in_pair}
 use Rattle.properties_tables.specs.Private.Table.{table_places, HasPlaces, HoldPlaces, IsKeyTable, PutsKey}
 use Rattle.properties_checking.specs.declared.line_findings.LineFindings.{LineFindings}
 use Rattle.java_properties.proofs.KeyLines.{key_entries}
@@ -42,7 +44,7 @@ pub record HasLineFindings (e : Encoding) (w : Bool) (source : List ℕ) (found 
   pub are_keys : AreKeyLines e source keys
   pub repeats : map (said_of (table_places found.keys)) found.repeats.items ≡ flat_map (repeats_of w) keys
   pub table : IsKeyTable found.keys
-  pub places : HasPlaces e source (table_places found.keys)
+  pub places : first_in_pair found.escapes.items ≡ None → HasPlaces (AreKeyedPairs e source) (table_places found.keys)
 
 -- What finding them returns. It fails only if memory runs out.
 abbrev pub FindsInLines : Encoding → Bool → List ℕ → Result LineFindings PropertiesError → Type 0

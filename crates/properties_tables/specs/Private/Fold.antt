@@ -1,10 +1,14 @@
 -- What is found in a source, one logical line after another: its pairs and its malformed escapes; and what takes them.
-use Rattle.std.specs.Prelude.{◌≡◌, ℕ, List, [], ◌∷◌, ◌++◌, Option, Some, None, Result, Ok, Err}
+use Rattle.std.specs.Prelude.{◌≡◌, ℕ, if◌then◌else◌, List, [], ◌∷◌, ◌++◌, Option, Some, None, Result, Ok, Err}
 use Rattle.properties_format.specs.Encoding.{Encoding}
 use Rattle.properties_format.specs.Lines.{end, is_comment_line}
 use Rattle.properties_format.specs.Items.{comment, pair, Content, Entry, item, Outcome, ignored, given, broken}
 use Rattle.properties_format.specs.Found.{AreFound}
+use Rattle.properties_format.specs.Escapes.{Meaning, means, breaks}
+use Rattle.properties_format.specs.Split.{Logical}
+use Rattle.properties_format.specs.Computed.Escapes.{meaning_of}
 use Rattle.properties_format.specs.Computed.Items.{outcome_of}
+use Rattle.properties_format.specs.Computed.Split.{split_of}
 use Rattle.properties_items.specs.Errors.{malformed_kind, IsBareError}
 use Rattle.properties_items.specs.declared.error.ErrorKind.TheVariants as kind
 use Rattle.properties_items.specs.declared.error.PropertiesError.{PropertiesError}
@@ -15,10 +19,10 @@ use Rattle.properties_tables.specs.declared.error.Failure.{Failure}
 
 -- ---- findings
 
--- a pair, with the number of its first line; or the first malformed escape of a logical line
+-- a pair, with the number of its first line; or the first malformed escape of a logical line, with the line
 pub data Finding : Type 0 where
   found_pair : ℕ → List ℕ → List ℕ → Finding
-  found_escape : MalformedEscape → Finding
+  found_escape : MalformedEscape → List ℕ → Finding
 
 -- what a logical line with this number is, if it is a pair or malformed
 abbrev pub content_finding : ℕ → Content → Option Finding
@@ -28,7 +32,7 @@ content_finding number (comment text) = None
 abbrev pub outcome_finding : ℕ → List ℕ → Outcome → Option Finding
 outcome_finding number x ignored = None
 outcome_finding number x (given content) = content_finding number content
-outcome_finding number x (broken kind) = Some (found_escape (record { line_number = number; kind = malformed_kind kind; in_comment = is_comment_line x }))
+outcome_finding number x (broken kind) = Some (found_escape (record { line_number = number; kind = malformed_kind kind; in_comment = is_comment_line x }) x)
 
 -- that, before what the lines after it are
 abbrev pub before_some : {A : Type 0} → Option A → List A → List A
@@ -48,19 +52,40 @@ AreFindings e source findings = AreFound findings_from e source end findings
 abbrev pub found_pairs : List Finding → List Entry
 found_pairs [] = []
 found_pairs (found_pair number key value ∷ rest) = item number (pair key value) ∷ found_pairs rest
-found_pairs (found_escape escape ∷ rest) = found_pairs rest
+found_pairs (found_escape escape x ∷ rest) = found_pairs rest
 
--- their keys
+-- the key of a pair, if it is sound
+abbrev pub key_meant : Meaning → Option (List ℕ)
+key_meant (means key) = Some key
+key_meant (breaks kind) = None
+
+abbrev pub sound_key : Logical → Option (List ℕ)
+sound_key (Logical.pair raw_key raw_value) = key_meant (meaning_of raw_key)
+sound_key other = None
+
+-- a pair with a sound key before others
+abbrev pub with_key : ℕ → Option (List ℕ) → List Entry → List Entry
+with_key number None rest = rest
+with_key number (Some key) rest = item number (pair key []) ∷ rest
+
+-- the pairs, and those that have a sound key, but a malformed value
+abbrev pub keyed_pairs : List Finding → List Entry
+keyed_pairs [] = []
+keyed_pairs (found_pair number key value ∷ rest) = item number (pair key value) ∷ keyed_pairs rest
+keyed_pairs (found_escape escape x ∷ rest) =
+    if escape.in_comment then keyed_pairs rest else with_key escape.line_number (sound_key (split_of x)) (keyed_pairs rest)
+
+-- the keys of the pairs
 abbrev pub keys_among : List Finding → List KeyPlace
 keys_among [] = []
 keys_among (found_pair number key value ∷ rest) = record { number = number; key = key } ∷ keys_among rest
-keys_among (found_escape escape ∷ rest) = keys_among rest
+keys_among (found_escape escape x ∷ rest) = keys_among rest
 
 -- the malformed escapes
 abbrev pub escapes_among : List Finding → List MalformedEscape
 escapes_among [] = []
 escapes_among (found_pair number key value ∷ rest) = escapes_among rest
-escapes_among (found_escape escape ∷ rest) = escape ∷ escapes_among rest
+escapes_among (found_escape escape x ∷ rest) = escape ∷ escapes_among rest
 
 -- ---- what takes them
 
@@ -94,5 +119,6 @@ module _ {T : Type 0} (Took : T → List Finding → T → Type 0) where
 
   -- What having it take a source returns that is refused if it isn't sound.
   abbrev pub TakesSound : T → Encoding → List ℕ → Result T Failure → Type 0
-  TakesSound old e source (Ok new) = IsSound e source × ((findings : List Finding) × AreFindings e source findings × Took old findings new)
+  TakesSound old e source (Ok new) =
+      IsSound e source × ((findings : List Finding) × AreFindings e source findings × (first_in_pair (escapes_among findings) ≡ None) × Took old findings new)
   TakesSound old e source (Err failure) = IsUnsound e source failure

@@ -1,9 +1,8 @@
 -- What `check` says of the keys of a source beside those of another one, its base: which keys only one of the two has a
--- pair of. Comments, layout, spelling, order, values and pairs that repeat a key don't count, nor do malformed pairs.
+-- pair of. Comments, layout, spelling, order, values, also malformed ones, and pairs that repeat a key don't count.
 use Rattle.std.specs.Prelude.{◌≡◌, ◌↔◌, ℕ, ◌==◌, ◌&&◌, ◌||◌, not, length, Bool, true, List, [], ◌∷◌, ◌++◌, codes, map, All, AllPairs, Contains}
 use Rattle.std.specs.Fmt.{decimal}
 use Rattle.json.specs.Json.{member, no_members, number, object, string, Json}
-use Rattle.properties_format.specs.Edits.{ArePairs}
 use Rattle.properties_format.specs.Encoding.{Encoding}
 use Rattle.properties_format.specs.Items.{Entry}
 use Rattle.properties_format.specs.Text.{line_feed}
@@ -14,6 +13,7 @@ use Rattle.properties_checking.specs.Check.{has_replacement, IsReport}
 use Rattle.properties_checking.specs.JsonLines.{text_value, IsReportText}
 use Rattle.properties_checking.specs.Kinds.{kind_name, reported}
 use Rattle.properties_tables.specs.Lines.{AreFlawedLines}
+use Rattle.properties_tables.specs.SoundKeys.{AreKeyedPairs}
 use Rattle.properties_tables.specs.Table.{IsFirstLine}
 use Rattle.properties_tables.specs.declared.ill_formed.Flaw.TheVariants.{IllFormed}
 use Rattle.properties_checking.specs.declared.kinds.Kind.TheVariants.{MissingKey, SurplusKey}
@@ -59,7 +59,7 @@ pub record TellsWellFormed (e : Encoding) (source : List ℕ) (is_well_formed : 
 pub record IsBaseOf (name : List ℕ) (e : Encoding) (source : List ℕ) (base : KnownBase) : Type 0 where
   pub named : base.name ≡ name
   pub pairs : List Entry
-  pub are : ArePairs e source pairs
+  pub are : AreKeyedPairs e source pairs
   pub keys : AreKeyPlaces pairs base.keys
   pub well_formed : TellsWellFormed e source base.is_well_formed
 
@@ -108,7 +108,7 @@ pub record IsReportAgainst (base : KnownBase) (name : List ℕ) (e : Encoding) (
   pub report : List ℕ
   pub is_report : IsReport name e check source report
   pub pairs : List Entry
-  pub are : ArePairs e source pairs
+  pub are : AreKeyedPairs e source pairs
   pub is_well_formed : Bool
   pub well_formed : TellsWellFormed e source is_well_formed
   pub missing : List KeyPlace

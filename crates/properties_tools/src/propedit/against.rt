@@ -75,7 +75,7 @@ pub fn base_of(
 /// the source has, and which keys of the source no pair of the base has, unless these kinds are ignored. Fails only if
 /// memory runs out.
 ///
-/// Keys of malformed pairs don't count. If a line of either is ill-formed, keys with U+FFFD aren't compared, since that
+/// A key beside a malformed value is there; a malformed key isn't. If a line of either is ill-formed, keys with U+FFFD aren't compared, since that
 /// character may stand for any bytes.
 ///
 /// ```text

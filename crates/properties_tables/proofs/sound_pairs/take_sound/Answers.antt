@@ -19,5 +19,5 @@ returns-in-None g c =
         bytes = c.in_ok-refuse_bytes.ensures;
         in_comments = none-found (encoding_of c.args.encoding) c.args.source.now taken.0 taken.1 (sym c.in-None.is ∙ taken.2.1);
       },
-      (taken.0, taken.1, taken.2.0),
+      (taken.0, taken.1, sym taken.2.1 ∙ c.in-None.is, taken.2.0),
     )

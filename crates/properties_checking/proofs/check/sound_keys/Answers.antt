@@ -1,0 +1,11 @@
+use Rattle.properties_text.specs.Encoding.{encoding_of}
+use Rattle.properties_tables.proofs.KeyTables.{took-none}
+use Rattle.properties_checking.proofs.LineFindings.{sound-read}
+use Rattle.properties_checking.proofs.check.sound_keys.Goals as goal
+
+pub take_all-requires : goal.take_all-requires
+take_all-requires c = took-none _ c.in_ok-none.ensures.table c.in_ok-none.ensures.empty
+
+pub returns : goal.returns
+returns c =
+    sound-read (encoding_of c.args.encoding) c.args.source.now _ c.args.keys c.args.escapes.now c.take_all.result c.take_all.ensures
