@@ -31,6 +31,8 @@ IMPORT = r'Rattle\.([\w.]+?)(?:\.\{([^}]*)\}| as ([\w-]+))?'
 # What is before an import and after it, on a page and in code.
 USE = r'^[ \t]*(?:pub )?use ', r'[ \t]*$'
 GHOST_USE = r'ghost use\s+', r'\s*;'
+# Names of several pages in one import.
+JOINED = re.compile(r'^(use Rattle\.\w+\.\w+)\.\{([^}]*\w\.[^}]*)\}$', re.M)
 WORD = re.compile(r"[^\s(){}\[\],;.]+")
 
 
@@ -111,11 +113,16 @@ def items(text):
         found.append(item)
 
 
+def divided(joined):
+    """An import of names of several pages as one import for each name."""
+    return '\n'.join(f'{joined[1]}.{page}.{{{name}}}' for page, name in (it.rsplit('.', 1) for it in joined[2].split(', ')))
+
+
 class Page:
     """A page of definitions: what it imports, and its text without comments."""
 
     def __init__(self, text):
-        self.text = re.sub(r'^\s*--.*$', '', text, flags=re.M)
+        self.text = JOINED.sub(divided, re.sub(r'^\s*--.*$', '', text, flags=re.M))
         self.uses = uses_of(self.text, *USE)
         self.imported = len(re.findall(USE[0] + IMPORT + USE[1], self.text, re.M))
         self.hands_on = re.findall(r'^pub use Rattle\.([\w.]+)[ \t]*$', self.text, re.M)

@@ -1,17 +1,14 @@
 -- The arguments of edits, one edit after another.
 use Rattle.std.proofs.Common.{◌≡◌, ◌≢◌, ◌≤◌, ◌<◌, ◌-◌, ◌==◌, true, false, ℕ, List, [], ◌∷◌, ◌++◌, length, get_or, take, drop, map}
 use Rattle.std.proofs.Common.{refl, ap, sym, subst, ◌∙◌, append_assoc, append-nil, arith, true≢false, eqb-true}
-use Rattle.std.specs.Prelude.{codes, string_bytes}
-use Rattle.std.specs.declared.string.String.{String}
-use Rattle.std.specs.List.{list_any}
+use Rattle.std.specs.{Prelude.codes, Prelude.string_bytes, declared.string.String.String, List.list_any}
 use Rattle.std.proofs.lemmas.Grind.{common_steps}
 use Rattle.std.proofs.lemmas.List.{length-append, length-map, map-append, nil_from_length}
 use Rattle.propedit_arguments.specs.Private.Edits.{Edit, Meant, set, remove, rename, set_comment, Form, plain, literal, text_words, WrittenEdit, MayBegin, MayBeWritten, IsAssignment}
 use Rattle.propedit_arguments.specs.Private.Edits.{asked_edit, asked_edits, meant_edit, edit_words, written_words, IsMistakeAt, no_edit, no_key, no_value, no_new_key, no_text}
 use Rattle.propedit_arguments.specs.Private.Edits.{AreWrong, assignments, is_odd, is_sign, odd_key, odd_name}
 use Rattle.propedit_arguments.proofs.Assignments.{has-sign}
-use Rattle.propedit_arguments.specs.declared.edits.AskedEdit.{AskedEdit}
-use Rattle.propedit_arguments.specs.declared.mistake.Mistake.{Mistake}
+use Rattle.propedit_arguments.specs.{declared.edits.AskedEdit.AskedEdit, declared.mistake.Mistake.Mistake}
 
 -- the arguments of one edit more
 words-more : (ws : List WrittenEdit) (w : WrittenEdit) → written_words (ws ++ (w ∷ [])) ≡ written_words ws ++ edit_words w.form w.edit

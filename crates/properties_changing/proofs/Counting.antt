@@ -1,32 +1,18 @@
 -- Pairs that are counted.
 use Rattle.std.proofs.Common.{◌≡◌, ◌≢◌, ℕ, ◌+◌, ◌-◌, ◌<◌, ◌≤◌, true, false, List, [], ◌∷◌, length, take, get_or, refl, sym, ap, ap₂, subst, ◌∙◌, inl, inr, arith}
 use Rattle.std.specs.Prelude.{◌&&◌, not, Bool, AllPairs, bytes_eq, count_by, Contains, Option, Some, None, cond}
-use Rattle.std.specs.Bool.{Decides}
-use Rattle.std.specs.Int.{from_bool}
-use Rattle.std.specs.List.{filter}
-use Rattle.std.specs.Option.{is_some}
-use Rattle.std.specs.Set.{is_member}
-use Rattle.std.proofs.lemmas.Bool.{cases_Bool}
-use Rattle.std.proofs.lemmas.Cmp.{nat_list_eq_equiv}
-use Rattle.std.proofs.lemmas.List.{get_or-map, length-map, take_all}
-use Rattle.std.proofs.lemmas.List.Elements.{All-weaker}
-use Rattle.std.proofs.lemmas.List.Filters.{length-filter_both}
-use Rattle.std.proofs.lemmas.List.Kept.{AllPairs-filter}
+use Rattle.std.specs.{Bool.Decides, Int.from_bool, List.filter, Option.is_some, Set.is_member}
+use Rattle.std.proofs.{lemmas.Bool.cases_Bool, lemmas.Cmp.nat_list_eq_equiv, lemmas.List.get_or-map, lemmas.List.length-map, lemmas.List.take_all}
+use Rattle.std.proofs.{lemmas.List.Elements.All-weaker, lemmas.List.Filters.length-filter_both, lemmas.List.Kept.AllPairs-filter}
+use Rattle.std.proofs.lemmas.Slice.Eq.{bytes_eq-Decides}
 use Rattle.std.proofs.lemmas.List.Sums.{count_by-le-length, length-filter, sum_by-cons, sum_by_more}
 use Rattle.std.proofs.lemmas.Map.Made.{is_member-Decides, is_member-filter, length-IsIntersection, IsDistinct-from_AllPairs}
-use Rattle.std.proofs.lemmas.Slice.Eq.{bytes_eq-Decides}
-use Rattle.properties_format.specs.Computed.Maps.{HasNot}
-use Rattle.properties_format.specs.Encoding.{Encoding}
-use Rattle.properties_format.specs.Items.{Entry}
-use Rattle.properties_format.specs.Maps.{AreKeys, IsValue}
-use Rattle.properties_format.proofs.Keys.{contained}
-use Rattle.properties_format.proofs.Maps.{value_in, value_in-meets, value_in-only}
-use Rattle.properties_tables.specs.Sources.{IsSound}
+use Rattle.properties_format.specs.{Computed.Maps.HasNot, Encoding.Encoding, Items.Entry, Maps.AreKeys, Maps.IsValue}
+use Rattle.properties_format.proofs.{Keys.contained, Maps.value_in, Maps.value_in-meets, Maps.value_in-only}
+use Rattle.properties_tables.specs.{Sources.IsSound, Private.Table.FindsKey}
 use Rattle.properties_tables.specs.Table.{row_keys, AreRows, HasRows, IsRow, Row}
-use Rattle.properties_tables.specs.Private.Table.{FindsKey}
 use Rattle.properties_tables.proofs.FirstKeys.{no-both}
-use Rattle.properties_changing.specs.Counts.{is_changed, AreCounts}
-use Rattle.properties_changing.specs.Private.Counting.{AreRowValues, CountsKeys}
+use Rattle.properties_changing.specs.{Counts.is_changed, Counts.AreCounts, Private.Counting.AreRowValues, Private.Counting.CountsKeys}
 
 -- ---- one key more
 

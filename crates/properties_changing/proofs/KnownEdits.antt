@@ -1,17 +1,12 @@
 -- Edits of keys that a pair has.
 use Rattle.std.proofs.Common.{◌≡◌, ℕ, ◌+◌, ◌<◌, true, false, List, [], ◌∷◌, length, get_or, drop, refl, ap, sym, ◌∙◌, arith, inl, inr}
-use Rattle.std.specs.Prelude.{Option, Some, None}
-use Rattle.std.specs.Option.{is_some, option_map}
-use Rattle.std.specs.declared.string.String.{String}
+use Rattle.std.specs.{Prelude.Option, Prelude.Some, Prelude.None, Option.is_some, Option.option_map, declared.string.String.String}
 use Rattle.std.proofs.lemmas.List.{drop_more}
-use Rattle.properties_format.specs.Edits.{Edit}
-use Rattle.properties_format.specs.Encoding.{Encoding}
-use Rattle.java_properties.specs.Editing.{edit_in, edits_in}
-use Rattle.java_properties.specs.Maps.{characters}
+use Rattle.properties_format.specs.{Edits.Edit, Encoding.Encoding}
+use Rattle.java_properties.specs.{Editing.edit_in, Editing.edits_in, Maps.characters}
 use Rattle.properties_editing.specs.declared.edit.Edit as editor
-use Rattle.properties_changing.specs.Private.Collected.{with_values}
+use Rattle.properties_changing.specs.{Private.Collected.with_values, Change.edited_keys, Change.AreKnown}
 use Rattle.properties_tables.specs.Values.{value_texts, HaveValues}
-use Rattle.properties_changing.specs.Change.{edited_keys, AreKnown}
 
 -- Those that have a value in their place are those of which a pair has the key.
 pub known-are : (e : Encoding) (source : List ℕ) (edits : List Edit) (values : List (Option (List ℕ))) → HaveValues e source (edited_keys edits) values

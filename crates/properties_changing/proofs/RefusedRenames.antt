@@ -1,13 +1,11 @@
 -- Which of the renames of a list is refused, and which comment.
 use Rattle.std.proofs.Common.{◌≡◌, ℕ, ◌++◌, ◌∷◌, List, get_or, ap, subst, sym, ◌∙◌}
-use Rattle.std.proofs.Math.ListN.{get_or-map}
-use Rattle.std.proofs.Math.Seq.{get_or-append_seam}
+use Rattle.std.proofs.{Math.ListN.get_or-map, Math.Seq.get_or-append_seam}
 use Rattle.properties_format.specs.Encoding.{Encoding}
 use Rattle.properties_editing.specs.declared.source.SourceOptions.{SourceOptions}
 use Rattle.properties_renaming.specs.Commenting.{HasNoPairFor, NewText, text_in, texts_in}
 use Rattle.properties_renaming.specs.Renames.{IsRefusedAt, NewName, name_in, names_in}
-use Rattle.properties_renaming.specs.declared.commenting.NewComment.{NewComment}
-use Rattle.properties_renaming.specs.declared.renames.Rename.{Rename}
+use Rattle.properties_renaming.specs.{declared.commenting.NewComment.NewComment, declared.renames.Rename.Rename}
 
 -- what holds of the one that is refused, as told by its place in the list
 pub refused-as : (o : SourceOptions) (source : List ℕ) (renames : List Rename) (index : ℕ) (IsRefused IsTold : List ℕ → NewName → Type 0) (rename : Rename)

@@ -1,24 +1,16 @@
 -- Values of some keys that are looked up.
 use Rattle.std.proofs.Common.{◌≡◌, ℕ, ◌+◌, ◌<◌, true, List, [], ◌∷◌, ◌++◌, length, map, drop, get_or, zero, suc, refl, sym, ap, ◌∙◌, inl, inr, subst, arith}
 use Rattle.std.specs.Prelude.{◌⊎◌, ◌==◌, Option, Some, None, Ok}
-use Rattle.std.specs.Borrow.{Bor}
-use Rattle.std.specs.Option.{option_map}
-use Rattle.std.specs.Str.{chars}
-use Rattle.std.specs.declared.string.String.{String}
+use Rattle.std.specs.{Borrow.Bor, Option.option_map, Str.chars, declared.string.String.String}
 use Rattle.std.proofs.lemmas.Bool.{eqb-true}
 use native.Mathlib.Numerals.{unary_clauses}
-use Rattle.properties_format.specs.Encoding.{Encoding}
-use Rattle.properties_format.specs.Edits.{AreInComments, HasPairValue}
-use Rattle.properties_format.specs.Found.{MalformedEscape}
+use Rattle.properties_format.specs.{Encoding.Encoding, Edits.AreInComments, Edits.HasPairValue, Found.MalformedEscape}
 use Rattle.properties_format.proofs.MalformedEscapes.{malformed_escapes_of-only}
 use Rattle.java_properties.specs.Maps.{characters}
-use Rattle.properties_changing.specs.Keys.{HoldsKeys, IsFirstAbsent}
-use Rattle.properties_tables.specs.Failures.{IsMemoryFailure}
-use Rattle.properties_tables.specs.Values.{HaveValues, SaysMalformed}
-use Rattle.properties_tables.specs.Sources.{HasSoundBytes, IsSound, IsUnsound}
-use Rattle.properties_changing.specs.Change.{borrowed_characters}
-use Rattle.properties_changing.specs.Private.Collected.{first_without, FindsAbsent}
-use Rattle.properties_tables.specs.declared.error.Failure.{Failure}
+use Rattle.properties_changing.specs.{Keys.HoldsKeys, Keys.IsFirstAbsent, Change.borrowed_characters, Private.Collected.first_without}
+use Rattle.properties_changing.specs.Private.Collected.{FindsAbsent}
+use Rattle.properties_tables.specs.{Failures.IsMemoryFailure, Values.HaveValues, Values.SaysMalformed, Sources.HasSoundBytes, Sources.IsSound}
+use Rattle.properties_tables.specs.{Sources.IsUnsound, declared.error.Failure.Failure}
 
 -- ---- a source that is refused
 

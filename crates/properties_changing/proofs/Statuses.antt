@@ -4,14 +4,10 @@ use Rattle.std.specs.Prelude.{◌⊎◌, Err}
 use Rattle.counted_io.specs.Streams.{Sink}
 use Rattle.properties_format.specs.Encoding.{Encoding}
 use Rattle.properties_items.specs.declared.error.PropertiesError.{PropertiesError}
-use Rattle.properties_changing.specs.Change.{Changes}
-use Rattle.properties_tables.specs.Failures.{failure_status, PrintsFailure}
-use Rattle.properties_tables.specs.Sources.{IsUnsound}
-use Rattle.properties_changing.specs.InPlace.{PrintsRefusal}
-use Rattle.properties_changing.specs.Private.InPlace.{IsCountFailure}
-use Rattle.properties_changing.specs.declared.request.Change.{Change}
-use Rattle.properties_tables.specs.declared.error.Failure.{Failure}
-use Rattle.properties_tables.specs.declared.error.Failure.TheVariants.{Absent, Input, KeyTaken}
+use Rattle.properties_changing.specs.{Change.Changes, InPlace.PrintsRefusal, Private.InPlace.IsCountFailure, declared.request.Change.Change}
+use Rattle.properties_tables.specs.{Failures.failure_status, Failures.PrintsFailure, Sources.IsUnsound, declared.error.Failure.Failure}
+use Rattle.properties_tables.specs.{declared.error.Failure.TheVariants.Absent, declared.error.Failure.TheVariants.Input}
+use Rattle.properties_tables.specs.declared.error.Failure.TheVariants.{KeyTaken}
 
 -- That of a refused source is 2.
 unsound-status : (e : Encoding) (bytes : List ℕ) (failure : Failure) → IsUnsound e bytes failure → failure_status failure ≡ 2

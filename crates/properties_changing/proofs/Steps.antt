@@ -1,10 +1,8 @@
 -- Steps of a change, one after another.
 use Rattle.std.proofs.Common.{ℕ, List, [], ◌∷◌, ◌++◌, refl, subst}
-use Rattle.std.specs.Prelude.{Ok}
-use Rattle.std.specs.Global.{Vec}
+use Rattle.std.specs.{Prelude.Ok, Global.Vec}
 use Rattle.properties_format.specs.Encoding.{Encoding}
-use Rattle.properties_changing.specs.Change.{ChangesByStep, Leave}
-use Rattle.properties_changing.specs.declared.request.Step.{Step}
+use Rattle.properties_changing.specs.{Change.ChangesByStep, Change.Leave, declared.request.Step.Step}
 
 -- what one step more leaves
 pub leave-more : (e : Encoding) (source : List ℕ) (steps : List Step) (left : List ℕ) (s : Step) (bytes : Vec ℕ)

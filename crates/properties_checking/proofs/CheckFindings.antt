@@ -1,28 +1,20 @@
 -- What the findings of a check say.
 use Rattle.std.proofs.Common.{◌≡◌, ℕ, ◌<◌, Bool, List, [], ◌∷◌, ◌++◌, get_or, length, map, refl, ap, sym, ◌∙◌, inl, inr, subst, arith}
 use Rattle.std.specs.Prelude.{◌&&◌, ◌==◌, not, Option, Some, None, filter}
-use Rattle.std.specs.List.{flat_map}
-use Rattle.std.specs.Ordering.{nat_cmp, is_lt}
-use Rattle.std.specs.List.Sorted.{ties}
-use Rattle.std.proofs.lemmas.Bool.{cases_Bool}
-use Rattle.std.proofs.lemmas.List.{get_or-map, length-map, map-append}
-use Rattle.properties_format.specs.Encoding.{Encoding}
-use Rattle.properties_format.specs.Windows1252.{windows_1252_table}
+use Rattle.std.specs.{List.flat_map, Ordering.nat_cmp, Ordering.is_lt, List.Sorted.ties}
+use Rattle.std.proofs.{lemmas.Bool.cases_Bool, lemmas.List.get_or-map, lemmas.List.length-map, lemmas.List.map-append}
+use Rattle.properties_format.specs.{Encoding.Encoding, Windows1252.windows_1252_table, Lines.lines_in, Lines.Line}
 use Rattle.java_properties.specs.Findings.{KeyPlace}
 use Rattle.properties_items.specs.declared.findings.MalformedEscape.{MalformedEscape}
 use Rattle.properties_checking.specs.Private.Checking.{escape_finding, finding_of, ill_formed_finding, misread_finding, otherwise_finding, place_at, row_findings, said_of, what_of, ArrangesFindings}
 use Rattle.properties_checking.specs.Check.{first_of, has_replacement, ill_formed_of, is_ill_formed, is_malformed, is_misread, is_read_otherwise, other_bytes, repeats_key, repeats_of, said, words_after, AreOtherBytes, AreOtherwise, AreWithBytes, ArrangesByLine, SaidFinding}
-use Rattle.properties_checking.specs.declared.check.FindingKind.{FindingKind}
-use Rattle.properties_checking.specs.declared.check.FindingKind.TheVariants.{NonAscii, ReadOtherwise}
-use Rattle.properties_checking.specs.declared.check.Finding.{Finding}
-use Rattle.properties_checking.specs.declared.check.Words.{Words}
-use Rattle.properties_format.specs.Lines.{lines_in, Line}
+use Rattle.properties_checking.specs.{declared.check.FindingKind.FindingKind, declared.check.FindingKind.TheVariants.NonAscii}
+use Rattle.properties_checking.specs.{declared.check.FindingKind.TheVariants.ReadOtherwise, declared.check.Finding.Finding, declared.check.Words.Words}
+use Rattle.properties_checking.specs.{declared.misread.Misread.Misread, declared.misread.Misread.TheVariants.MarkInside}
+use Rattle.properties_checking.specs.{declared.check.FindingKind.TheVariants.Misread as MisreadKind, declared.request.Allowed.Allowed}
+use Rattle.properties_checking.specs.{declared.request.Allowed.TheVariants.All, declared.request.Allowed.TheVariants.Latin1}
+use Rattle.properties_checking.specs.declared.request.Allowed.TheVariants.{Ascii}
 use Rattle.properties_checking.specs.Misread.{last_number, lines_of_pairs, misread_at, misread_end, misread_mark, AreMisread, AreMisreadEnds}
-use Rattle.properties_checking.specs.declared.misread.Misread.{Misread}
-use Rattle.properties_checking.specs.declared.misread.Misread.TheVariants.{MarkInside}
-use Rattle.properties_checking.specs.declared.check.FindingKind.TheVariants.{Misread as MisreadKind}
-use Rattle.properties_checking.specs.declared.request.Allowed.{Allowed}
-use Rattle.properties_checking.specs.declared.request.Allowed.TheVariants.{All, Latin1, Ascii}
 
 abbrev otherwise_said : ℕ → ℕ → SaidFinding
 otherwise_said byte = said (is_read_otherwise byte)

@@ -1,22 +1,15 @@
 -- JSON that is printed a token at a time.
 use Rattle.std.proofs.Common.{◌≡◌, ◌≤◌, ℕ, List, [], ◌∷◌, ◌++◌, ◌∙◌, refl, ap, ap₂, sym, subst, arith, append_assoc, append-nil}
-use Rattle.std.specs.Prelude.{map, string_bytes}
-use Rattle.std.specs.Global.{Global}
-use Rattle.std.specs.declared.string.String.{String}
-use Rattle.std.specs.List.{flat_map}
-use Rattle.std.proofs.lemmas.Grind.{flat_map-append}
-use Rattle.std.proofs.lemmas.List.{map-append}
-use Rattle.json.specs.Json.{Json, max_depth}
-use Rattle.json.specs.Print.{print}
-use Rattle.json.specs.Token.{begin_object, end_object}
+use Rattle.std.specs.{Prelude.map, Prelude.string_bytes, Global.Global, declared.string.String.String, List.flat_map}
+use Rattle.std.proofs.{lemmas.Grind.flat_map-append, lemmas.List.map-append}
+use Rattle.json.specs.{Json.Json, Json.max_depth, Print.print, Token.begin_object, Token.end_object}
 use Rattle.json.specs.Tree.{depth, json_tokens, members_depth, members_tokens, HasNumbers, MembersHaveNumbers}
 use Rattle.json.proofs.Printed.Trees.{document-print}
 use Rattle.properties_format.specs.Text.{line_feed}
-use Rattle.properties_checking.specs.JsonLines.{AreJsonLines, IsJsonLine, IsReportText}
+use Rattle.properties_checking.specs.{JsonLines.AreJsonLines, JsonLines.IsJsonLine, JsonLines.IsReportText, declared.objects.Member.Member}
+use Rattle.properties_checking.specs.{declared.objects.Member.TheVariants.Number, declared.objects.Member.TheVariants.Text}
+use Rattle.properties_checking.specs.{declared.objects.Member.TheVariants.Truth, declared.request.Report.Report}
 use Rattle.properties_checking.specs.Private.Objects.{member_tokens, members_of, members_value, AddsJsonLine, AddsReport}
-use Rattle.properties_checking.specs.declared.objects.Member.{Member}
-use Rattle.properties_checking.specs.declared.objects.Member.TheVariants.{Number, Text, Truth}
-use Rattle.properties_checking.specs.declared.request.Report.{Report}
 use Rattle.properties_checking.specs.declared.request.Report.TheVariants as report
 
 -- A value that isn't too deep to be read was printed in a line.

@@ -1,11 +1,7 @@
 -- The rows of keys, and the lines of their first pairs.
 use Rattle.std.proofs.Common.{◌≡◌, ℕ, ◌<◌, List, [], ◌∷◌, ◌++◌, length, refl, ap, sym, ◌∙◌, inl, inr, subst, arith, append-nil}
-use Rattle.std.specs.Prelude.{Some, None}
-use Rattle.std.specs.Option.{unwrap_or}
-use Rattle.std.proofs.Math.ListN.{get_or-map}
-use Rattle.std.proofs.Math.Seq.{get_or-append_seam}
-use Rattle.std.proofs.lemmas.List.{length-append, length-map}
-use Rattle.std.proofs.lemmas.Slice.Eq.{bytes_eq-Decides}
+use Rattle.std.specs.{Prelude.Some, Prelude.None, Option.unwrap_or}
+use Rattle.std.proofs.{Math.ListN.get_or-map, Math.Seq.get_or-append_seam, lemmas.List.length-append, lemmas.List.length-map, lemmas.Slice.Eq.bytes_eq-Decides}
 use Rattle.properties_format.specs.Items.{comment, pair, Entry, item, malformed, read_fault}
 use Rattle.properties_format.specs.Maps.{HasNoPair}
 use Rattle.properties_format.proofs.Changed.Maps.{other-test}
@@ -15,8 +11,7 @@ use Rattle.properties_checking.specs.Private.Checking.{no_place, place_at}
 use Rattle.properties_tables.specs.Private.Fold.{found_escape, found_pair, keys_among, found_pairs, Finding}
 use Rattle.properties_tables.specs.Private.Table.{place_keys, FindsKey, HoldPlaces, PutsKey}
 use Rattle.properties_tables.specs.Table.{IsFirstLine}
-use Rattle.properties_tables.proofs.FirstKeys.{no-both}
-use Rattle.properties_tables.proofs.Rows.{no_pair-from}
+use Rattle.properties_tables.proofs.{FirstKeys.no-both, Rows.no_pair-from}
 
 abbrev place : ℕ → List ℕ → KeyPlace
 place number key = record { number = number; key = key }

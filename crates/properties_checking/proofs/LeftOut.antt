@@ -2,9 +2,7 @@
 use Rattle.std.proofs.Common.{◌≡◌, Bool, true, false, List, [], ◌∷◌, ◌++◌, refl, ap, ◌∙◌, append-nil}
 use Rattle.std.specs.Prelude.{cond, not}
 use Rattle.std.proofs.lemmas.List.Elements.{filter-append}
-use Rattle.properties_checking.specs.Kinds.{is_ignored, reported}
-use Rattle.properties_checking.specs.declared.kinds.Ignored.{Ignored}
-use Rattle.properties_checking.specs.declared.kinds.Kind.{Kind}
+use Rattle.properties_checking.specs.{Kinds.is_ignored, Kinds.reported, declared.kinds.Ignored.Ignored, declared.kinds.Kind.Kind}
 
 module _ {X : Type 0} (ignored : Ignored) where
   one-more : (kind : X → Kind) (xs : List X) (x : X) (is : Bool) → is_ignored ignored (kind x) ≡ is

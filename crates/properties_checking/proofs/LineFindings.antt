@@ -1,35 +1,23 @@
 -- What is wrong in the logical lines of a source, as it is taken.
 use Rattle.std.proofs.Common.{◌≡◌, ℕ, Bool, List, [], ◌∷◌, ◌++◌, map, refl, sym, ap, ◌∙◌, inl, inr, subst, append_assoc, append-nil}
 use Rattle.std.specs.Prelude.{None, Result, Ok, Err, OnOk}
-use Rattle.std.specs.declared.alloc.AllocError.{AllocError}
-use Rattle.std.specs.List.{flat_map}
-use Rattle.std.specs.Option.{unwrap_or}
-use Rattle.std.proofs.Math.ListN.{get_or-append}
-use Rattle.std.proofs.lemmas.List.{map-append}
-use Rattle.std.proofs.lemmas.List.Concat.{flat_map-append}
-use Rattle.properties_format.specs.Encoding.{Encoding}
-use Rattle.properties_format.specs.Computed.Found.{escapes_in}
+use Rattle.std.specs.{declared.alloc.AllocError.AllocError, List.flat_map, Option.unwrap_or}
+use Rattle.std.proofs.{Math.ListN.get_or-append, lemmas.List.map-append, lemmas.List.Concat.flat_map-append}
+use Rattle.properties_format.specs.{Encoding.Encoding, Computed.Found.escapes_in}
 use Rattle.properties_format.proofs.Found.{found-in_groups}
-use Rattle.properties_items.specs.declared.error.PropertiesError.{PropertiesError}
-use Rattle.properties_items.specs.declared.findings.MalformedEscape.{MalformedEscape}
+use Rattle.properties_items.specs.{declared.error.PropertiesError.PropertiesError, declared.findings.MalformedEscape.MalformedEscape}
 use Rattle.java_properties.specs.Findings.{KeyEntry, KeyPlace}
 use Rattle.java_properties.proofs.KeyLines.{entries-added, first_place, groups-key_lines, key_entries, keys_in}
 use Rattle.properties_tables.specs.Private.Fold.{escapes_among, found_escape, found_pair, keys_among, found_pairs, Takes, TakesAll, TookSome}
 use Rattle.properties_tables.specs.Private.Fold as fold
 use Rattle.properties_checking.specs.Private.Checking.{no_place, place_at, row_findings, said_of, FindsSoundKeys}
-use Rattle.properties_checking.specs.Private.LineFindings.{NotesPair, FindsInLines, TookFindings}
+use Rattle.properties_checking.specs.{Private.LineFindings.NotesPair, Private.LineFindings.FindsInLines, Private.LineFindings.TookFindings, Check.repeats_of}
+use Rattle.properties_checking.specs.{declared.check.Finding.Finding, declared.line_findings.LineFindings.LineFindings}
 use Rattle.properties_tables.specs.Private.Table.{table_places, HasPlaces, HoldPlaces, IsKeyTable, TookKeys}
-use Rattle.properties_tables.specs.SoundKeys.{AreKeyedPairs}
-use Rattle.properties_tables.specs.declared.key_table.KeyTable.{KeyTable}
-use Rattle.properties_tables.specs.Sources.{first_in_pair}
-use Rattle.properties_checking.specs.Check.{repeats_of}
-use Rattle.properties_checking.specs.declared.check.Finding.{Finding}
-use Rattle.properties_checking.specs.declared.line_findings.LineFindings.{LineFindings}
+use Rattle.properties_tables.specs.{SoundKeys.AreKeyedPairs, declared.key_table.KeyTable.KeyTable, Sources.first_in_pair}
 use Rattle.properties_tables.proofs.SourceFindings.{escapes-append, escapes-groups, findings-groups, keys-append, keys-groups, pairs-append}
-use Rattle.properties_checking.proofs.CheckFindings.{said-row}
-use Rattle.properties_checking.proofs.KeyPlaces.{puts-at, puts-extends, puts-number}
-use Rattle.properties_tables.proofs.KeyedPairs.{keyed-read, keyed-same}
-use Rattle.properties_tables.proofs.Rows.{places-none, places-put}
+use Rattle.properties_checking.proofs.{CheckFindings.said-row, KeyPlaces.puts-at, KeyPlaces.puts-extends, KeyPlaces.puts-number}
+use Rattle.properties_tables.proofs.{KeyedPairs.keyed-read, KeyedPairs.keyed-same, Rows.places-none, Rows.places-put}
 
 -- ---- one key more
 

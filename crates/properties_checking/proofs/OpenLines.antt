@@ -1,51 +1,33 @@
 -- The ends of lines, as they are found one after another.
 use Rattle.std.proofs.Common.{◌≡◌, ◌≢◌, ◌⊎◌, ℕ, zero, suc, ◌+◌, ◌-◌, ◌<◌, ◌≤◌, ◌==◌, ◌%◌, Bool, true, false, not, if◌then◌else◌, List, [], ◌∷◌, ◌++◌, length, take, drop, get_or, reverse, refl, sym, ap, ap₂, subst, ◌∙◌, inl, inr, append_assoc, append-nil, length-append, length-drop, arith}
 use Rattle.std.specs.Prelude.{◌&&◌, ◌||◌, nat_le, Option, Some, None}
-use Rattle.std.specs.List.{flat_map}
-use Rattle.std.specs.Option.{is_some}
+use Rattle.std.specs.{List.flat_map, Option.is_some}
 use Rattle.memchr.specs.Find.{FindsNeedle, OccursAt}
-use Rattle.std.proofs.lemmas.Bool.Decides.{eqb_tells}
+use Rattle.std.proofs.{lemmas.Bool.Decides.eqb_tells, Math.Seq.drop-append_seam, Math.Seq.take-append_seam}
 use Rattle.std.proofs.lemmas.Bool.{cases_Bool, and_parts, or_from, or_parts, or_right, and_right}
 use Rattle.std.proofs.lemmas.List.{length-take-le, reverse-append, reverse-reverse, take-append-drop}
-use Rattle.std.proofs.Math.Seq.{drop-append_seam, take-append_seam}
 use Rattle.properties_format.specs.Text.{backslash, begins, form_feed, is_blank, is_empty, piece_characters, space, tab, without_leading_blanks}
 use Rattle.properties_format.specs.Encoding.{Encoding, windows_1252, utf_8, utf_16le, utf_16be, ascii_bytes, byte_order_mark, IsAligned, InForce}
 use Rattle.properties_format.specs.Lines.{end, Ended, Line, numbered, numbered_lines, is_comment_line, is_open, lines_in, HasGroups}
-use Rattle.properties_format.specs.Cut.{bytes_together, line_ending_bytes}
-use Rattle.properties_format.specs.Body.{HeldLine}
-use Rattle.properties_format.specs.Computed.Body.{held_of, held_lines_of}
-use Rattle.properties_format.specs.Computed.Cut.{cut_of, decoded_line}
-use Rattle.properties_format.specs.Computed.Encoding.{decoded_of}
-use Rattle.properties_format.specs.Computed.Lines.{closes, groups_after, groups_of}
+use Rattle.properties_format.specs.{Cut.bytes_together, Cut.line_ending_bytes, Body.HeldLine, Computed.Body.held_of, Computed.Body.held_lines_of}
+use Rattle.properties_format.specs.{Computed.Cut.cut_of, Computed.Cut.decoded_line, Computed.Encoding.decoded_of, Computed.Lines.closes}
+use Rattle.properties_format.specs.{Computed.Lines.groups_after, Computed.Lines.groups_of, Text.is_comment_sign, ItemsToCome.ReaderState, ItemsToCome.start}
 use Rattle.properties_format.proofs.Cut.Byline.{byline_of, byline_of-meets, byline-is_lines, decoded_ended, nothing-decoded}
-use Rattle.properties_format.proofs.Cut.Meets.{cut_of-meets}
-use Rattle.properties_format.proofs.Encodings.Cuts.{characters-cut_ascii, cut-at_ascii}
-use Rattle.properties_format.proofs.Encodings.Pieces.{decoded_of-meets, pieces_of-nil}
-use Rattle.properties_format.proofs.Encodings.Characters.{pieces_of-ascii}
-use Rattle.properties_format.proofs.Groups.Meets.{groups_of-meets}
+use Rattle.properties_format.proofs.{Cut.Meets.cut_of-meets, Encodings.Cuts.characters-cut_ascii, Encodings.Cuts.cut-at_ascii}
+use Rattle.properties_format.proofs.{Encodings.Pieces.decoded_of-meets, Encodings.Pieces.pieces_of-nil, Encodings.Characters.pieces_of-ascii}
+use Rattle.properties_format.proofs.{Groups.Meets.groups_of-meets, Groups.Open.is_open-other, Groups.Open.open-ends, Body.Decoded.decoded-nil}
 use Rattle.properties_format.specs.Text.{LineEnding, lf, cr, crlf}
-use Rattle.properties_format.proofs.Groups.Open.{is_open-other, open-ends}
 use Rattle.properties_format.proofs.Groups.Steps.{groups_after-closed, groups_after-open, groups_of-closed, groups_of-comment_line, groups_of-open, groups_after-close, groups_after-leave}
-use Rattle.properties_lines.specs.LineSearch.{unit_size}
-use Rattle.properties_lines.specs.Private.HeldLines.{held_lines_left}
+use Rattle.properties_lines.specs.{LineSearch.unit_size, Private.HeldLines.held_lines_left, declared.scanner.Scanner.Scanner}
 use Rattle.properties_lines.specs.Scanner.{raw_line_bytes, scanner_state, EndsWhole, GivesScannedLine}
-use Rattle.properties_lines.specs.declared.scanner.Scanner.{Scanner}
-use Rattle.properties_text.specs.Encoding.{encoding_of}
-use Rattle.properties_format.specs.Text.{is_comment_sign}
-use Rattle.properties_format.proofs.Body.Decoded.{decoded-nil}
-use Rattle.properties_tables.specs.Lines.{holds_byte}
+use Rattle.properties_text.specs.{Encoding.encoding_of, declared.encoding.Encoding.TheVariants.WINDOWS_1252, declared.encoding.Encoding.TheVariants.UTF_8}
+use Rattle.properties_tables.specs.{Lines.holds_byte, Private.Flawed.IsScanning}
 use Rattle.properties_checking.specs.Misread.{last_number, lines_of_pairs, looks_open, misread_at, misread_end, AreMisreadEnds}
 use Rattle.properties_checking.specs.Private.OpenLines.{ends_from, holds_pair, is_comment_after, is_end, joins_next, may_end_line, said_end, BeginsWithAscii, EndsInAscii, IsAsciiUnit, SeesNone}
-use Rattle.properties_checking.specs.Private.Checking.{misread_finding}
-use Rattle.properties_tables.specs.Private.Flawed.{IsScanning}
+use Rattle.properties_checking.specs.{Private.Checking.misread_finding, declared.check.Finding.Finding, declared.misread.Misread.Misread}
 use Rattle.properties_tables.proofs.FlawedLines.{ending-length}
 use Rattle.properties_text.specs.declared.encoding.Encoding as code
-use Rattle.properties_text.specs.declared.encoding.Encoding.TheVariants.{WINDOWS_1252, UTF_8}
-use Rattle.properties_format.specs.ItemsToCome.{ReaderState, start}
-use Rattle.properties_lines.proofs.HeldLines.{body-lines_left}
-use Rattle.properties_lines.proofs.LineSearch.{length-ascii_bytes}
-use Rattle.properties_checking.specs.declared.check.Finding.{Finding}
-use Rattle.properties_checking.specs.declared.misread.Misread.{Misread}
+use Rattle.properties_lines.proofs.{HeldLines.body-lines_left, LineSearch.length-ascii_bytes}
 
 -- ---- the lines of a source, numbered
 

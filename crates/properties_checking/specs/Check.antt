@@ -93,12 +93,6 @@ ill_formed_text WithByteOrderMark = ill_formed_by_mark_words
 ill_formed_text NotUtf8 = codes "not UTF-8"
 ill_formed_text NotUtf16 = not_utf_16_words
 
-abbrev pub utf_8_words : List ℕ
-utf_8_words = codes "looks like UTF-8; without -e it is read as UTF-8"
-
-abbrev pub non_ascii_words : List ℕ
-non_ascii_words = codes "has a non-ASCII character"
-
 -- of a byte that ISO 8859-1 reads as another character, and of its character in windows-1252
 abbrev pub otherwise_words : ℕ → ℕ → List ℕ
 otherwise_words byte c =
@@ -106,30 +100,20 @@ otherwise_words byte c =
     ++ (codes " is '\\u" ++ ((if nat_lt c 0x1000 then codes "0" else []) ++ (digits 16 false c
     ++ (codes "' in windows-1252 and U+00" ++ (digits 16 true byte ++ codes " to Java"))))))
 
-abbrev pub byte_words : ℕ → List ℕ
-byte_words byte = otherwise_words byte (windows_1252_character byte)
-
 -- what is added where an escape is in a comment
 abbrev pub comment_words : Bool → List ℕ
 comment_words true = codes " (in a comment, which Java and propedit pass over)"
 comment_words false = []
 
-abbrev pub escape_words : ErrorKind → Bool → List ℕ
-escape_words kind in_comment = description kind ++ comment_words in_comment
-
--- of a pair whose key has its first pair in an earlier line
-abbrev pub repeat_words : List ℕ → ℕ → List ℕ
-repeat_words key first = codes "repeats the key '" ++ (all_shown key ++ (codes "' of line " ++ decimal first))
-
 abbrev pub words_of : What → List ℕ
 words_of holds_zero = zero_words
 words_of (is_ill_formed words) = ill_formed_text words
-words_of looks_like_utf_8 = utf_8_words
-words_of is_non_ascii = non_ascii_words
-words_of (is_read_otherwise byte) = byte_words byte
+words_of looks_like_utf_8 = codes "looks like UTF-8; without -e it is read as UTF-8"
+words_of is_non_ascii = codes "has a non-ASCII character"
+words_of (is_read_otherwise byte) = otherwise_words byte (windows_1252_character byte)
 words_of (is_misread m) = misread_words m
-words_of (is_malformed kind in_comment) = escape_words kind in_comment
-words_of (repeats_key key first) = repeat_words key first
+words_of (is_malformed kind in_comment) = description kind ++ comment_words in_comment
+words_of (repeats_key key first) = codes "repeats the key '" ++ (all_shown key ++ (codes "' of line " ++ decimal first))
 
 abbrev pub finding_kind : What → Kind
 finding_kind holds_zero = Zero

@@ -14,7 +14,7 @@ ghost use Rattle.properties_tables.specs.Private.Table.{table_places, IsKeyTable
 
 use crate::check_json::push_value;
 use crate::kinds::{Ignored, Kind};
-use crate::line_findings::{LineFindings, line_findings};
+use crate::line_findings::line_findings;
 use crate::misread::{Misread, find_misread};
 use crate::request::{Allowed, Check, Report};
 use java_properties::{Encoding, MalformedEscape, PropertiesError};
@@ -108,13 +108,15 @@ pub fn report(
     Ok(checked(alloc, name, source, encoding, asked)?.text)
 }
 
-/// What is wrong in a source, and its keys.
+/// What is wrong in a source, and the keys of its pairs.
 #[derive(Drop)]
 pub struct Reported {
     /// What is wrong, as [`report`] returns it.
     pub text: String,
-    /// The keys of its pairs, also of those whose values are malformed.
+    /// The keys of its pairs, but for malformed ones.
     pub keys: KeyTable,
+    /// Its malformed escapes.
+    pub escapes: Vec<MalformedEscape>,
     /// Whether no line is ill-formed.
     pub is_well_formed: bool,
 }
@@ -151,18 +153,18 @@ pub fn checked(
         report: asked.report,
         ignored: asked.ignored,
     };
-    let LineFindings { escapes, keys, .. } = in_lines;
-    push_findings(alloc, &mut text, heading, &keys, &findings)?;
+    push_findings(alloc, &mut text, heading, &in_lines.keys, &findings)?;
     Ok(Reported {
         text,
-        keys: sound_keys(alloc, source, encoding, keys, &escapes)?,
+        keys: in_lines.keys,
+        escapes: in_lines.escapes,
         is_well_formed: numbers.is_empty(),
     })
 }
 
-// Returns the keys of the pairs of a source, also of those whose values are malformed, given its malformed escapes and
-// the keys of its other pairs.
-fn sound_keys(
+/// Returns the keys of the pairs of a source, also of those whose values are malformed, given the keys of the others and
+/// its malformed escapes.
+pub fn sound_keys(
     alloc: Global,
     source: &[u8],
     encoding: Encoding,

@@ -3,9 +3,8 @@ use Rattle.std.proofs.Common.{◌≡◌, ℕ, List, [], ◌∷◌, ◌++◌, ref
 use Rattle.std.specs.Prelude.{Option, Some, None, codes}
 use Rattle.std.specs.Fmt.{decimal}
 use Rattle.properties_format.specs.Text.{line_feed}
-use Rattle.properties_tables.specs.Messages.{escaped, printed_line}
+use Rattle.properties_tables.specs.{Messages.escaped, Messages.printed_line, declared.error.Failure.Failure}
 use Rattle.properties_tables.specs.Failures.{failure_line, failure_place, message, IsReasonOf, IsMessageLine}
-use Rattle.properties_tables.specs.declared.error.Failure.{Failure}
 
 -- a line without a number, as it is printed
 pub plain_line : (place reason line : List ℕ) → line ≡ codes "propedit: " ++ (escaped place ++ (codes ": " ++ (reason ++ (line_feed ∷ []))))

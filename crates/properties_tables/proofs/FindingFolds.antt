@@ -1,21 +1,15 @@
 -- The findings of a source, taken line by line.
 use Rattle.std.proofs.Common.{◌≡◌, ◌≢◌, ℕ, ◌+◌, ◌^◌, ◌<◌, Bool, true, false, List, [], ◌∷◌, ◌++◌, length, refl, sym, inl, inr, subst, append-nil}
 use Rattle.std.specs.Prelude.{Option, Some, None, Ok, Err}
-use Rattle.std.specs.Borrow.{Bor}
-use Rattle.std.specs.Str.{chars}
-use Rattle.properties_format.specs.Encoding.{Encoding}
-use Rattle.properties_format.specs.Items.{Content, given}
-use Rattle.properties_format.specs.Lines.{Line, first_number, is_comment_line, joined}
-use Rattle.properties_format.specs.ItemsToCome.{ReaderState, start}
-use Rattle.properties_format.specs.Computed.Items.{outcome_of}
+use Rattle.std.specs.{Borrow.Bor, Str.chars}
+use Rattle.properties_format.specs.{Encoding.Encoding, Items.Content, Items.given, ItemsToCome.ReaderState, ItemsToCome.start, Computed.Items.outcome_of}
 use Rattle.properties_format.specs.Computed.Found.{found_in}
+use Rattle.properties_format.specs.Lines.{Line, first_number, is_comment_line, joined}
 use Rattle.properties_format.proofs.Found.{found-in_groups, found_in-append}
-use Rattle.properties_lines.specs.LineJoiner.{LineState, JoinsNext, JoinsError}
-use Rattle.properties_lines.specs.declared.error.LineError.{LineError}
-use Rattle.properties_items.specs.Errors.{kind_of, malformed_kind, IsLineError}
-use Rattle.properties_items.specs.BorrowedItems.{IsNoItem}
-use Rattle.properties_items.specs.declared.error.ErrorKind.TheVariants as kind
+use Rattle.properties_lines.specs.{LineJoiner.LineState, LineJoiner.JoinsNext, LineJoiner.JoinsError, declared.error.LineError.LineError}
+use Rattle.properties_items.specs.{Errors.kind_of, Errors.malformed_kind, Errors.IsLineError, BorrowedItems.IsNoItem}
 use Rattle.properties_items.specs.declared.error.PropertiesError.{PropertiesError}
+use Rattle.properties_items.specs.declared.error.ErrorKind.TheVariants as kind
 use Rattle.java_properties.specs.Private.LineByLine.{Collected}
 use Rattle.java_properties.proofs.MalformedEscapes.{collected-lines, collected-next, collected-start, collected-error}
 use Rattle.java_properties.proofs.SliceReads.{collected-slice, slice_of, slice_reader, slice-whole}

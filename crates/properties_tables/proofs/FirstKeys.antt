@@ -1,9 +1,7 @@
 -- The keys of a list, each once and in the order of their first places, as one after another comes.
 use Rattle.std.proofs.Common.{◌≡◌, ℕ, zero, suc, ◌<◌, List, [], ◌∷◌, ◌++◌, length, refl, ap, ◌∙◌, inl, inr, subst, arith, append_assoc}
 use Rattle.std.specs.Prelude.{◌⊎◌, All, AllPairs}
-use Rattle.std.proofs.Math.ListN.{get_or}
-use Rattle.std.proofs.lemmas.List.Elements.{All-append}
-use Rattle.std.proofs.lemmas.List.Kept.{AllPairs-cons}
+use Rattle.std.proofs.{Math.ListN.get_or, lemmas.List.Elements.All-append, lemmas.List.Kept.AllPairs-cons}
 use Rattle.properties_format.specs.Computed.Maps.{Has, HasNot, ComesBefore, AreFirstOf}
 use Rattle.properties_format.proofs.Keys.{contained}
 

@@ -1,41 +1,30 @@
 -- The lines of a body that have a flaw, found one after another.
 use Rattle.std.proofs.Common.{◌≡◌, ◌≢◌, ℕ, suc, ◌+◌, ◌<◌, ◌≤◌, ◌==◌, Bool, true, false, List, [], ◌∷◌, ◌++◌, length, get_or, drop, refl, sym, ap, subst, ◌∙◌, inl, inr, length-append, take_all, eqb-true, arith}
 use Rattle.std.specs.Prelude.{◌&&◌, if◌then◌else◌, not, Option, Some, None}
-use Rattle.std.specs.Option.{is_some}
-use Rattle.std.specs.Str.{is_utf8, IsUtf8}
-use Rattle.std.proofs.lemmas.Bool.Decides.{eqb_tells}
+use Rattle.std.specs.{Option.is_some, Str.is_utf8, Str.IsUtf8}
+use Rattle.std.proofs.{lemmas.Bool.Decides.eqb_tells, lemmas.List.Folds.list_any-append, lemmas.List.Folds.list_any_at, Math.Seq.take-append_seam}
 use Rattle.std.proofs.lemmas.Bool.{cases_Bool, and_parts, or_from, or_parts, false_from_ne_true}
-use Rattle.std.proofs.lemmas.List.Folds.{list_any-append, list_any_at}
-use Rattle.std.proofs.Math.Seq.{take-append_seam}
 use Rattle.std.proofs.lemmas.Str.{IsCharBoundary-after_ascii, IsCharBoundary-before_ascii, IsUtf8-drop, IsUtf8-from_is_utf8, is_utf8-from_IsUtf8, IsUtf8-from_ascii, IsUtf8-take}
 use Rattle.memchr.specs.Find.{IsFirstByte, is_byte}
 use Rattle.properties_format.specs.Text.{LineEnding, lf, cr, crlf}
 use Rattle.properties_format.specs.Encoding.{Encoding, windows_1252, utf_8, utf_16le, utf_16be, byte_order_mark}
-use Rattle.properties_format.specs.Cut.{line_ending_bytes, bytes_together}
+use Rattle.properties_format.specs.{Cut.line_ending_bytes, Cut.bytes_together, Utf16.low_first, Utf16.high_first, ItemsToCome.ReaderState, ItemsToCome.start}
+use Rattle.properties_format.specs.{Computed.Cut.cut_of, Computed.Cut.decoded_line, Computed.Body.held_of, Computed.Body.held_lines_of}
 use Rattle.properties_format.specs.Lines.{end, Ended, Line, Lines, numbered}
-use Rattle.properties_format.specs.Utf16.{low_first, high_first}
-use Rattle.properties_format.specs.ItemsToCome.{ReaderState, start}
-use Rattle.properties_format.specs.Computed.Cut.{cut_of, decoded_line}
-use Rattle.properties_format.specs.Computed.Body.{held_of, held_lines_of}
-use Rattle.properties_format.proofs.Cut.Byline.{decoded_line-meets, decoded_line-only}
-use Rattle.properties_format.proofs.Cut.Meets.{cut_of-meets}
-use Rattle.properties_format.proofs.Cut.Only.{cut_of-only}
-use Rattle.properties_format.proofs.Encodings.WellFormed.{IsUtf8-from_well_formed, well_formed-from_IsUtf8}
+use Rattle.properties_format.proofs.{Cut.Byline.decoded_line-meets, Cut.Byline.decoded_line-only, Cut.Meets.cut_of-meets, Cut.Only.cut_of-only}
+use Rattle.properties_format.proofs.{Encodings.WellFormed.IsUtf8-from_well_formed, Encodings.WellFormed.well_formed-from_IsUtf8}
 use Rattle.properties_text.specs.Encoding.{IsLongestText, encoding_of}
 use Rattle.properties_text.specs.declared.encoding.Encoding as code
 use Rattle.properties_text.specs.declared.encoding.Encoding.TheVariants.{WINDOWS_1252, UTF_8, UTF_16LE, UTF_16BE}
-use Rattle.properties_lines.specs.Private.HeldLines.{held_lines_left}
+use Rattle.properties_lines.specs.{Private.HeldLines.held_lines_left, declared.scanner.Front.TheVariants.Mark, declared.scanner.Front.TheVariants.Feed}
+use Rattle.properties_lines.specs.{declared.scanner.RawLine.RawLine, declared.scanner.Scanner.Scanner}
 use Rattle.properties_lines.specs.Scanner.{scanner_state, is_decided, after_cr, raw_line_bytes, Fits, GivesScannedLine}
-use Rattle.properties_lines.specs.declared.scanner.Front.TheVariants.{Mark, Feed}
-use Rattle.properties_lines.specs.declared.scanner.RawLine.{RawLine}
-use Rattle.properties_lines.specs.declared.scanner.Scanner.{Scanner}
 use Rattle.properties_lines.proofs.HeldLines.{body-next, body-after, body-lines_left}
 use Rattle.properties_tables.specs.Lines.{holds_byte, holds_zero, is_sought, is_windows_1252, starts_with_bom, AreFlawed, AreFlawedIn, HasLineFlaw, HasFlawed, IsFirstFlawed, IsFirstUtf8, IsWellFormedIn, LacksFlaw, LooksUtf8}
 use Rattle.properties_tables.specs.Private.Flawed.{are_paired, is_ascii, is_flawed, is_of_windows_1252, is_well_formed, unit_at, numbers_from, numbers_left, FindsFlawedLine, HasFlawedIn, HasLinesOf, IsFoundLine, IsScanning}
 use Rattle.properties_tables.specs.declared.ill_formed.Flaw.{Flaw}
 use Rattle.properties_tables.specs.declared.ill_formed.Flaw.TheVariants.{IllFormed, Zero, NonAscii, Byte, MarkInside, Misread}
-use Rattle.properties_tables.proofs.NonAscii.{tells-ascii, told-nothing}
-use Rattle.properties_tables.proofs.PairedUnits.{paired-well_formed, well_formed-paired}
+use Rattle.properties_tables.proofs.{NonAscii.tells-ascii, NonAscii.told-nothing, PairedUnits.paired-well_formed, PairedUnits.well_formed-paired}
 
 -- whether a byte is 0
 abbrev is_zero : ℕ → Bool

@@ -2,8 +2,7 @@
 use Rattle.std.proofs.Common.{◌≡◌, ℕ, List, ◌++◌, length, take, drop, ap, sym, ◌∙◌, subst, arith}
 use Rattle.std.specs.Str.{IsUtf8}
 use Rattle.std.proofs.lemmas.List.{drop-append-le, length-append, length-drop, take-append-le}
-use Rattle.properties_tables.specs.Private.Table.{bytes_at, HoldsText}
-use Rattle.properties_tables.specs.declared.texts.Place.{Place}
+use Rattle.properties_tables.specs.{Private.Table.bytes_at, Private.Table.HoldsText, declared.texts.Place.Place}
 
 -- The text at a place stays,
 pub kept-at : (text more : List ℕ) (p : Place) → HoldsText text p → bytes_at (text ++ more) p ≡ bytes_at text p

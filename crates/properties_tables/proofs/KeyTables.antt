@@ -1,32 +1,20 @@
 -- Keys that are held in a text and found by slots.
 use Rattle.std.proofs.Common.{◌≡◌, ◌≢◌, ℕ, zero, suc, ◌+◌, ◌<◌, ◌≤◌, ◌/◌, List, [], ◌∷◌, ◌++◌, length, refl, ap, ap₂, sym, ◌∙◌, inl, inr, subst, arith, append-nil}
 use Rattle.std.specs.Prelude.{◌⊎◌, ◌-◌, All, Option, Some, None, Ok, bytes_eq, encode_utf8_all, get_or, map, true, false}
-use Rattle.std.specs.BTreeMap.{IsOrdered}
-use Rattle.std.specs.Str.{chars, IsUtf8}
-use Rattle.std.specs.String.{string_cmp}
-use Rattle.std.proofs.Math.Seq.{get_or-append_seam}
+use Rattle.std.specs.{BTreeMap.IsOrdered, Str.chars, Str.IsUtf8, String.string_cmp}
+use Rattle.std.proofs.{Math.Seq.get_or-append_seam, lemmas.Bool.cases_Bool, lemmas.Bool.cases_eq, lemmas.Bool.cases_lt, lemmas.Grind.get_or-set_at}
+use Rattle.std.proofs.{lemmas.List.Elements.All-append, lemmas.Slice.Eq.bytes_eq-Decides, lemmas.Str.encodes-chars}
 use native.Mathlib.Nat.{mod-lt}
-use Rattle.std.proofs.lemmas.Bool.{cases_Bool, cases_eq, cases_lt}
-use Rattle.std.proofs.lemmas.Grind.{get_or-set_at}
 use Rattle.std.proofs.lemmas.List.{get_or_append_left, get_or_default, get_or-map, get_or-set_other, length-append, length-map, length-set, map-append}
-use Rattle.std.proofs.lemmas.List.Elements.{All-append}
-use Rattle.std.proofs.lemmas.Slice.Eq.{bytes_eq-Decides}
-use Rattle.std.proofs.lemmas.Str.{encodes-chars}
-use Rattle.properties_format.specs.Encoding.{Encoding}
-use Rattle.properties_format.specs.Items.{pair, item}
-use Rattle.properties_format.specs.Computed.Maps.{HasNot}
-use Rattle.properties_format.proofs.Keys.{contained, contains}
-use Rattle.properties_format.proofs.Changed.Maps.{other-test, same-test}
-use Rattle.java_properties.specs.Findings.{KeyPlace}
-use Rattle.java_properties.specs.Private.LineByLine.{number_at}
+use Rattle.properties_format.specs.{Encoding.Encoding, Items.pair, Items.item, Computed.Maps.HasNot}
+use Rattle.properties_format.proofs.{Keys.contained, Keys.contains, Changed.Maps.other-test, Changed.Maps.same-test}
+use Rattle.java_properties.specs.{Findings.KeyPlace, Private.LineByLine.number_at}
 use Rattle.properties_items.specs.declared.findings.MalformedEscape.{MalformedEscape}
 use Rattle.properties_tables.specs.Private.Fold.{found_escape, found_pair, keyed_pairs, Takes, TakesSound}
-use Rattle.properties_tables.proofs.KeyedPairs.{keyed-append, keyed-same}
+use Rattle.properties_tables.proofs.{KeyedPairs.keyed-append, KeyedPairs.keyed-same, FirstKeys.has_not, FirstKeys.no-both, HeldTexts.holds-kept}
+use Rattle.properties_tables.proofs.HeldTexts.{kept-at}
 use Rattle.properties_tables.specs.Private.Table.{bytes_at, hash_from, in_slot, no_row, key_place_in, place_keys, table_places, row_bytes, slot_for, FindsKey, HoldPlaces, HoldsText, IsFound, IsKeyTable, KeptRow, PutsKey, ReadsKeys, SlotHas, TookKeys}
-use Rattle.properties_tables.specs.declared.key_table.KeyRow.{KeyRow}
-use Rattle.properties_tables.specs.declared.key_table.KeyTable.{KeyTable}
-use Rattle.properties_tables.proofs.FirstKeys.{has_not, no-both}
-use Rattle.properties_tables.proofs.HeldTexts.{holds-kept, kept-at}
+use Rattle.properties_tables.specs.{declared.key_table.KeyRow.KeyRow, declared.key_table.KeyTable.KeyTable}
 use Rattle.properties_tables.proofs.Rows.{all-one, places-none, places-put, places-read}
 
 -- the same of each element

@@ -2,25 +2,19 @@
 use Rattle.std.proofs.Common.{◌≡◌, ℕ, true, false, List, [], ◌∷◌, ◌++◌, refl, ap, sym, ◌∙◌, inl, inr, subst}
 use Rattle.std.specs.Prelude.{◌⊎◌, Option, Some, None}
 use Rattle.std.proofs.lemmas.Bool.{cases_Bool}
-use Rattle.properties_format.specs.Encoding.{Encoding}
+use Rattle.properties_format.specs.{Encoding.Encoding, Split.IsSplit, Split.Logical, Text.begins, Text.is_comment_sign, Text.without_leading_blanks}
+use Rattle.properties_format.specs.{Computed.Escapes.meaning_of, Computed.Split.split_full, Computed.Split.split_of}
 use Rattle.properties_format.specs.Escapes.{breaks, means, IsMeaning, Malformed, Meaning, Means}
 use Rattle.properties_format.specs.Items.{broken, pair, Entry, item, Outcome}
 use Rattle.properties_format.specs.Lines.{first_number, is_comment_line, joined, Line}
-use Rattle.properties_format.specs.Split.{IsSplit, Logical}
-use Rattle.properties_format.specs.Text.{begins, is_comment_sign, without_leading_blanks}
-use Rattle.properties_format.specs.Computed.Escapes.{meaning_of}
 use Rattle.properties_format.specs.Computed.Items.{comment_outcome, outcome_of, pair_outcome, split_outcome}
-use Rattle.properties_format.specs.Computed.Split.{split_full, split_of}
-use Rattle.properties_format.proofs.Escapes.Unique.{meaning_of-meets, means-only}
-use Rattle.properties_format.proofs.Split.Unique.{split_of-meets, split_of-only}
-use Rattle.properties_format.proofs.Keys.{are-keys, pair_keys}
+use Rattle.properties_format.proofs.{Escapes.Unique.meaning_of-meets, Escapes.Unique.means-only, Split.Unique.split_of-meets, Split.Unique.split_of-only}
+use Rattle.properties_format.proofs.{Keys.are-keys, Keys.pair_keys}
 use Rattle.java_properties.specs.Findings.{KeyPlace}
 use Rattle.properties_tables.specs.Private.Fold.{before_some, escapes_among, found_escape, found_pair, found_pairs, key_meant, keyed_pairs, outcome_finding, sound_key, with_key, AreFindings, Finding}
-use Rattle.properties_tables.specs.Private.Table.{place_keys, HasPlaces, HoldPlaces}
-use Rattle.properties_tables.specs.SoundKeys.{AreKeyedIn, AreKeyedPairs, HasSoundKey}
-use Rattle.properties_tables.specs.Sources.{first_in_pair}
-use Rattle.properties_tables.proofs.FindingFolds.{findings_in}
-use Rattle.properties_tables.proofs.SourceFindings.{findings-groups}
+use Rattle.properties_tables.specs.{Private.Table.place_keys, Private.Table.HasPlaces, Private.Table.HoldPlaces, SoundKeys.AreKeyedIn, SoundKeys.AreKeyedPairs}
+use Rattle.properties_tables.specs.{SoundKeys.HasSoundKey, Sources.first_in_pair}
+use Rattle.properties_tables.proofs.{FindingFolds.findings_in, SourceFindings.findings-groups}
 
 -- ---- among findings
 

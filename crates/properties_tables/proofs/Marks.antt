@@ -1,23 +1,17 @@
 -- U+FEFF in UTF-8.
 use Rattle.std.proofs.Common.{◌≡◌, ◌≢◌, ℕ, zero, suc, ◌+◌, ◌<◌, ◌==◌, true, false, List, [], ◌∷◌, ◌++◌, length, get_or, drop, refl, sym, ap, subst, ◌∙◌, arith}
 use Rattle.std.proofs.lemmas.Bool.{or_from, or_parts, false_from_ne_true}
-use Rattle.std.specs.Prelude.{◌||◌}
-use Rattle.std.specs.List.{list_any}
-use Rattle.properties_format.specs.Utf16.{low_first, high_first}
-use Rattle.properties_format.specs.Encoding.{windows_1252, utf_8}
-use Rattle.properties_format.specs.Cut.{line_ending_bytes, bytes_together, units_of_two}
-use Rattle.properties_format.specs.Lines.{Ended}
-use Rattle.properties_format.specs.Computed.Cut.{cut_of}
-use Rattle.properties_format.specs.Computed.Body.{held_of}
+use Rattle.std.specs.{Prelude.◌||◌, List.list_any}
+use Rattle.properties_format.specs.{Utf16.low_first, Utf16.high_first, Encoding.windows_1252, Encoding.utf_8, Cut.line_ending_bytes, Cut.bytes_together}
+use Rattle.properties_format.specs.{Cut.units_of_two, Lines.Ended, Computed.Cut.cut_of, Computed.Body.held_of}
 use Rattle.properties_format.proofs.Cut.Meets.{cut_of-meets}
 use Rattle.properties_text.specs.Encoding.{encoding_of}
 use Rattle.properties_text.specs.declared.encoding.Encoding as code
 use Rattle.properties_text.specs.declared.encoding.Encoding.TheVariants.{WINDOWS_1252, UTF_8, UTF_16LE, UTF_16BE}
 use Rattle.std.specs.Prelude.{◌&&◌, nat_eq, Bool, Some, None}
 use Rattle.memchr.specs.Find.{IsFirstByte, is_byte}
-use Rattle.properties_tables.specs.Lines.{holds_mark, holds_mark_in, starts_with_bom}
+use Rattle.properties_tables.specs.{Lines.holds_mark, Lines.holds_mark_in, Lines.starts_with_bom, declared.ill_formed.Flaw.TheVariants.MarkInside}
 use Rattle.properties_tables.specs.Private.Flawed.{holds_mark_unit, numbers_from, unit_at, HasFlawedIn}
-use Rattle.properties_tables.specs.declared.ill_formed.Flaw.TheVariants.{MarkInside}
 use Rattle.properties_tables.proofs.FlawedLines.{has-flawed}
 
 -- A mark begins with its first byte.

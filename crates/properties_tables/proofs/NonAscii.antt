@@ -1,21 +1,16 @@
 -- Whether a line has a character that isn't ASCII, told by its bytes.
 use Rattle.std.proofs.Common.{◌≡◌, ◌≢◌, ◌⊎◌, ℕ, ◌<◌, true, false, List, [], ◌∷◌, ◌++◌, zero, suc, refl, sym, ap, subst, ◌∙◌, inl, inr, arith, ltb-true}
-use Rattle.std.specs.Prelude.{not, nat_lt, nat_le}
-use Rattle.std.specs.Str.{IsAscii}
+use Rattle.std.specs.{Prelude.not, Prelude.nat_lt, Prelude.nat_le, Str.IsAscii}
 use Rattle.std.proofs.lemmas.Bool.{cases_Bool, and_parts, or_from, or_parts}
-use Rattle.properties_format.specs.Text.{Piece, piece_characters}
-use Rattle.properties_format.specs.Encoding.{Encoding, windows_1252, utf_8, utf_16le, utf_16be, ascii_bytes, IsPieces}
-use Rattle.properties_format.specs.Utf16.{low_first, high_first}
-use Rattle.properties_format.specs.Computed.Cut.{decoded_line}
+use Rattle.properties_format.specs.{Text.Piece, Text.piece_characters, Utf16.low_first, Utf16.high_first, Computed.Cut.decoded_line}
 use Rattle.properties_format.specs.Computed.Encoding.{pieces_of}
-use Rattle.properties_format.proofs.Encodings.Characters.{pieces_of-ascii, piece-ascii}
-use Rattle.properties_format.proofs.Encodings.Pieces.{pieces_of-meets, pieces_of-nil}
+use Rattle.properties_format.specs.Encoding.{Encoding, windows_1252, utf_8, utf_16le, utf_16be, ascii_bytes, IsPieces}
+use Rattle.properties_format.proofs.{Encodings.Characters.pieces_of-ascii, Encodings.Characters.piece-ascii, Encodings.Pieces.pieces_of-meets}
+use Rattle.properties_format.proofs.Encodings.Pieces.{pieces_of-nil}
 use Rattle.properties_text.specs.Encoding.{encoding_of}
 use Rattle.properties_text.specs.declared.encoding.Encoding as code
 use Rattle.properties_text.specs.declared.encoding.Encoding.TheVariants.{WINDOWS_1252, UTF_8, UTF_16LE, UTF_16BE}
-use Rattle.properties_lines.specs.LineSearch.{unit_size}
-use Rattle.properties_lines.specs.Scanner.{raw_line_bytes}
-use Rattle.properties_lines.specs.declared.scanner.RawLine.{RawLine}
+use Rattle.properties_lines.specs.{LineSearch.unit_size, Scanner.raw_line_bytes, declared.scanner.RawLine.RawLine}
 use Rattle.properties_tables.specs.Lines.{holds_non_ascii}
 use Rattle.properties_tables.specs.Private.Flawed.{are_ascii, is_ascii, unit_at, IsFoundLine}
 

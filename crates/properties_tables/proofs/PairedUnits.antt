@@ -1,9 +1,7 @@
 -- Whether bytes are well-formed UTF-16, found unit by unit.
 use Rattle.std.proofs.Common.{◌≡◌, ℕ, ◌-◌, ◌≤◌, Bool, true, false, List, [], ◌∷◌, ◌++◌, length, take, drop, get_or, refl, sym, ap, ◌∙◌, inl, inr, arith}
 use Rattle.std.specs.Prelude.{◌⊎◌, ◌&&◌, not, if◌then◌else◌}
-use Rattle.std.proofs.Math.Bool.{beq}
-use Rattle.std.proofs.lemmas.List.{take_all}
-use Rattle.std.proofs.lemmas.Bool.{cases_Bool}
+use Rattle.std.proofs.{Math.Bool.beq, lemmas.List.take_all, lemmas.Bool.cases_Bool}
 use Rattle.properties_format.specs.Utf16.{is_high, is_low}
 use Rattle.properties_format.proofs.Encodings.Utf16.{low-not_high}
 use Rattle.properties_tables.specs.Lines.{AreCharacters, IsPlainUnit, IsSurrogatePair, IsWellFormedUnits}

@@ -2,11 +2,8 @@
 use Rattle.std.proofs.Common.{◌≡◌, List, ℕ, false, [], ◌∷◌, ◌++◌, refl, sym, ap, ◌∙◌, inl, inr, append-nil}
 use Rattle.std.specs.Prelude.{Option, Some, None}
 use Rattle.std.proofs.lemmas.Bool.{cases_Bool, cond-true, cond-false}
-use Rattle.properties_format.specs.Edits.{AreInComments, EscapesAre}
-use Rattle.properties_format.specs.Encoding.{Encoding}
+use Rattle.properties_format.specs.{Edits.AreInComments, Edits.EscapesAre, Encoding.Encoding, Found.AreMalformedEscapes, Computed.Found.escapes_in}
 use Rattle.properties_format.specs.Found as format
-use Rattle.properties_format.specs.Found.{AreMalformedEscapes}
-use Rattle.properties_format.specs.Computed.Found.{escapes_in}
 use Rattle.properties_format.proofs.Found.{found-in_groups}
 use Rattle.java_properties.specs.Findings.{escape_record, escape_records, HasMalformed}
 use Rattle.properties_items.specs.declared.findings.MalformedEscape.{MalformedEscape}

@@ -1,25 +1,18 @@
 -- The rows of pairs, as one pair after another comes.
 use Rattle.std.proofs.Common.{◌≡◌, ◌≢◌, ℕ, zero, suc, ◌<◌, List, [], ◌∷◌, ◌++◌, length, refl, ap, sym, ◌∙◌, inl, inr, subst, arith, append_assoc}
 use Rattle.std.specs.Prelude.{All, Some, get_or}
-use Rattle.std.proofs.Math.ListN.{set}
-use Rattle.std.proofs.lemmas.Bool.{cases_eq, cases_lt}
-use Rattle.std.proofs.lemmas.Grind.{get_or-set_at}
+use Rattle.std.proofs.{Math.ListN.set, lemmas.Bool.cases_eq, lemmas.Bool.cases_lt, lemmas.Grind.get_or-set_at, lemmas.List.Elements.All-append}
+use Rattle.std.proofs.lemmas.List.Elements.{filter_map-append}
 use Rattle.std.proofs.lemmas.List.{get_or-map, get_or-set_other, length-map, length-set, map-append, map-set, set-get_or}
-use Rattle.std.proofs.lemmas.List.Elements.{All-append, filter_map-append}
-use Rattle.properties_format.specs.Edits.{ArePairs}
-use Rattle.properties_format.specs.Encoding.{Encoding}
+use Rattle.properties_format.specs.{Edits.ArePairs, Encoding.Encoding, Maps.HasNoPair, Computed.Maps.Has, Computed.Maps.HasNot, Computed.Maps.AreFirstOf}
 use Rattle.properties_format.specs.Items.{comment, pair, Entry, item, malformed, read_fault}
-use Rattle.properties_format.specs.Maps.{HasNoPair}
-use Rattle.properties_format.specs.Computed.Maps.{Has, HasNot, AreFirstOf}
-use Rattle.properties_format.proofs.Edits.PairValues.{pairs_in}
-use Rattle.properties_format.proofs.Found.{found-in_groups}
+use Rattle.properties_format.proofs.{Edits.PairValues.pairs_in, Found.found-in_groups}
 use Rattle.properties_format.proofs.Keys.{contained, pair_key, pair_keys, are-keys}
 use Rattle.java_properties.specs.Findings.{KeyPlace}
 use Rattle.properties_tables.specs.Private.Fold.{found_pairs, AreFindings, Finding}
 use Rattle.properties_tables.specs.Private.Table.{place_keys, FindsKey, HasPlaces, HoldPlaces, HoldRows, PutsKey, PutsRow}
 use Rattle.properties_tables.specs.Table.{row_keys, HasRows, IsFirstLine, IsLastPair, IsRow, Row}
-use Rattle.properties_tables.proofs.SourceFindings.{findings-groups, pairs-groups}
-use Rattle.properties_tables.proofs.FirstKeys.{first-same, first-new, no-both}
+use Rattle.properties_tables.proofs.{SourceFindings.findings-groups, SourceFindings.pairs-groups, FirstKeys.first-same, FirstKeys.first-new, FirstKeys.no-both}
 
 -- ---- lists
 

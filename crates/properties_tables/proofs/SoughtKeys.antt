@@ -1,37 +1,20 @@
 -- Keys that are sought, and their values.
 use Rattle.std.proofs.Common.{◌≡◌, ℕ, Bool, zero, suc, ◌<◌, ◌++◌, ◌∷◌, true, false, List, [], length, refl, ap, sym, ◌∙◌, inl, inr, subst, arith, append-nil, if◌then◌else◌}
 use Rattle.std.specs.Prelude.{map, Option, Some, None, bytes_eq, cond, encode_utf8_all}
-use Rattle.std.specs.Global.{Global}
-use Rattle.std.specs.BTreeMap.{IsOrdered}
-use Rattle.std.specs.Map.{update}
-use Rattle.std.specs.Option.{option_map}
-use Rattle.std.specs.Str.{chars, IsUtf8}
-use Rattle.std.specs.String.{string_cmp}
-use Rattle.std.specs.declared.string.String.{String}
-use Rattle.std.proofs.Math.ListN.{get_or, set}
-use Rattle.std.proofs.lemmas.Bool.{cases_Bool, cond-true, cond-false}
-use Rattle.std.proofs.lemmas.Grind.{get_or-set_at}
-use Rattle.std.proofs.lemmas.List.{length-set}
-use Rattle.std.proofs.lemmas.Slice.Eq.{bytes_eq-Decides}
-use Rattle.std.proofs.lemmas.Str.{encodes-chars}
-use Rattle.properties_format.specs.Encoding.{Encoding}
-use Rattle.properties_format.specs.Edits.{ArePairs, AreInComments, EscapesAre}
-use Rattle.properties_format.specs.Items.{pair, Entry, item}
-use Rattle.properties_format.specs.Computed.Maps.{Has, first_value}
-use Rattle.properties_format.proofs.Found.{found-in_groups}
-use Rattle.properties_format.proofs.Maps.{value_in, value_in-append, value_in-meets}
-use Rattle.properties_items.specs.Texts.{characters}
+use Rattle.std.specs.{Global.Global, BTreeMap.IsOrdered, Map.update, Option.option_map, Str.chars, Str.IsUtf8, String.string_cmp, declared.string.String.String}
+use Rattle.std.proofs.{Math.ListN.get_or, Math.ListN.set, lemmas.Bool.cases_Bool, lemmas.Bool.cond-true, lemmas.Bool.cond-false, lemmas.Grind.get_or-set_at}
+use Rattle.std.proofs.{lemmas.List.length-set, lemmas.Slice.Eq.bytes_eq-Decides, lemmas.Str.encodes-chars}
+use Rattle.properties_format.specs.{Encoding.Encoding, Edits.ArePairs, Edits.AreInComments, Edits.EscapesAre, Items.pair, Items.Entry, Items.item}
+use Rattle.properties_format.specs.{Computed.Maps.Has, Computed.Maps.first_value}
+use Rattle.properties_format.proofs.{Found.found-in_groups, Maps.value_in, Maps.value_in-append, Maps.value_in-meets}
+use Rattle.properties_items.specs.{Texts.characters, declared.findings.MalformedEscape.MalformedEscape}
 use Rattle.properties_items.proofs.TextMaps.Values.{at_chars}
-use Rattle.properties_items.specs.declared.findings.MalformedEscape.{MalformedEscape}
 use Rattle.properties_editing.proofs.PartLists.{none-changed}
 use Rattle.properties_tables.specs.Private.Sought.{or_else, found_value, held_value, is_marked, mark_for, IsSeeking, Seeks, SeeksMore, TookSought}
 use Rattle.properties_tables.specs.Private.Fold.{found_escape, found_pair, found_pairs, AreFindings, Finding, Takes}
-use Rattle.properties_tables.specs.Values.{HaveValues}
-use Rattle.properties_tables.specs.Sources.{first_in_pair}
-use Rattle.properties_tables.specs.declared.values.Sought.{Sought}
-use Rattle.properties_tables.proofs.SourceFindings.{findings-groups, pairs-append, pairs-groups}
-use Rattle.properties_tables.proofs.FirstKeys.{has-split}
-use Rattle.properties_tables.proofs.RefusedSources.{first-kept, first-more, none-found}
+use Rattle.properties_tables.specs.{Values.HaveValues, Sources.first_in_pair, declared.values.Sought.Sought}
+use Rattle.properties_tables.proofs.{SourceFindings.findings-groups, SourceFindings.pairs-append, SourceFindings.pairs-groups, FirstKeys.has-split}
+use Rattle.properties_tables.proofs.{RefusedSources.first-kept, RefusedSources.first-more, RefusedSources.none-found}
 
 -- ---- marks
 

@@ -1,20 +1,12 @@
 -- What is among the findings of a source.
 use Rattle.std.proofs.Common.{◌≡◌, ℕ, List, [], ◌∷◌, ◌++◌, refl, ap}
-use Rattle.properties_format.specs.Encoding.{Encoding}
+use Rattle.properties_format.specs.{Encoding.Encoding, Escapes.Malformed, Edits.pair_from, Found.escapes_from, Computed.Items.outcome_of}
+use Rattle.properties_format.specs.{Computed.Lines.groups_in, Computed.Found.escapes_in}
 use Rattle.properties_format.specs.Lines.{end, Line, HasGroups, first_number, is_comment_line, joined}
-use Rattle.properties_format.specs.Escapes.{Malformed}
 use Rattle.properties_format.specs.Items.{comment, pair, Entry, item, Outcome, ignored, given, broken}
-use Rattle.properties_format.specs.Edits.{pair_from}
-use Rattle.properties_format.specs.Found.{escapes_from}
 use Rattle.properties_format.specs.Found as format
-use Rattle.properties_format.specs.Computed.Items.{outcome_of}
-use Rattle.properties_format.specs.Computed.Lines.{groups_in}
-use Rattle.properties_format.specs.Computed.Found.{escapes_in}
-use Rattle.properties_format.proofs.Edits.PairValues.{pairs_in}
-use Rattle.properties_format.proofs.Found.{found-only}
-use Rattle.properties_format.proofs.Groups.Input.{groups_in-meets}
-use Rattle.properties_items.specs.Errors.{malformed_kind}
-use Rattle.properties_items.specs.declared.findings.MalformedEscape.{MalformedEscape}
+use Rattle.properties_format.proofs.{Edits.PairValues.pairs_in, Found.found-only, Groups.Input.groups_in-meets}
+use Rattle.properties_items.specs.{Errors.malformed_kind, declared.findings.MalformedEscape.MalformedEscape}
 use Rattle.java_properties.specs.Findings.{escape_records, keys_from, KeyPlace}
 use Rattle.java_properties.proofs.KeyLines.{keys_in}
 use Rattle.properties_tables.specs.Private.Fold.{before_some, escapes_among, findings_from, found_escape, found_pair, keys_among, outcome_finding, found_pairs, AreFindings, Finding}

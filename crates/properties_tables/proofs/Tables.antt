@@ -1,24 +1,17 @@
 -- Tables with values.
 use Rattle.std.proofs.Common.{◌≡◌, ℕ, zero, suc, ◌^◌, ◌<◌, List, [], ◌∷◌, ◌++◌, length, refl, ap, ap₂, sym, ◌∙◌, inl, inr, subst, arith, append-nil}
 use Rattle.std.specs.Prelude.{All, None, Some, Result, Ok, Err, get_or, map}
-use Rattle.std.specs.List.{zip}
-use Rattle.std.specs.Str.{chars}
-use Rattle.std.proofs.Math.ListN.{set}
+use Rattle.std.specs.{List.zip, Str.chars}
+use Rattle.std.proofs.{Math.ListN.set, lemmas.List.Elements.All-append, lemmas.List.Elements.All-set, lemmas.Slice.Zip.get_or-zip, lemmas.Slice.Zip.length-zip}
 use Rattle.std.proofs.lemmas.List.{get_or-map, length-append, length-map, length-set, map-append, map-set}
-use Rattle.std.proofs.lemmas.List.Elements.{All-append, All-set}
-use Rattle.std.proofs.lemmas.Slice.Zip.{get_or-zip, length-zip}
 use Rattle.properties_format.specs.Encoding.{Encoding}
 use Rattle.java_properties.specs.Findings.{KeyPlace}
 use Rattle.properties_items.specs.declared.findings.MalformedEscape.{MalformedEscape}
 use Rattle.properties_tables.specs.Private.Fold.{found_escape, found_pair, found_pairs, Takes, TakesSound}
 use Rattle.properties_tables.specs.Private.Table.{bytes_at, place_keys, table_places, row_in, rows_of, FindsKey, HoldRows, HoldsText, IsKeyTable, IsTable, PutsKey, PutsRow, ReadsTable, TookRows}
-use Rattle.properties_tables.specs.Table.{row_keys, Row}
-use Rattle.properties_tables.specs.declared.error.Failure.{Failure}
-use Rattle.properties_tables.specs.declared.table.LastPair.{LastPair}
-use Rattle.properties_tables.specs.declared.table.Table.{Table}
-use Rattle.properties_tables.proofs.SourceFindings.{pairs-append}
-use Rattle.properties_tables.proofs.HeldTexts.{holds-kept, kept-at}
-use Rattle.properties_tables.proofs.KeyTables.{length-keys, length-places, none}
+use Rattle.properties_tables.specs.{Table.row_keys, Table.Row, declared.error.Failure.Failure, declared.table.LastPair.LastPair, declared.table.Table.Table}
+use Rattle.properties_tables.proofs.{SourceFindings.pairs-append, HeldTexts.holds-kept, HeldTexts.kept-at, KeyTables.length-keys, KeyTables.length-places}
+use Rattle.properties_tables.proofs.KeyTables.{none}
 use Rattle.properties_tables.proofs.Rows.{all-one, rows-none, rows-put, rows-read}
 
 -- ---- keys beside last pairs

@@ -2,19 +2,15 @@
 use Rattle.std.proofs.Common.{◌++◌, true, List, [], ◌∷◌, refl, inl, inr, subst, append-nil}
 use Rattle.std.specs.Prelude.{Result, Ok, Err}
 use Rattle.counted_io.specs.Streams.{Reader, Sink}
-use Rattle.properties_format.specs.Encoding.{Encoding, output_encoding}
-use Rattle.properties_format.specs.Items.{Entry, pair}
-use Rattle.properties_format.specs.Settings.{Settings}
+use Rattle.properties_format.specs.{Encoding.Encoding, Encoding.output_encoding, Items.Entry, Items.pair, Settings.Settings, AsciiOnly.AllKeepAsciiOnly}
+use Rattle.properties_format.specs.{AsciiOnly.AreAsciiBytes, AsciiOnly.AreItemsInBoth}
 use Rattle.properties_format.specs.Writing.{AreGoodSettings, Pair, pairs_in, calls_of, AreAccepted}
-use Rattle.properties_format.specs.AsciiOnly.{AllKeepAsciiOnly, AreAsciiBytes, AreItemsInBoth}
-use Rattle.properties_format.proofs.AsciiOnly.{wrote-on, wrote-on_line, wrote-on_both}
-use Rattle.properties_format.proofs.ReadBack.Law.{default_settings-good}
-use Rattle.properties_format.proofs.ReadBack.Lists.{read_back-pairs, calls_of-clean, calls_of-scalars}
+use Rattle.properties_format.proofs.{AsciiOnly.wrote-on, AsciiOnly.wrote-on_line, AsciiOnly.wrote-on_both, ReadBack.Law.default_settings-good}
+use Rattle.properties_format.proofs.{ReadBack.Lists.read_back-pairs, ReadBack.Lists.calls_of-clean, ReadBack.Lists.calls_of-scalars}
 use Rattle.java_properties.specs.ReadBack.{TakesAscii}
 use Rattle.properties_items.specs.declared.error.PropertiesError.{PropertiesError}
 use Rattle.properties_tools.specs.Filter.{settings_with, pair_calls, pair_lines, Filters, FiltersToAscii, form}
-use Rattle.properties_tools.proofs.Pairs.{pair-accepted}
-use Rattle.properties_tools.proofs.FilteredTwice.{Took, took}
+use Rattle.properties_tools.proofs.{Pairs.pair-accepted, FilteredTwice.Took, FilteredTwice.took}
 
 -- the settings with it on
 abbrev on : Settings

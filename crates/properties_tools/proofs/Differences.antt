@@ -2,17 +2,12 @@
 use Rattle.std.proofs.Common.{◌≡◌, ◌≢◌, ℕ, zero, suc, List, [], ◌∷◌, ◌++◌, refl, ap, sym, ◌∙◌, inl, inr, subst, arith, if◌then◌else◌}
 use Rattle.std.specs.Prelude.{◌⊎◌, All, AllPairs, Contains, Option, Some, None, bytes_eq, map}
 use Rattle.std.specs.List.{flat_map}
-use Rattle.std.proofs.lemmas.Bool.{cases_Bool}
-use Rattle.std.proofs.lemmas.List.{map-append}
+use Rattle.std.proofs.{lemmas.Bool.cases_Bool, lemmas.List.map-append, lemmas.List.Kept.AllPairs-cons, lemmas.Slice.Eq.bytes_eq-Decides}
 use Rattle.std.proofs.lemmas.List.Elements.{All-append, All-cons, All-head, All-tail, All-nil, All-weaker, All-contains, All-map, All-contains_itself, Contains-append_left, Contains-append_right}
-use Rattle.std.proofs.lemmas.List.Kept.{AllPairs-cons}
-use Rattle.std.proofs.lemmas.Slice.Eq.{bytes_eq-Decides}
 use Rattle.java_properties.proofs.KeyLines.{not_same}
-use Rattle.properties_format.specs.Items.{Entry}
+use Rattle.properties_format.specs.{Items.Entry, Computed.Maps.Has}
 use Rattle.properties_format.specs.Maps.{HasNoPair, IsLastValue, IsValue, PairComesBefore}
-use Rattle.properties_format.specs.Computed.Maps.{Has}
-use Rattle.properties_format.proofs.Keys.{contained}
-use Rattle.properties_format.proofs.Maps.{value_in, value_in-meets, value_in-only}
+use Rattle.properties_format.proofs.{Keys.contained, Maps.value_in, Maps.value_in-meets, Maps.value_in-only}
 use Rattle.properties_tables.specs.Table.{Row, row_keys, AreRows, IsRow}
 use Rattle.properties_tools.specs.Propedit.Differences.{Difference, gone, came, changed, key_of, AreDifferences, ComesBefore, Differs, IsDifference}
 use Rattle.properties_tools.specs.Private.Differing.{became, came_if, differences, of_new, of_old, row_with}

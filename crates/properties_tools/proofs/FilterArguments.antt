@@ -1,8 +1,7 @@
 -- What arguments ask `propfilter` for, one by one.
 use Rattle.std.proofs.Common.{◌≡◌, ℕ, true, false, List, [], ◌∷◌}
 use Rattle.std.specs.Prelude.{Option, Some, None}
-use Rattle.properties_tools.specs.Propfilter.{ascii_word, IsAsked, IsNamedWith}
-use Rattle.properties_tools.specs.Filter.{Form}
+use Rattle.properties_tools.specs.{Propfilter.ascii_word, Propfilter.IsAsked, Propfilter.IsNamedWith, Filter.Form}
 
 -- the name of an encoding alone
 pub named_alone : (name : List ℕ) (o : Option Form) → IsNamedWith name false o → IsAsked (name ∷ []) o

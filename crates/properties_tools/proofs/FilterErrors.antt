@@ -3,8 +3,7 @@ use Rattle.std.proofs.Common.{◌≡◌, ℕ, List, inl, inr, refl}
 use Rattle.std.specs.Prelude.{Option, Some, None, Err}
 use Rattle.std.specs.Option.{option_map}
 use Rattle.counted_io.specs.Streams.{Reader, Sink}
-use Rattle.java_properties.specs.DisplayTexts.{error_display}
-use Rattle.java_properties.specs.Errors.{refused_of}
+use Rattle.java_properties.specs.{DisplayTexts.error_display, Errors.refused_of}
 use Rattle.properties_items.specs.declared.error.PropertiesError.{PropertiesError}
 use Rattle.properties_tools.specs.Filter.{Filters, Form}
 

@@ -3,15 +3,10 @@ use Rattle.std.proofs.Common.{◌≡◌, ◌++◌, ℕ, false, List, [], refl, �
 use Rattle.std.specs.Prelude.{◌⊎◌, Result, Ok, Err}
 use Rattle.counted_io.specs.Streams.{Reader, Sink, HasWritten, HasFaulted, IsProperPrefix}
 use Rattle.counted_io.proofs.Streams.{written-failed_flush}
-use Rattle.properties_format.specs.Encoding.{Encoding, output_encoding}
-use Rattle.properties_format.specs.Items.{Entry, IsItems}
-use Rattle.properties_format.specs.Lines.{end}
-use Rattle.properties_format.specs.Computed.Items.{items_of}
-use Rattle.properties_format.specs.Settings.{default_settings}
-use Rattle.properties_format.specs.Writing.{pairs_in, items_after, ArePairsOfScalars}
-use Rattle.properties_format.proofs.Items.Unique.{items_of-meets, items_of-only}
-use Rattle.properties_format.proofs.ReadBack.Law.{default_settings-good, output_encoding-own}
-use Rattle.properties_format.proofs.ReadBack.Lists.{items_of-pairs, pairs_in-items}
+use Rattle.properties_format.specs.{Encoding.Encoding, Encoding.output_encoding, Items.Entry, Items.IsItems, Lines.end, Computed.Items.items_of}
+use Rattle.properties_format.specs.{Settings.default_settings, Writing.pairs_in, Writing.items_after, Writing.ArePairsOfScalars}
+use Rattle.properties_format.proofs.{Items.Unique.items_of-meets, Items.Unique.items_of-only, ReadBack.Law.default_settings-good}
+use Rattle.properties_format.proofs.{ReadBack.Law.output_encoding-own, ReadBack.Lists.items_of-pairs, ReadBack.Lists.pairs_in-items}
 use Rattle.properties_items.specs.declared.error.PropertiesError.{PropertiesError}
 use Rattle.java_properties.proofs.TextMaps.ReadBack.{pairs-accepted}
 use Rattle.properties_tools.specs.Filter.{pair_lines, next_pair_line, StopsInReading, StopsInWriting, StopsInFlush, Filters, Settles, Form, form}

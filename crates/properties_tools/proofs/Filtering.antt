@@ -2,21 +2,16 @@
 use Rattle.std.proofs.Common.{◌≡◌, ◌++◌, ℕ, false, List, [], ◌∷◌, sym, ◌∙◌, inl, inr, subst, append-nil}
 use Rattle.std.specs.Prelude.{Bool, Result, Ok, Err}
 use Rattle.counted_io.specs.Streams.{Reader, Sink}
-use Rattle.properties_format.specs.Encoding.{Encoding}
-use Rattle.properties_format.specs.ItemsToCome.{ReaderState, start}
-use Rattle.properties_format.specs.Items.{Content, comment, pair, Entry, item, malformed, read_fault, AreItems, IsItems}
-use Rattle.properties_format.specs.Lines.{end}
-use Rattle.properties_format.specs.Writing.{pairs_in, ArePairsOfScalars}
+use Rattle.properties_format.specs.{Encoding.Encoding, ItemsToCome.ReaderState, ItemsToCome.start, Lines.end, Writing.pairs_in, Writing.ArePairsOfScalars}
 use Rattle.properties_format.specs.Computed.ItemsToCome.{items_to_come}
+use Rattle.properties_format.specs.Items.{Content, comment, pair, Entry, item, malformed, read_fault, AreItems, IsItems}
 use Rattle.properties_format.proofs.Items.Unique.{items_of-meets}
 use Rattle.java_properties.specs.PropertiesIter.{Iteration, GivesEntry, GivesNone, GivesError}
-use Rattle.java_properties.specs.PropertiesWriter.{Writing, WritesLine, Flushes}
-use Rattle.java_properties.specs.ReadLines.{BeginsWith}
+use Rattle.java_properties.specs.{PropertiesWriter.Writing, PropertiesWriter.WritesLine, PropertiesWriter.Flushes, ReadLines.BeginsWith, Copying.HasScalars}
+use Rattle.java_properties.specs.{Copying.WritesIfPair, Copying.Copies, declared.copy.CopyError.CopyError, declared.copy.CopyError.TheVariants.Read}
+use Rattle.java_properties.specs.declared.copy.CopyError.TheVariants.{Write}
 use Rattle.properties_items.specs.declared.error.PropertiesError.{PropertiesError}
 use Rattle.java_properties.proofs.Readings.{Comes, Collected, collected-start, collected-next, collected-none, collected-error}
-use Rattle.java_properties.specs.Copying.{HasScalars, WritesIfPair, Copies}
-use Rattle.java_properties.specs.declared.copy.CopyError.{CopyError}
-use Rattle.java_properties.specs.declared.copy.CopyError.TheVariants.{Read, Write}
 use Rattle.properties_tools.specs.Filter.{pair_writer, Filters, Form}
 use Rattle.properties_tools.proofs.Pairs.{HasWrittenPairs, pairs-none, pairs-comment, pairs-more, pairs-live, pairs-fail, pairs-refused, pairs-flushed, pairs-flush, pairs-flush-failed}
 

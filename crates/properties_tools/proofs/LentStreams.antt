@@ -1,8 +1,7 @@
 -- What was done to streams that were lent was done to the streams themselves.
 use Rattle.std.proofs.Common.{◌≡◌, ◌∷◌, inl, inr, rules}
-use Rattle.std.specs.Borrow.{MutBor}
+use Rattle.std.specs.{Borrow.MutBor, declared.io.Error.Error}
 use Rattle.std.specs.Prelude.{Bool, Option, Some, None, Result, Ok, Err}
-use Rattle.std.specs.declared.io.Error.{Error}
 use Rattle.counted_io.specs.Streams.{Reader, Sink, CameFromWrite}
 use Rattle.properties_format.specs.Encoding.{Encoding}
 use Rattle.properties_items.specs.declared.error.PropertiesError.{PropertiesError}

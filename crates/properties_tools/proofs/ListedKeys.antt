@@ -1,18 +1,13 @@
 -- The keys of a source are those of no other list.
 use Rattle.std.proofs.Common.{◌≡◌, ◌≢◌, ℕ, zero, suc, List, [], ◌∷◌, ◌++◌, refl, ap, sym, ◌∙◌, inl, inr, subst, arith}
 use Rattle.std.specs.Prelude.{AllPairs, map}
-use Rattle.properties_format.specs.Encoding.{Encoding}
+use Rattle.properties_format.specs.{Encoding.Encoding, Computed.Maps.Has, Writing.Pair}
 use Rattle.properties_format.specs.Items.{comment, pair, Entry, item, malformed, read_fault}
 use Rattle.properties_format.specs.Maps.{HasNoPair, PairComesBefore, AreKeys, IsLastValue}
-use Rattle.properties_format.specs.Computed.Maps.{Has}
-use Rattle.properties_format.proofs.Edits.PairValues.{pairs_of-only}
-use Rattle.properties_format.proofs.Keys.{contained, contains}
+use Rattle.properties_format.proofs.{Edits.PairValues.pairs_of-only, Keys.contained, Keys.contains}
 use Rattle.properties_tools.specs.Propedit.Listing.{AreKeysOf, AreLastPairs}
-use Rattle.std.proofs.lemmas.List.Elements.{All-map}
-use Rattle.std.proofs.lemmas.Simd.{map-map}
-use Rattle.properties_format.specs.Writing.{Pair}
-use Rattle.properties_tables.specs.Private.Table.{row_pair}
-use Rattle.properties_tables.specs.Table.{HasRows, Row}
+use Rattle.std.proofs.{lemmas.List.Elements.All-map, lemmas.Simd.map-map}
+use Rattle.properties_tables.specs.{Private.Table.row_pair, Table.HasRows, Table.Row}
 use Rattle.properties_tools.proofs.Differences.{last-value}
 
 no_pair-tail : (key : List ℕ) (x : Entry) (xs : List Entry) → HasNoPair key (x ∷ xs) → HasNoPair key xs

@@ -1,29 +1,20 @@
 -- The keys that one table has and another doesn't are those of its pairs that no pair of the other has.
 use Rattle.std.proofs.Common.{◌≡◌, ℕ, zero, suc, Bool, true, false, List, [], ◌∷◌, ◌++◌, refl, ap, sym, ◌∙◌, inl, inr, subst, arith, append_assoc}
 use Rattle.std.specs.Prelude.{◌&&◌, not, AllPairs, Contains, Option, Some, None, bytes_eq, filter, is_some, string_bytes}
-use Rattle.std.specs.Global.{Global}
-use Rattle.std.specs.declared.string.String.{String}
+use Rattle.std.specs.{Global.Global, declared.string.String.String}
 use Rattle.std.proofs.lemmas.Bool.{cases_Bool, and_parts, not-true, not-false}
 use Rattle.std.proofs.lemmas.List.Elements.{All-contains, All-contains_itself, All-filter, filter_passes}
-use Rattle.std.proofs.lemmas.List.Kept.{AllPairs-filter}
-use Rattle.std.proofs.lemmas.Slice.Eq.{bytes_eq-Decides}
-use Rattle.properties_format.specs.Computed.Maps.{HasNot}
-use Rattle.properties_format.specs.Items.{Entry}
+use Rattle.std.proofs.{lemmas.List.Kept.AllPairs-filter, lemmas.Slice.Eq.bytes_eq-Decides}
+use Rattle.properties_format.specs.{Computed.Maps.HasNot, Items.Entry, Encoding.Encoding}
 use Rattle.properties_format.specs.Maps.{AreKeys, HasNoPair, IsLastValue, PairComesBefore}
-use Rattle.properties_format.proofs.Maps.{value_in-only}
+use Rattle.properties_format.proofs.{Maps.value_in-only, Changed.Maps.other-test}
 use Rattle.java_properties.specs.Findings.{KeyPlace}
-use Rattle.properties_format.specs.Encoding.{Encoding}
-use Rattle.properties_format.proofs.Changed.Maps.{other-test}
-use Rattle.properties_checking.specs.Private.Checking.{IsChecked}
-use Rattle.properties_checking.specs.Private.Objects.{AddsReport}
+use Rattle.properties_checking.specs.{Private.Checking.IsChecked, Private.Objects.AddsReport, Kinds.reported, declared.check.Reported.Reported}
+use Rattle.properties_checking.specs.{declared.kinds.Kind.TheVariants.MissingKey, declared.kinds.Kind.TheVariants.SurplusKey, declared.request.Check.Check}
 use Rattle.properties_tools.specs.Private.Lacking.{is_among, is_lacking, lacking}
-use Rattle.properties_tables.specs.Private.Table.{table_places, FindsKey}
+use Rattle.properties_tables.specs.{Private.Table.table_places, Private.Table.FindsKey, Private.Table.HasPlaces, Table.IsFirstLine}
+use Rattle.properties_tables.specs.{SoundKeys.AreKeyedPairs, declared.key_table.KeyTable.KeyTable}
 use Rattle.properties_tools.specs.Propedit.Against.{is_compared, keys_at, missing_line, missing_value, surplus_line, surplus_value, AreKeyPlaces, AreLacking, IsBaseOf, IsReportAgainst, KnownBase, TellsWellFormed}
-use Rattle.properties_checking.specs.Kinds.{reported}
-use Rattle.properties_tables.specs.Table.{IsFirstLine}
-use Rattle.properties_checking.specs.declared.check.Reported.{Reported}
-use Rattle.properties_checking.specs.declared.kinds.Kind.TheVariants.{MissingKey, SurplusKey}
-use Rattle.properties_checking.specs.declared.request.Check.{Check}
 use Rattle.properties_tools.proofs.Differences.{no-value}
 
 -- ---- a key among others
@@ -135,46 +126,47 @@ module _ (w : Bool) (pairs other : List Entry) (places : List KeyPlace) (keys : 
 
 -- ---- reports
 
-module _ (name : List ℕ) (e : Encoding) (check : Check) (source : List ℕ) (r : Reported) (h : IsChecked name e check source r) where
+module _ (name : List ℕ) (e : Encoding) (check : Check) (source : List ℕ) (r : Reported) (h : IsChecked name e check source r)
+    (keys : KeyTable) (places : HasPlaces (AreKeyedPairs e source) (table_places keys)) where
   told : TellsWellFormed e source r.is_well_formed
   told = record { numbers = h.ill_formed; are = h.are_ill_formed; is = h.well_formed }
 
-  own : AreKeyPlaces h.places.pairs (table_places r.keys)
-  own = record { keys = h.places.keys; lines = h.places.each }
+  own : AreKeyPlaces places.pairs (table_places keys)
+  own = record { keys = places.keys; lines = places.each }
 
   -- what is kept of a base
-  pub base-kept : (base : KnownBase) → base.name ≡ name → base.keys ≡ table_places r.keys → base.is_well_formed ≡ r.is_well_formed
+  pub base-kept : (base : KnownBase) → base.name ≡ name → base.keys ≡ table_places keys → base.is_well_formed ≡ r.is_well_formed
       → IsBaseOf name e source base
-  base-kept base named keys well = record {
+  base-kept base named same well = record {
     named = named;
-    pairs = h.places.pairs;
-    are = h.places.are;
-    keys = subst (AreKeyPlaces h.places.pairs) (sym keys) own;
+    pairs = places.pairs;
+    are = places.are;
+    keys = subst (AreKeyPlaces places.pairs) (sym same) own;
     well_formed = subst (TellsWellFormed e source) (sym well) told;
   }
 
   -- the report against a base
   pub said-against : (base : KnownBase) (w : Bool) (after all : String Global) → w ≡ (base.is_well_formed && r.is_well_formed)
       → AddsReport check.report (missing_line name base.name) (missing_value name base.name)
-      (reported check.ignored (λ p. MissingKey) (lacking w (keys_at (table_places r.keys)) base.keys)) r.text after
+      (reported check.ignored (λ p. MissingKey) (lacking w (keys_at (table_places keys)) base.keys)) r.text after
       → AddsReport check.report (surplus_line name base.name) (surplus_value name base.name)
-      (reported check.ignored (λ p. SurplusKey) (lacking w (keys_at base.keys) (table_places r.keys))) after all
+      (reported check.ignored (λ p. SurplusKey) (lacking w (keys_at base.keys) (table_places keys))) after all
       → IsReportAgainst base name e check source (string_bytes all)
   said-against base w after all both h1 h2 = record {
     report = string_bytes r.text;
     is_report = h.report;
-    pairs = h.places.pairs;
-    are = h.places.are;
+    pairs = places.pairs;
+    are = places.are;
     is_well_formed = r.is_well_formed;
     well_formed = told;
-    missing = lacking w (keys_at (table_places r.keys)) base.keys;
+    missing = lacking w (keys_at (table_places keys)) base.keys;
     are_missing = λ base_pairs theirs.
-        subst (λ v. AreLacking v base_pairs h.places.pairs (lacking w (keys_at (table_places r.keys)) base.keys)) both
-        (lacking-are w base_pairs h.places.pairs base.keys (keys_at (table_places r.keys)) theirs h.places.keys);
-    surplus = lacking w (keys_at base.keys) (table_places r.keys);
+        subst (λ v. AreLacking v base_pairs places.pairs (lacking w (keys_at (table_places keys)) base.keys)) both
+        (lacking-are w base_pairs places.pairs base.keys (keys_at (table_places keys)) theirs places.keys);
+    surplus = lacking w (keys_at base.keys) (table_places keys);
     are_surplus = λ base_pairs theirs.
-        subst (λ v. AreLacking v h.places.pairs base_pairs (lacking w (keys_at base.keys) (table_places r.keys))) both
-        (lacking-are w h.places.pairs base_pairs (table_places r.keys) (keys_at base.keys) own theirs.keys);
+        subst (λ v. AreLacking v places.pairs base_pairs (lacking w (keys_at base.keys) (table_places keys))) both
+        (lacking-are w places.pairs base_pairs (table_places keys) (keys_at base.keys) own theirs.keys);
     missing_text = h1.text;
     tells_missing = h1.is_text;
     surplus_text = h2.text;

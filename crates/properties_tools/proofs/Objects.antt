@@ -3,19 +3,13 @@ use Rattle.std.proofs.Common.{◌≡◌, ◌≢◌, ◌≤◌, ℕ, List, [], �
 use Rattle.std.specs.Prelude.{All, codes, encode_utf8_all, map}
 use Rattle.std.specs.List.{flat_map}
 use Rattle.std.proofs.lemmas.List.Elements.{All-head, All-tail}
-use Rattle.json.specs.Json.{max_depth}
-use Rattle.json.specs.Print.{print}
+use Rattle.json.specs.{Json.max_depth, Print.print, Tree.depth, Tree.json_tokens, Tree.HasNumbers, Written.Written}
 use Rattle.json.specs.Token.{Token, begin_object, end_object, key, string}
-use Rattle.json.specs.Tree.{depth, json_tokens, HasNumbers}
-use Rattle.json.specs.Written.{Written}
 use Rattle.json.proofs.Printed.Decimals.{IsNumber-decimal}
 use Rattle.properties_format.specs.Text.{line_feed}
 use Rattle.properties_tools.specs.Propedit.Differences.{changed, came, gone, key_of, Difference}
-use Rattle.properties_tools.specs.Propedit.Json.{difference_value}
-use Rattle.properties_checking.specs.JsonLines.{AreJsonLines}
-use Rattle.properties_tools.specs.Private.Differing.{HasLines}
-use Rattle.properties_tools.specs.Private.Json.{difference_line, side_tokens}
-use Rattle.properties_checking.specs.Private.Objects.{WritesAll}
+use Rattle.properties_tools.specs.{Propedit.Json.difference_value, Private.Differing.HasLines, Private.Json.difference_line, Private.Json.side_tokens}
+use Rattle.properties_checking.specs.{JsonLines.AreJsonLines, Private.Objects.WritesAll}
 use Rattle.properties_checking.proofs.Json.{json-line}
 
 never-empty : (text : List ℕ) (byte : ℕ) → text ++ byte ∷ [] ≢ []

@@ -1,18 +1,12 @@
 -- An object with a member for each pair, printed a token at a time.
 use Rattle.std.proofs.Common.{◌≡◌, ℕ, List, [], ◌∷◌, ◌++◌, ◌∙◌, refl, ap, ap₂, sym, arith, append_assoc, Ok}
-use Rattle.std.specs.Prelude.{encode_utf8_all}
-use Rattle.std.specs.List.{flat_map}
+use Rattle.std.specs.{Prelude.encode_utf8_all, List.flat_map}
 use Rattle.std.proofs.lemmas.Grind.{flat_map-append}
-use Rattle.json.specs.Json.{object}
-use Rattle.json.specs.Print.{print}
+use Rattle.json.specs.{Json.object, Print.print, Tree.members_depth, Tree.members_tokens, Tree.MembersHaveNumbers, Written.Writes, Written.Written}
 use Rattle.json.specs.Token.{Token, begin_object, end_object, key, string}
-use Rattle.json.specs.Tree.{members_depth, members_tokens, MembersHaveNumbers}
-use Rattle.json.specs.Written.{Writes, Written}
-use Rattle.properties_format.specs.Text.{line_feed}
-use Rattle.properties_format.specs.Writing.{Pair}
-use Rattle.properties_tools.specs.Propedit.Json.{pair_members}
+use Rattle.properties_format.specs.{Text.line_feed, Writing.Pair}
+use Rattle.properties_tools.specs.{Propedit.Json.pair_members, Propedit.Listing.list_status}
 use Rattle.properties_checking.specs.JsonLines.{IsJsonLine}
-use Rattle.properties_tools.specs.Propedit.Listing.{list_status}
 use Rattle.properties_checking.proofs.Json.{json-line}
 
 abbrev pair_tokens : Pair → List Token

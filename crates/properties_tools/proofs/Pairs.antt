@@ -5,12 +5,10 @@ use Rattle.counted_io.specs.Streams.{Sink, HasWritten}
 use Rattle.counted_io.proofs.Streams.{faulted-more, written-flushed}
 use Rattle.properties_format.specs.Items.{comment, pair, Entry, item, malformed, read_fault}
 use Rattle.properties_format.specs.Writing.{Pair, pairs_in, calls_of, pair_call, is_accepted, settings_after, line_count_after}
-use Rattle.java_properties.specs.Calls.{HasMade}
-use Rattle.java_properties.specs.Errors.{kind_of, IsBareError}
+use Rattle.java_properties.specs.{Calls.HasMade, Errors.kind_of, Errors.IsBareError}
 use Rattle.java_properties.specs.PropertiesWriter.{Writing, next_line, HasWrittenLine, RefusesLine, FailsInLine, IsRefusedBy, Flushes, HasFlushedSink, FailsInFlush}
-use Rattle.properties_items.specs.declared.error.ErrorKind.{ErrorKind}
+use Rattle.properties_items.specs.{declared.error.ErrorKind.ErrorKind, declared.error.PropertiesError.PropertiesError}
 use Rattle.properties_items.specs.declared.error.ErrorKind.TheVariants as kind
-use Rattle.properties_items.specs.declared.error.PropertiesError.{PropertiesError}
 use Rattle.java_properties.proofs.Calls.Made.{made-none, pair-made, made-more}
 use Rattle.java_properties.specs.WholeSources as source
 use Rattle.properties_tools.specs.Filter.{settings_with, pair_writer, pair_calls, pair_count, pair_lines, next_pair_line, TakesAndFlushes, FailsInPair, RefusesPair, Form}

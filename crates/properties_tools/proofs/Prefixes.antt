@@ -1,11 +1,8 @@
 -- A text begins with another exactly if its UTF-8 begins with the other's.
 use Rattle.std.proofs.Common.{◌≡◌, ℕ, Bool, true, List, [], ◌∷◌, ◌++◌, refl, ap, ap₂, sym, ◌∙◌, append_assoc, drop, length, eqb}
-use Rattle.std.specs.Prelude.{encode_utf8, encode_utf8_all}
-use Rattle.std.specs.List.{starts_with}
-use Rattle.std.specs.Str.{chars, IsUtf8}
-use Rattle.std.proofs.lemmas.Bool.Decides.{Decides-eqb, same_from_decides}
-use Rattle.std.proofs.lemmas.Slice.Eq.{starts_is}
-use Rattle.std.proofs.lemmas.Str.{cons_from_encodes, encodes-append, encodes-chars}
+use Rattle.std.specs.{Prelude.encode_utf8, Prelude.encode_utf8_all, List.starts_with, Str.chars, Str.IsUtf8}
+use Rattle.std.proofs.{lemmas.Bool.Decides.Decides-eqb, lemmas.Bool.Decides.same_from_decides, lemmas.Slice.Eq.starts_is, lemmas.Str.cons_from_encodes}
+use Rattle.std.proofs.{lemmas.Str.encodes-append, lemmas.Str.encodes-chars}
 
 front-decoded : (p k t : List ℕ) → encode_utf8_all k ≡ encode_utf8_all p ++ t → (r : List ℕ) × (k ≡ p ++ r)
 front-decoded [] k t h = (k, refl)

@@ -2,8 +2,7 @@
 use Rattle.std.proofs.Common.{◌≡◌, ℕ, Bool, true, false, ◌+◌, ◌<◌, List, [], ◌∷◌, ◌++◌, length, refl, ap, sym, ◌∙◌, append-nil}
 use Rattle.std.specs.Prelude.{cond, filter, get_or, take}
 use Rattle.std.specs.List.{flat_map}
-use Rattle.std.proofs.lemmas.Grind.{flat_map-append}
-use Rattle.std.proofs.lemmas.List.Elements.{filter_more}
+use Rattle.std.proofs.{lemmas.Grind.flat_map-append, lemmas.List.Elements.filter_more}
 
 module _ {X : Type 0} (listed : X → Bool) (xs : List X) (i : ℕ) (x : X) (below : i < length xs) (is : get_or xs i x ≡ x) where
   next : filter listed (take (i + 1) xs) ≡ filter listed (take i xs) ++ cond (listed x) (x ∷ []) []

@@ -1,36 +1,23 @@
 -- The rows of two tables, compared one after another.
 use Rattle.std.proofs.Common.{◌≡◌, ◌≢◌, ℕ, zero, suc, ◌+◌, ◌^◌, ◌<◌, Bool, true, false, List, [], ◌∷◌, ◌++◌, length, take, refl, ap, ap₂, subst, sym, ◌∙◌, inl, inr, arith, append_assoc, append-nil}
 use Rattle.std.specs.Prelude.{All, AllPairs, Option, Some, None, Result, Ok, Err, bytes_eq, codes, get_or, if◌then◌else◌}
-use Rattle.std.specs.Fmt.{decimal}
-use Rattle.std.specs.List.{flat_map}
-use Rattle.std.proofs.lemmas.Bool.{cases_Bool}
-use Rattle.std.proofs.lemmas.Grind.{flat_map-append}
-use Rattle.std.proofs.lemmas.List.{get_or-map, length-map, take_more}
-use Rattle.std.proofs.lemmas.List.Elements.{All-append, All-cons, All-head, All-nil, All-tail}
+use Rattle.std.specs.{Fmt.decimal, List.flat_map, Str.chars, Str.IsUtf8}
+use Rattle.std.proofs.{lemmas.Bool.cases_Bool, lemmas.Grind.flat_map-append, lemmas.List.get_or-map, lemmas.List.length-map, lemmas.List.take_more}
 use Rattle.std.proofs.lemmas.Slice.Eq.{bytes_eq-Decides}
-use Rattle.std.specs.Str.{chars, IsUtf8}
-use Rattle.properties_format.specs.Computed.Maps.{HasNot}
-use Rattle.properties_format.specs.Encoding.{Encoding, utf_8}
-use Rattle.properties_format.specs.Items.{pair, Entry}
-use Rattle.properties_format.specs.Printing.{printed}
-use Rattle.properties_format.specs.Settings.{default_settings}
-use Rattle.properties_format.specs.Text.{is_blanks}
-use Rattle.properties_format.proofs.Printing.Characters.{printed-pair}
-use Rattle.properties_format.proofs.Changed.Maps.{other-test}
-use Rattle.properties_text.specs.Printing.{key_bytes, value_bytes}
-use Rattle.properties_text.specs.declared.print.Repertoire.TheVariants.{Ascii, Utf8}
+use Rattle.std.proofs.lemmas.List.Elements.{All-append, All-cons, All-head, All-nil, All-tail}
+use Rattle.properties_format.specs.{Computed.Maps.HasNot, Encoding.Encoding, Encoding.utf_8, Items.pair, Items.Entry, Printing.printed}
+use Rattle.properties_format.specs.{Settings.default_settings, Text.is_blanks}
+use Rattle.properties_format.proofs.{Printing.Characters.printed-pair, Changed.Maps.other-test}
+use Rattle.properties_text.specs.{Printing.key_bytes, Printing.value_bytes, declared.print.Repertoire.TheVariants.Ascii}
+use Rattle.properties_text.specs.declared.print.Repertoire.TheVariants.{Utf8}
 use Rattle.properties_items.proofs.TextMaps.Values.{same-characters}
-use Rattle.properties_tables.specs.Messages.{escaped}
-use Rattle.properties_tools.specs.Propedit.{report_status}
-use Rattle.properties_tools.specs.Propedit.Diff.{DiffsIn}
+use Rattle.properties_tables.specs.{Messages.escaped, Private.Table.rows_of, Private.Table.FindsKey, Private.Table.IsTable, declared.table.Table.Table}
+use Rattle.properties_tools.specs.{Propedit.report_status, Propedit.Diff.DiffsIn, declared.propedit.answer.Answer.Answer}
+use Rattle.properties_tools.specs.{declared.propedit.diff.DiffFailure.DiffFailure, declared.propedit.diff.DiffFailure.TheVariants.Old}
+use Rattle.properties_tools.specs.{declared.propedit.diff.DiffFailure.TheVariants.New, declared.propedit.diff.DiffFailure.TheVariants.Output}
 use Rattle.properties_tools.specs.Propedit.Differences.{came, changed, difference_lines, difference_status, gone, pair_line, row_line, AreDifferencesOf, Difference}
 use Rattle.properties_tables.specs.Table.{row_keys, AreRows, HasRows, Row}
 use Rattle.properties_tools.specs.Private.Differing.{became, came_if, differences, of_new, of_old, row_with, CanBeCompared, DiffsEach, HasLines}
-use Rattle.properties_tables.specs.Private.Table.{rows_of, FindsKey, IsTable}
-use Rattle.properties_tools.specs.declared.propedit.answer.Answer.{Answer}
-use Rattle.properties_tools.specs.declared.propedit.diff.DiffFailure.{DiffFailure}
-use Rattle.properties_tools.specs.declared.propedit.diff.DiffFailure.TheVariants.{Old, New, Output}
-use Rattle.properties_tables.specs.declared.table.Table.{Table}
 use Rattle.properties_tools.proofs.Differences.{differences-are}
 
 -- a line is never empty

@@ -1,8 +1,7 @@
 -- What is left of arguments after the first.
 use Rattle.std.proofs.Common.{◌≡◌, List, [], length, ap, sym, ◌∙◌}
 use Rattle.std.proofs.lemmas.List.{nil_from_length}
-use Rattle.std.specs.Prelude.{Option, Some, None}
-use Rattle.std.specs.Vec.Iter.{into_iter_items, into_iter_len, into_iter_steps}
+use Rattle.std.specs.{Prelude.Option, Prelude.Some, Prelude.None, Vec.Iter.into_iter_items, Vec.Iter.into_iter_len, Vec.Iter.into_iter_steps}
 use Rattle.std.specs.declared.vec.IntoIter.{IntoIter}
 use Rattle.properties_tools.specs.Arguments.{after_first}
 

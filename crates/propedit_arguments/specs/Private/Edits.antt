@@ -1,18 +1,12 @@
 -- The edits that arguments ask for.
 use Rattle.std.specs.Prelude.{◌≡◌, ◌≢◌, ◌==◌, ◌||◌, ◌-◌, length, get_or, Bool, true, false, ℕ, List, [], ◌∷◌, ◌++◌, Option, None, Result, Ok, Err, codes, map, string_bytes}
-use Rattle.std.specs.Borrow.{Bor}
-use Rattle.std.specs.Global.{Vec}
-use Rattle.std.specs.List.{list_any}
-use Rattle.std.specs.Str.{chars}
-use Rattle.std.specs.declared.string.String.{String}
+use Rattle.std.specs.{Borrow.Bor, Global.Vec, List.list_any, Str.chars, declared.string.String.String}
 use Rattle.properties_format.specs.Edits as format
 use Rattle.properties_format.specs.Text.{is_blank, is_separator}
 use Rattle.java_properties.specs.Editing.{edit_in}
-use Rattle.propedit_arguments.specs.declared.edits.AskedEdit.{AskedEdit}
+use Rattle.propedit_arguments.specs.{declared.edits.AskedEdit.AskedEdit, declared.edits.BorrowedEdit.BorrowedEdit, declared.mistake.Mistake.Mistake}
 use Rattle.propedit_arguments.specs.declared.edits.AskedEdit.TheVariants as Asked
-use Rattle.propedit_arguments.specs.declared.edits.BorrowedEdit.{BorrowedEdit}
 use Rattle.propedit_arguments.specs.declared.edits.BorrowedEdit.TheVariants as Borrowed
-use Rattle.propedit_arguments.specs.declared.mistake.Mistake.{Mistake}
 use Rattle.propedit_arguments.specs.declared.mistake.Mistake.TheVariants.{Memory, NoEdit, NoKey, NoNewKey, NoText, NoValue, OddKey, OddName, TwoAssignments}
 
 -- Arguments and texts are their UTF-8.

@@ -4,15 +4,10 @@ use Rattle.std.specs.Str.{IsUtf8}
 use Rattle.properties_format.specs.Encoding.{Encoding}
 use Rattle.properties_text.specs.Encoding.{encoding_of}
 use Rattle.properties_text.specs.declared.encoding.Encoding as code
-use Rattle.properties_c.specs.Crossing.{Crossing, RefusesCall}
+use Rattle.properties_c.specs.{Crossing.Crossing, Crossing.RefusesCall, declared.encoding.Flags.Flags, declared.key_call.AskedKey.AskedKey}
+use Rattle.properties_c.specs.{declared.key_call.KeyCall.KeyCall, declared.key_call.Refusal.Refusal, declared.key_call.Refusal.TheVariants.Arguments}
+use Rattle.properties_c.specs.{declared.key_call.Refusal.TheVariants.Source, declared.status.Status.Status, declared.status.Status.TheVariants.NotText}
 use Rattle.properties_c.specs.Inputs.{InEncoding, WithFlags, WithSource, WithText, encoding_at, flags_at, options_for, TellsUnsound}
-use Rattle.properties_c.specs.declared.encoding.Flags.{Flags}
-use Rattle.properties_c.specs.declared.key_call.AskedKey.{AskedKey}
-use Rattle.properties_c.specs.declared.key_call.KeyCall.{KeyCall}
-use Rattle.properties_c.specs.declared.key_call.Refusal.{Refusal}
-use Rattle.properties_c.specs.declared.key_call.Refusal.TheVariants.{Arguments, Source}
-use Rattle.properties_c.specs.declared.status.Status.{Status}
-use Rattle.properties_c.specs.declared.status.Status.TheVariants.{NotText}
 
 abbrev pub refusal_status : Refusal → Status
 refusal_status (Arguments status) = status

@@ -1,20 +1,14 @@
 -- What taking a packed list apart returns.
 use Rattle.std.specs.Prelude.{◌≡◌, ◌++◌, ℕ, List, [], length, ◌<◌, ◌^◌, Option, Some, None, Result, Ok, Err}
 use Rattle.properties_c.specs.Packed.{number_bytes, IsPackedText, Meaning, edits, IsPackedList, IsBadList, LacksText, HasNoRecord, HasNoText, Record, packed, record_in, IsSized}
-use Rattle.properties_c.specs.declared.lists.Line.{Line}
-use Rattle.properties_c.specs.declared.lists.Line.TheVariants.{Comment, Pair}
-use Rattle.properties_c.specs.declared.records.Header.{Header}
-use Rattle.std.specs.Borrow.{Bor}
-use Rattle.std.specs.Global.{Vec}
-use Rattle.std.specs.Str.{IsUtf8, chars}
+use Rattle.properties_c.specs.{declared.lists.Line.Line, declared.lists.Line.TheVariants.Comment, declared.lists.Line.TheVariants.Pair}
+use Rattle.properties_c.specs.{declared.records.Header.Header, declared.status.Status.Status, declared.status.Status.TheVariants.NoMemory}
+use Rattle.properties_c.specs.{declared.status.Status.TheVariants.NotUtf8, declared.status.Status.TheVariants.BadList}
+use Rattle.std.specs.{Borrow.Bor, Global.Vec, Str.IsUtf8, Str.chars, declared.string.String.String}
 use Rattle.properties_format.specs.Items.{Content, comment, pair}
-use Rattle.properties_renaming.specs.KeyEdits.{key_edits_in}
-use Rattle.properties_renaming.specs.declared.key_edits.KeyEdit.{KeyEdit}
-use Rattle.std.specs.declared.string.String.{String}
+use Rattle.properties_renaming.specs.{KeyEdits.key_edits_in, declared.key_edits.KeyEdit.KeyEdit}
 use Rattle.properties_items.specs.Texts.{characters}
 use Rattle.properties_c.specs.declared.records.Record as code
-use Rattle.properties_c.specs.declared.status.Status.{Status}
-use Rattle.properties_c.specs.declared.status.Status.TheVariants.{NoMemory, NotUtf8, BadList}
 
 abbrev pub header_bytes : Header → List ℕ
 header_bytes h = number_bytes h.kind ++ (number_bytes h.line ++ (number_bytes h.key_length ++ number_bytes h.value_length))

@@ -1,51 +1,29 @@
 -- What the exports write to memory of what they read, find and print.
 use Rattle.std.specs.Prelude.{ℕ, List, ◌≡◌, ◌≤◌, ◌==◌, ◌⊎◌, ◌+◌, ◌++◌, [], ◌∷◌, length, map, take, drop, Option, Some, None, Result, Ok, Err, if◌then◌else◌, Bool, true, false, encode_utf8_all}
-use Rattle.std.specs.List.{list_any}
-use Rattle.properties_format.specs.Computed.Encoding.{decoded_of}
-use Rattle.properties_format.specs.Computed.Items.{outcome_of}
-use Rattle.properties_format.specs.Computed.Lines.{lines_of}
-use Rattle.properties_format.specs.Lines.{line_endings}
-use Rattle.properties_format.specs.Text.{line_feed}
-use Rattle.properties_format.specs.Edited.{is_editable}
+use Rattle.std.specs.{List.list_any, Global.Vec}
+use Rattle.properties_format.specs.{Computed.Encoding.decoded_of, Computed.Items.outcome_of, Computed.Lines.lines_of, Lines.line_endings, Text.line_feed}
+use Rattle.properties_format.specs.{Edited.is_editable, Split.Logical, Split.blank, Escapes.Malformed, Encoding.Encoding, Encoding.byte_order_mark}
+use Rattle.properties_format.specs.{Encoding.output_encoding, Found.AreMalformedEscapes, Settings.Settings, Settings.IsGoodPrefix, Settings.IsGoodSeparator}
 use Rattle.properties_format.specs.Items.{Content, Entry, Outcome, ignored, given, broken, comment, pair}
-use Rattle.properties_format.specs.Split.{Logical, blank}
-use Rattle.properties_format.specs.Escapes.{Malformed}
-use Rattle.properties_items.specs.BorrowedItems.{IsNoItem, borrowed_content}
-use Rattle.properties_items.specs.Errors.{IsMalformed, kind_of}
-use Rattle.properties_items.specs.declared.borrowed.LineRef.{LineRef}
-use Rattle.properties_editing.specs.Views.{OpenView, IsViewOf}
-use Rattle.properties_editing.specs.declared.group.GroupKind.{GroupKind}
+use Rattle.properties_items.specs.{BorrowedItems.IsNoItem, BorrowedItems.borrowed_content, Errors.IsMalformed, Errors.kind_of}
+use Rattle.properties_items.specs.{declared.borrowed.LineRef.LineRef, declared.error.ErrorKind.ErrorKind, declared.error.PropertiesError.PropertiesError}
+use Rattle.properties_items.specs.declared.findings.MalformedEscape.{MalformedEscape}
+use Rattle.properties_editing.specs.{Views.OpenView, Views.IsViewOf, declared.group.GroupKind.GroupKind}
 use Rattle.properties_editing.specs.declared.group.GroupKind.TheVariants as group
 use Rattle.properties_c.specs.Items.{AreAsked, GivesAskedLine, IsPackedGroup, ArePacked, key_in, outcome_value}
-use Rattle.properties_c.specs.Parts.{IsLineEnd}
+use Rattle.properties_c.specs.{Parts.IsLineEnd, declared.asked.Asked.Asked, declared.asked.Texts.Texts, declared.items.PackedItems.PackedItems}
+use Rattle.properties_c.specs.{Private.Lists.RefusesList, Writing.AreGood, Writing.lines_before, declared.status.Status.Status}
 use Rattle.properties_c.specs.Packed.{IsPackedList, lines, end_bytes, item_record, Record, packed, packed_items, reading_line, reading_status, finding_bytes, packed_findings}
-use Rattle.properties_c.specs.declared.asked.Asked.{Asked}
-use Rattle.properties_c.specs.declared.asked.Texts.{Texts}
 use Rattle.properties_c.specs.declared.asked.Texts.TheVariants as texts
-use Rattle.properties_c.specs.declared.items.PackedItems.{PackedItems}
-use Rattle.std.specs.Global.{Vec}
-use Rattle.properties_format.specs.Encoding.{Encoding, byte_order_mark, output_encoding}
 use Rattle.properties_format.specs.Found as format
-use Rattle.properties_format.specs.Found.{AreMalformedEscapes}
-use Rattle.java_properties.specs.Errors.{IsBareError}
-use Rattle.java_properties.specs.Findings.{AreKeyLines, KeyEntry}
-use Rattle.properties_items.specs.declared.error.ErrorKind.{ErrorKind}
+use Rattle.java_properties.specs.{Errors.IsBareError, Findings.AreKeyLines, Findings.KeyEntry, Calls.HasMade, Calls.HasMadeCall, PropertiesWriter.Writing}
+use Rattle.java_properties.specs.{PropertiesWriter.call_of, PropertiesWriter.with_settings}
 use Rattle.properties_items.specs.declared.error.ErrorKind.TheVariants as kind
-use Rattle.properties_items.specs.declared.error.PropertiesError.{PropertiesError}
-use Rattle.properties_items.specs.declared.findings.MalformedEscape.{MalformedEscape}
 use mathlib.Core.Bool.{beq}
-use Rattle.properties_format.specs.Settings.{Settings, IsGoodPrefix, IsGoodSeparator}
 use Rattle.properties_format.specs.Writing.{Call, comment_call, answers, wrote}
-use Rattle.counted_io.specs.Counting.{counted_inner}
-use Rattle.counted_io.specs.Streams.{Sink}
-use Rattle.counted_io.specs.declared.counted.Counted.{Counted}
-use Rattle.java_properties.specs.Calls.{HasMade, HasMadeCall}
-use Rattle.java_properties.specs.PropertiesWriter.{Writing, call_of, with_settings}
-use Rattle.properties_c.specs.Private.Lists.{RefusesList}
-use Rattle.properties_c.specs.Writing.{AreGood, lines_before}
+use Rattle.counted_io.specs.{Counting.counted_inner, Streams.Sink, declared.counted.Counted.Counted}
 use Rattle.properties_tables.specs.declared.error.Failure.{Failure}
 use Rattle.properties_tables.specs.declared.error.Failure.TheVariants.{Utf32Mark, HoldsZero, NotUtf8, NotUtf8ByMark, NotUtf16}
-use Rattle.properties_c.specs.declared.status.Status.{Status}
 use Rattle.properties_c.specs.declared.status.Status.TheVariants.{NoMemory, BadPrefix, BadSeparator, EmptyKey}
 
 -- ---- The items of a source.

@@ -1,21 +1,13 @@
 -- How keys are looked up for edits.
 use Rattle.std.specs.Prelude.{◌≡◌, ◌⊎◌, ℕ, List, [], Option, Some, None, Result, Ok, Err, ◌∷◌}
-use Rattle.std.specs.Global.{Vec, Global}
-use Rattle.properties_format.specs.Encoding.{Encoding}
-use Rattle.properties_tables.specs.Sources.{IsSound, IsUnsound, first_in_pair}
-use Rattle.std.specs.declared.string.String.{String}
-use Rattle.java_properties.specs.Maps.{characters}
-use Rattle.properties_format.specs.Edits.{Edit}
-use Rattle.properties_editing.specs.declared.edit.Edit as editor
-use Rattle.java_properties.specs.Editing.{edits_in, ArePairsMade}
-use Rattle.properties_changing.specs.Change.{edits_repertoire, AreKnown, RefusesEdits}
-use Rattle.properties_changing.specs.Keys.{HoldsKeys, IsFirstAbsent}
-use Rattle.properties_changing.specs.declared.request.Edits.{Edits}
-use Rattle.properties_tables.specs.Failures.{IsMemoryFailure}
-use Rattle.properties_tables.specs.declared.error.Failure.{Failure}
+use Rattle.std.specs.{Global.Vec, Global.Global, declared.string.String.String, Borrow.Bor, Str.chars}
+use Rattle.properties_format.specs.{Encoding.Encoding, Edits.Edit}
+use Rattle.properties_tables.specs.{Sources.IsSound, Sources.IsUnsound, Sources.first_in_pair, Failures.IsMemoryFailure, declared.error.Failure.Failure}
 use Rattle.properties_tables.specs.declared.error.Failure.TheVariants.{Absent}
-use Rattle.std.specs.Borrow.{Bor}
-use Rattle.std.specs.Str.{chars}
+use Rattle.java_properties.specs.{Maps.characters, Editing.edits_in, Editing.ArePairsMade}
+use Rattle.properties_editing.specs.declared.edit.Edit as editor
+use Rattle.properties_changing.specs.{Change.edits_repertoire, Change.AreKnown, Change.RefusesEdits, Keys.HoldsKeys, Keys.IsFirstAbsent}
+use Rattle.properties_changing.specs.declared.request.Edits.{Edits}
 
 -- ---- keys that no pair has
 

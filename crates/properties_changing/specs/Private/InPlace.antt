@@ -1,28 +1,17 @@
 -- What is known of a file that is edited in place without asking the system.
 use Rattle.std.specs.Prelude.{◌≡◌, ◌≢◌, ◌⊎◌, ℕ, true, false, if◌then◌else◌, List, length, ◌==◌, Option, Some, None, Result, Ok, Err, string_bytes}
-use Rattle.std.specs.Global.{Global, Vec}
-use Rattle.std.specs.Path.{cur_dir, path_parent}
-use Rattle.std.specs.IoError.{error_kind}
-use Rattle.std.specs.declared.io.Error.{Error}
-use Rattle.std.specs.declared.io.ErrorKind.TheVariants.{NotFound, ResourceBusy}
-use Rattle.std.specs.declared.string.String.{String}
+use Rattle.std.specs.{Global.Global, Global.Vec, Path.cur_dir, Path.path_parent, IoError.error_kind, declared.io.Error.Error}
+use Rattle.std.specs.{declared.io.ErrorKind.TheVariants.NotFound, declared.io.ErrorKind.TheVariants.ResourceBusy, declared.string.String.String}
 use Rattle.properties_format.specs.Encoding.{Encoding}
 use Rattle.properties_text.specs.Encoding.{encoding_of}
 use Rattle.properties_items.specs.declared.error.PropertiesError.{PropertiesError}
-use Rattle.properties_changing.specs.Change.{Replaces, Changes}
-use Rattle.properties_changing.specs.InPlace.{IsChangeLine}
-use Rattle.properties_changing.specs.declared.request.Change.{Change}
-use Rattle.properties_changing.specs.declared.request.FileChange.{FileChange}
-use Rattle.properties_tables.specs.Sources.{IsUnsound}
-use Rattle.properties_tables.specs.declared.error.Failure.{Failure}
-use Rattle.properties_tables.specs.declared.error.Failure.TheVariants.{Input}
-use Rattle.properties_changing.specs.declared.in_place.EditError.{EditError}
-use Rattle.properties_changing.specs.declared.in_place.EditError.TheVariants.{NotEdited, NotReplaced}
-use Rattle.properties_changing.specs.declared.in_place.Presence.{Presence}
+use Rattle.properties_changing.specs.{Change.Replaces, Change.Changes, InPlace.IsChangeLine, declared.request.Change.Change}
+use Rattle.properties_changing.specs.{declared.request.FileChange.FileChange, declared.in_place.EditError.EditError}
+use Rattle.properties_changing.specs.{declared.in_place.EditError.TheVariants.NotEdited, declared.in_place.EditError.TheVariants.NotReplaced}
+use Rattle.properties_changing.specs.{declared.in_place.Presence.Presence, declared.in_place.Problem.Problem, declared.in_place.Snapshot.Snapshot}
+use Rattle.properties_tables.specs.{Sources.IsUnsound, declared.error.Failure.Failure, declared.error.Failure.TheVariants.Input}
 use Rattle.properties_changing.specs.declared.in_place.Presence.TheVariants as presence
-use Rattle.properties_changing.specs.declared.in_place.Problem.{Problem}
 use Rattle.properties_changing.specs.declared.in_place.Problem.TheVariants as problem
-use Rattle.properties_changing.specs.declared.in_place.Snapshot.{Snapshot}
 
 -- a parent, or the current folder if it is empty or there is none
 abbrev pub or_current : Option (List ℕ) → List ℕ

@@ -1,31 +1,18 @@
 -- The findings of a check, as the code holds them.
 use Rattle.std.specs.Prelude.{◌≡◌, ◌⊎◌, None, ℕ, ◌==◌, ◌&&◌, not, Bool, if◌then◌else◌, get_or, length, List, [], ◌∷◌, Result, Ok, Err, string_bytes}
-use Rattle.std.specs.Global.{Vec}
-use Rattle.std.specs.List.Sorted.{IsNonDecreasingBy, IsStableByKey}
-use Rattle.std.specs.Ordering.{nat_cmp}
+use Rattle.std.specs.{Global.Vec, List.Sorted.IsNonDecreasingBy, List.Sorted.IsStableByKey, Ordering.nat_cmp}
 use Rattle.properties_format.specs.Encoding.{Encoding}
-use Rattle.java_properties.specs.Findings.{KeyPlace}
-use Rattle.properties_items.specs.Errors.{IsBareError}
+use Rattle.java_properties.specs.{Findings.KeyPlace, Errors.IsBareError}
+use Rattle.properties_items.specs.{Errors.IsBareError, declared.error.PropertiesError.PropertiesError, declared.findings.MalformedEscape.MalformedEscape}
 use Rattle.properties_items.specs.declared.error.ErrorKind.TheVariants as kind
-use Rattle.properties_items.specs.declared.error.PropertiesError.{PropertiesError}
-use Rattle.properties_items.specs.declared.findings.MalformedEscape.{MalformedEscape}
-use Rattle.properties_tables.specs.Private.Table.{table_places, HasPlaces, IsKeyTable}
+use Rattle.properties_tables.specs.{Private.Table.table_places, Private.Table.HasPlaces, Private.Table.IsKeyTable, Lines.AreFlawedLines}
+use Rattle.properties_tables.specs.{SoundKeys.AreKeyedPairs, Sources.first_in_pair, declared.key_table.KeyTable.KeyTable}
 use Rattle.properties_checking.specs.Check.{has_replacement, holds_zero, is_ill_formed, is_malformed, is_misread, is_non_ascii, is_read_otherwise, looks_like_utf_8, repeats_key, IsReport, SaidFinding, What, AreOtherBytes, AreOtherwise, AreRefused, AreWithBytes}
-use Rattle.properties_tables.specs.Lines.{AreFlawedLines}
-use Rattle.properties_tables.specs.SoundKeys.{AreKeyedPairs}
-use Rattle.properties_tables.specs.Sources.{first_in_pair}
-use Rattle.properties_tables.specs.declared.key_table.KeyTable.{KeyTable}
-use Rattle.properties_checking.specs.Misread.{AreMisread}
-use Rattle.properties_checking.specs.declared.check.Reported.{Reported}
-use Rattle.properties_checking.specs.declared.check.FindingKind.{FindingKind}
+use Rattle.properties_checking.specs.{Misread.AreMisread, declared.check.Reported.Reported, declared.check.FindingKind.FindingKind}
+use Rattle.properties_checking.specs.{declared.check.Finding.Finding, declared.check.Words.Words, declared.misread.Misread.Misread as MisreadKind}
+use Rattle.properties_checking.specs.{declared.request.Check.Check, declared.request.Allowed.Allowed}
 use Rattle.properties_checking.specs.declared.check.FindingKind.TheVariants.{HoldsZero, IllFormedLine, LooksUtf8, NonAscii, ReadOtherwise, Misread, Escape, Repeats}
-use Rattle.properties_checking.specs.declared.check.Finding.{Finding}
-use Rattle.properties_checking.specs.declared.check.Words.{Words}
-use Rattle.properties_checking.specs.declared.misread.Misread.{Misread as MisreadKind}
 use Rattle.properties_tables.specs.declared.ill_formed.Flaw.TheVariants as flaw
-use Rattle.properties_checking.specs.declared.request.Check.{Check}
-use Rattle.java_properties.specs.Errors.{IsBareError}
-use Rattle.properties_checking.specs.declared.request.Allowed.{Allowed}
 
 -- ---- findings
 
@@ -89,12 +76,13 @@ FindsMisread e source (Err error) = IsBareError kind.Memory error
 pub record IsChecked (name : List ℕ) (e : Encoding) (check : Check) (source : List ℕ) (c : Reported) : Type 0 where
   pub report : IsReport name e check source (string_bytes c.text)
   pub table : IsKeyTable c.keys
-  pub places : HasPlaces (AreKeyedPairs e source) (table_places c.keys)
+  pub places : first_in_pair c.escapes.items ≡ None → HasPlaces (AreKeyedPairs e source) (table_places c.keys)
   pub ill_formed : List ℕ
   pub are_ill_formed : AreFlawedLines flaw.IllFormed e source ill_formed
   pub well_formed : c.is_well_formed ≡ (length ill_formed == 0)
 
--- What returns the sound keys of a source, given those of its pairs and its malformed escapes. It fails only if memory runs out.
+-- What finding the sound keys of a source returns, given those of its pairs and its malformed escapes. It fails only if
+-- memory runs out.
 abbrev pub FindsSoundKeys : Encoding → List ℕ → KeyTable → List MalformedEscape → Result KeyTable PropertiesError → Type 0
 FindsSoundKeys e source keys escapes (Ok t) =
     ((first_in_pair escapes ≡ None) × (t ≡ keys)) ⊎ (IsKeyTable t × HasPlaces (AreKeyedPairs e source) (table_places t))

@@ -1,20 +1,15 @@
 -- What is found wrong in a source, line by line.
 use Rattle.std.specs.Prelude.{◌≡◌, ℕ, None, List, Result, Ok, Err, ◌+◌, map, ◌++◌, Bool}
-use Rattle.properties_format.specs.Encoding.{Encoding}
-use Rattle.properties_format.specs.Found.{AreMalformedEscapes}
-use Rattle.properties_items.specs.Errors.{IsBareError}
-use Rattle.properties_items.specs.declared.findings.MalformedEscape.{MalformedEscape}
-use Rattle.properties_items.specs.declared.error.PropertiesError.{PropertiesError}
+use Rattle.properties_format.specs.{Encoding.Encoding, Found.AreMalformedEscapes}
+use Rattle.properties_items.specs.{Errors.IsBareError, declared.findings.MalformedEscape.MalformedEscape, declared.error.PropertiesError.PropertiesError}
 use Rattle.std.specs.List.{flat_map}
 use Rattle.java_properties.specs.Findings.{AreKeyLines, KeyEntry, KeyPlace, escape_records}
-use Rattle.properties_checking.specs.Check.{repeats_of}
-use Rattle.properties_checking.specs.Private.Checking.{place_at, row_findings, said_of}
-use Rattle.properties_tables.specs.SoundKeys.{AreKeyedPairs}
-use Rattle.properties_tables.specs.Sources.{first_in_pair}
-use Rattle.properties_tables.specs.Private.Table.{table_places, HasPlaces, HoldPlaces, IsKeyTable, PutsKey}
+use Rattle.properties_checking.specs.{Check.repeats_of, Private.Checking.place_at, Private.Checking.row_findings, Private.Checking.said_of}
 use Rattle.properties_checking.specs.declared.line_findings.LineFindings.{LineFindings}
+use Rattle.properties_tables.specs.{SoundKeys.AreKeyedPairs, Sources.first_in_pair, Private.Fold.escapes_among, Private.Fold.keys_among}
+use Rattle.properties_tables.specs.Private.Fold.{found_pairs}
+use Rattle.properties_tables.specs.Private.Table.{table_places, HasPlaces, HoldPlaces, IsKeyTable, PutsKey}
 use Rattle.java_properties.proofs.KeyLines.{key_entries}
-use Rattle.properties_tables.specs.Private.Fold.{escapes_among, keys_among, found_pairs}
 use Rattle.properties_items.specs.declared.error.ErrorKind.TheVariants as kind
 use Rattle.properties_format.specs.Found as meant
 use Rattle.properties_tables.specs.Private.Fold as fold

@@ -1,17 +1,12 @@
 -- JSON that is written, and the objects of findings.
 use Rattle.std.specs.Prelude.{◌≡◌, ℕ, List, [], ◌∷◌, ◌++◌, ⊤, string_bytes}
-use Rattle.std.specs.Fmt.{decimal}
-use Rattle.std.specs.Global.{Global}
-use Rattle.std.specs.declared.string.String.{String}
+use Rattle.std.specs.{Fmt.decimal, Global.Global, declared.string.String.String}
 use Rattle.json.specs.Json as json
 use Rattle.json.specs.Json.{member, no_members, object, Json, Members}
-use Rattle.json.specs.Print.{IsNumber}
+use Rattle.json.specs.{Print.IsNumber, Written.Written}
 use Rattle.json.specs.Token.{boolean, key, number, string, Token}
-use Rattle.json.specs.Written.{Written}
-use Rattle.properties_checking.specs.JsonLines.{IsJsonLine, IsReportText}
-use Rattle.properties_checking.specs.declared.objects.Member.{Member}
-use Rattle.properties_checking.specs.declared.objects.Member.TheVariants.{Number, Text, Truth}
-use Rattle.properties_checking.specs.declared.request.Report.{Report}
+use Rattle.properties_checking.specs.{JsonLines.IsJsonLine, JsonLines.IsReportText, declared.objects.Member.Member, declared.objects.Member.TheVariants.Number}
+use Rattle.properties_checking.specs.{declared.objects.Member.TheVariants.Text, declared.objects.Member.TheVariants.Truth, declared.request.Report.Report}
 
 -- These tokens were written.
 pub record WritesAll (old : Written) (tokens : List Token) (new : Written) : Type 0 where

@@ -1,21 +1,12 @@
 -- The ends of lines, as they are found one after another.
 use Rattle.std.specs.Prelude.{◌≡◌, ℕ, ◌+◌, ◌-◌, ◌<◌, ◌≤◌, ◌==◌, ◌&&◌, ◌||◌, not, Bool, true, false, if◌then◌else◌, List, [], ◌∷◌, ◌++◌, length, take, drop, reverse, Option, Some, None}
 use Rattle.properties_format.specs.Text.{backslash, begins, form_feed, is_empty, space, tab}
-use Rattle.properties_format.specs.Lines.{is_comment_line, is_open}
-use Rattle.properties_format.specs.Body.{HeldLine}
-use Rattle.properties_format.specs.Encoding.{Encoding, ascii_bytes}
-use Rattle.properties_format.specs.Computed.Body.{held_lines_of}
+use Rattle.properties_format.specs.{Lines.is_comment_line, Lines.is_open, Body.HeldLine, Encoding.Encoding, Encoding.ascii_bytes, Computed.Body.held_lines_of}
 use Rattle.properties_format.specs.Computed.Cut.{decoded_line}
-use Rattle.properties_lines.specs.LineSearch.{unit_size}
-use Rattle.properties_lines.specs.Private.HeldLines.{held_lines_left}
-use Rattle.properties_lines.specs.Scanner.{GivesScannedLine}
-use Rattle.properties_lines.specs.declared.scanner.Scanner.{Scanner}
-use Rattle.properties_tables.specs.Lines.{holds_byte}
-use Rattle.properties_checking.specs.Misread.{misread_at, misread_end, AreMisreadEnds}
-use Rattle.properties_checking.specs.Private.Checking.{misread_finding}
-use Rattle.properties_tables.specs.Private.Flawed.{IsScanning}
-use Rattle.properties_checking.specs.declared.check.Finding.{Finding}
-use Rattle.properties_checking.specs.declared.misread.Misread.{Misread}
+use Rattle.properties_lines.specs.{LineSearch.unit_size, Private.HeldLines.held_lines_left, Scanner.GivesScannedLine, declared.scanner.Scanner.Scanner}
+use Rattle.properties_tables.specs.{Lines.holds_byte, Private.Flawed.IsScanning}
+use Rattle.properties_checking.specs.{Misread.misread_at, Misread.misread_end, Misread.AreMisreadEnds, Private.Checking.misread_finding}
+use Rattle.properties_checking.specs.{declared.check.Finding.Finding, declared.misread.Misread.Misread}
 
 -- ---- one line after another
 

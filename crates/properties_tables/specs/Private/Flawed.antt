@@ -5,10 +5,8 @@ use Rattle.properties_format.specs.Body.{HeldLine}
 use Rattle.properties_format.specs.Encoding.{Encoding, windows_1252, utf_8, utf_16le, utf_16be}
 use Rattle.properties_format.specs.Utf16.{is_high, is_low, low_first, high_first}
 use Rattle.properties_text.specs.Encoding.{encoding_of}
-use Rattle.properties_lines.specs.Private.HeldLines.{IsInBody, held_lines_left}
-use Rattle.properties_lines.specs.Scanner.{HasRightFlags, raw_line_bytes}
-use Rattle.properties_lines.specs.declared.scanner.RawLine.{RawLine}
-use Rattle.properties_lines.specs.declared.scanner.Scanner.{Scanner}
+use Rattle.properties_lines.specs.{Private.HeldLines.IsInBody, Private.HeldLines.held_lines_left, Scanner.HasRightFlags, Scanner.raw_line_bytes}
+use Rattle.properties_lines.specs.{declared.scanner.RawLine.RawLine, declared.scanner.Scanner.Scanner}
 use Rattle.properties_tables.specs.Lines.{holds_byte, holds_mark_in, holds_non_ascii, holds_zero, is_misread_line, AreFlawedIn, HasFlawed}
 use Rattle.properties_tables.specs.declared.ill_formed.Flaw.{Flaw}
 use Rattle.properties_tables.specs.declared.ill_formed.Flaw.TheVariants.{IllFormed, Zero, NonAscii, Byte, MarkInside, Misread}

@@ -1,21 +1,13 @@
 -- What is found in a source, one logical line after another: its pairs and its malformed escapes; and what takes them.
 use Rattle.std.specs.Prelude.{◌≡◌, ℕ, if◌then◌else◌, List, [], ◌∷◌, ◌++◌, Option, Some, None, Result, Ok, Err}
-use Rattle.properties_format.specs.Encoding.{Encoding}
-use Rattle.properties_format.specs.Lines.{end, is_comment_line}
+use Rattle.properties_format.specs.{Encoding.Encoding, Lines.end, Lines.is_comment_line, Found.AreFound, Escapes.Meaning, Escapes.means, Escapes.breaks}
+use Rattle.properties_format.specs.{Split.Logical, Computed.Escapes.meaning_of, Computed.Items.outcome_of, Computed.Split.split_of}
 use Rattle.properties_format.specs.Items.{comment, pair, Content, Entry, item, Outcome, ignored, given, broken}
-use Rattle.properties_format.specs.Found.{AreFound}
-use Rattle.properties_format.specs.Escapes.{Meaning, means, breaks}
-use Rattle.properties_format.specs.Split.{Logical}
-use Rattle.properties_format.specs.Computed.Escapes.{meaning_of}
-use Rattle.properties_format.specs.Computed.Items.{outcome_of}
-use Rattle.properties_format.specs.Computed.Split.{split_of}
-use Rattle.properties_items.specs.Errors.{malformed_kind, IsBareError}
-use Rattle.properties_items.specs.declared.error.ErrorKind.TheVariants as kind
-use Rattle.properties_items.specs.declared.error.PropertiesError.{PropertiesError}
+use Rattle.properties_items.specs.{Errors.malformed_kind, Errors.IsBareError, declared.error.PropertiesError.PropertiesError}
 use Rattle.properties_items.specs.declared.findings.MalformedEscape.{MalformedEscape}
+use Rattle.properties_items.specs.declared.error.ErrorKind.TheVariants as kind
 use Rattle.java_properties.specs.Findings.{KeyPlace}
-use Rattle.properties_tables.specs.Sources.{first_in_pair, IsSound, IsUnsound}
-use Rattle.properties_tables.specs.declared.error.Failure.{Failure}
+use Rattle.properties_tables.specs.{Sources.first_in_pair, Sources.IsSound, Sources.IsUnsound, declared.error.Failure.Failure}
 
 -- ---- findings
 

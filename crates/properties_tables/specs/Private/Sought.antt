@@ -1,14 +1,10 @@
 -- How the values of some keys are found in a source.
 use Rattle.std.specs.Prelude.{◌≡◌, ℕ, List, ◌∷◌, [], ◌++◌, ◌+◌, ◌*◌, ◌/◌, ◌%◌, ◌<◌, length, get_or, true, false, Bool, Option, Some, None, bytes_eq, encode_utf8_all, ◌-◌}
-use Rattle.std.specs.BTreeMap.{IsOrdered}
-use Rattle.std.specs.Map.{lookup}
-use Rattle.std.specs.Option.{option_map, unwrap_or}
-use Rattle.std.specs.String.{string_cmp}
+use Rattle.std.specs.{BTreeMap.IsOrdered, Map.lookup, Option.option_map, Option.unwrap_or, String.string_cmp}
 use Rattle.properties_format.specs.Computed.Maps.{Has}
 use Rattle.properties_format.proofs.Maps.{value_in}
 use Rattle.java_properties.specs.Maps.{characters}
-use Rattle.properties_tables.specs.Sources.{first_in_pair}
-use Rattle.properties_tables.specs.Private.Fold.{escapes_among, found_pairs, Finding}
+use Rattle.properties_tables.specs.{Sources.first_in_pair, Private.Fold.escapes_among, Private.Fold.found_pairs, Private.Fold.Finding}
 use Rattle.properties_tables.specs.declared.values.Sought.{Sought}
 
 -- what is held for a key that is sought: its value, if it has one

@@ -2,16 +2,10 @@
 use Rattle.std.specs.Prelude.{◌≡◌, ◌≢◌, ◌<◌, ◌^◌, ◌++◌, All, get_or, length, ℕ, List, [], ◌∷◌, AllPairs, Option, Some, None, Result, bytes_eq, if◌then◌else◌}
 use Rattle.std.specs.List.{flat_map}
 use Rattle.properties_format.specs.Encoding.{Encoding}
-use Rattle.properties_tools.specs.Propedit.{report_status}
-use Rattle.properties_tools.specs.Propedit.Diff.{DiffsTo}
+use Rattle.properties_tools.specs.{Propedit.report_status, Propedit.Diff.DiffsTo, declared.propedit.answer.Answer.Answer}
+use Rattle.properties_tools.specs.{declared.propedit.diff.DiffFailure.DiffFailure, declared.propedit.diff.Side.Side}
 use Rattle.properties_tools.specs.Propedit.Differences.{changed, came, gone, AreDifferencesOf, Difference}
-use Rattle.properties_tables.specs.Sources.{IsSound}
-use Rattle.properties_tables.specs.Table.{row_keys, Row}
-use Rattle.properties_tables.specs.Private.Table.{rows_of, IsTable}
-use Rattle.properties_tools.specs.declared.propedit.answer.Answer.{Answer}
-use Rattle.properties_tools.specs.declared.propedit.diff.DiffFailure.{DiffFailure}
-use Rattle.properties_tools.specs.declared.propedit.diff.Side.{Side}
-use Rattle.properties_tables.specs.declared.table.Table.{Table}
+use Rattle.properties_tables.specs.{Sources.IsSound, Table.row_keys, Table.Row, Private.Table.rows_of, Private.Table.IsTable, declared.table.Table.Table}
 
 -- The keys of the rows can be found, and no two rows have the same.
 pub record CanBeCompared (t : Table) : Type 0 where

@@ -1,16 +1,11 @@
 -- How the hint on an answer is found.
 use Rattle.std.specs.Prelude.{◌⊎◌, ℕ, List, Bool, Option, Result, Ok, Err}
-use Rattle.std.specs.Global.{Global}
-use Rattle.std.specs.declared.string.String.{String}
+use Rattle.std.specs.{Global.Global, declared.string.String.String}
 use Rattle.properties_format.specs.Encoding.{Encoding}
-use Rattle.properties_tools.specs.Propedit.{Answers}
-use Rattle.properties_tables.specs.Failures.{IsMemoryFailure}
-use Rattle.properties_tools.specs.Propedit.Hints.{hint_bytes, HasPrefix, IsFileHint, IsHint, Tells}
-use Rattle.properties_tables.specs.Sources.{IsSound, IsUnsound}
-use Rattle.properties_tools.specs.declared.propedit.answer.Answer.{Answer}
-use Rattle.properties_tables.specs.declared.error.Failure.{Failure}
-use Rattle.properties_tools.specs.declared.propedit.request.Doubt.{Doubt}
+use Rattle.properties_tools.specs.{Propedit.Answers, declared.propedit.answer.Answer.Answer, declared.propedit.request.Doubt.Doubt}
 use Rattle.properties_tools.specs.declared.propedit.request.Job.{Job}
+use Rattle.properties_tables.specs.{Failures.IsMemoryFailure, Sources.IsSound, Sources.IsUnsound, declared.error.Failure.Failure}
+use Rattle.properties_tools.specs.Propedit.Hints.{hint_bytes, HasPrefix, IsFileHint, IsHint, Tells}
 
 -- The same of the line for that key.
 abbrev pub FindsFileHint : Encoding → List ℕ → List (List ℕ) → Result (Option (String Global)) Failure → Type 0

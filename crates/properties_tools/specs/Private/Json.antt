@@ -1,12 +1,10 @@
 -- The tokens of JSON that is printed of differences.
 use Rattle.std.specs.Prelude.{ℕ, List, [], ◌∷◌, ◌++◌, codes, encode_utf8_all}
 use Rattle.std.specs.Fmt.{decimal}
-use Rattle.json.specs.Print.{print}
+use Rattle.json.specs.{Print.print, Tree.json_tokens}
 use Rattle.json.specs.Token.{begin_object, end_object, key, number, string, Token}
-use Rattle.json.specs.Tree.{json_tokens}
 use Rattle.properties_format.specs.Text.{line_feed}
-use Rattle.properties_tools.specs.Propedit.Differences.{Difference}
-use Rattle.properties_tools.specs.Propedit.Json.{difference_value}
+use Rattle.properties_tools.specs.{Propedit.Differences.Difference, Propedit.Json.difference_value}
 use Rattle.properties_tables.specs.Table.{Row}
 
 -- a difference as a line

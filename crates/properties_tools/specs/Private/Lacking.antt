@@ -4,16 +4,12 @@ use Rattle.json.specs.Json.{Json}
 use Rattle.java_properties.specs.Findings.{KeyPlace}
 use Rattle.properties_tables.specs.Private.Table.{place_keys, table_places, IsKeyTable}
 use Rattle.properties_tools.specs.Propedit.Against.{is_compared, missing_line, missing_value, surplus_line, surplus_value, KnownBase}
-use Rattle.properties_checking.specs.Private.Objects.{AddsReport}
-use Rattle.properties_checking.specs.Kinds.{reported}
-use Rattle.properties_tools.specs.declared.propedit.against.LackingKey.{LackingKey}
-use Rattle.properties_tools.specs.declared.propedit.against.LackingKey.TheVariants.{Missing, Surplus}
-use Rattle.properties_tools.specs.declared.propedit.against.Sides.{Sides}
-use Rattle.properties_checking.specs.declared.kinds.Kind.{Kind}
-use Rattle.properties_checking.specs.declared.kinds.Kind.TheVariants.{MissingKey, SurplusKey}
-use Rattle.std.specs.Global.{Global}
-use Rattle.std.specs.declared.string.String.{String}
+use Rattle.properties_checking.specs.{Private.Objects.AddsReport, Kinds.reported, declared.kinds.Kind.Kind, declared.kinds.Kind.TheVariants.MissingKey}
+use Rattle.properties_checking.specs.declared.kinds.Kind.TheVariants.{SurplusKey}
+use Rattle.properties_tools.specs.{declared.propedit.against.LackingKey.LackingKey, declared.propedit.against.LackingKey.TheVariants.Missing}
+use Rattle.properties_tools.specs.{declared.propedit.against.LackingKey.TheVariants.Surplus, declared.propedit.against.Sides.Sides}
 use Rattle.properties_tools.specs.declared.propedit.against.Base.TheInside.{Inside}
+use Rattle.std.specs.{Global.Global, declared.string.String.String}
 
 -- ---- a base
 

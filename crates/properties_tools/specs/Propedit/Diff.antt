@@ -1,12 +1,13 @@
 -- What `diff` gives for two sources, and what the program does for it.
 use Rattle.std.specs.Prelude.{◌≡◌, ◌⊎◌, ℕ, List, Result, Ok, Err, map}
+use Rattle.std.specs.List.{flat_map}
 use Rattle.counted_io.specs.Streams.{Reader, Sink}
 use Rattle.java_properties.specs.WholeSources.{GivesWhole, ReadsSource, WritesSource}
 use Rattle.properties_format.specs.Encoding.{Encoding}
 use Rattle.properties_items.specs.declared.error.PropertiesError.{PropertiesError}
 use Rattle.properties_text.specs.Encoding.{encoding_of}
 use Rattle.properties_tools.specs.Propedit.{source_name, EndsRun}
-use Rattle.properties_tools.specs.Propedit.Differences.{difference_lines, difference_status, difference_text, AreDifferencesOf, Difference}
+use Rattle.properties_tools.specs.Propedit.Differences.{difference_lines, difference_status, AreDifferencesOf, Difference}
 use Rattle.properties_tables.specs.Failures.{standard_output}
 use Rattle.properties_tools.specs.Propedit.Json.{difference_value}
 use Rattle.properties_checking.specs.JsonLines.{AreJsonLines, IsReportText}
@@ -42,7 +43,7 @@ DiffsIn IsText e old new result = DiffsTo (TellsDifferences IsText e old new) e 
 
 -- The text has the lines of differences between sources of these names.
 abbrev pub IsDifferenceText : List ℕ → List ℕ → List Difference → List ℕ → Type 0
-IsDifferenceText old_name new_name ds text = text ≡ difference_text old_name new_name ds
+IsDifferenceText old_name new_name ds text = text ≡ flat_map (difference_lines old_name new_name) ds
 
 abbrev pub Diffs : List ℕ → List ℕ → Encoding → List ℕ → List ℕ → Result Answer DiffFailure → Type 0
 Diffs old_name new_name e old new result = DiffsIn (IsDifferenceText old_name new_name) e old new result

@@ -3,7 +3,7 @@
 use Rattle.std.specs.Prelude.{◌≡◌, ◌≢◌, ◌⊎◌, ◌↔◌, ◌&&◌, ◌||◌, not, ℕ, Bool, true, List, [], ◌∷◌, ◌++◌, Option, codes, map, All, AllPairs, Contains}
 use Rattle.std.specs.Char.{is_ascii, is_control}
 use Rattle.std.specs.Fmt.{decimal}
-use Rattle.std.specs.List.{flat_map, list_any}
+use Rattle.std.specs.List.{list_any}
 use Rattle.properties_format.specs.Edits.{ArePairs}
 use Rattle.properties_format.specs.Encoding.{Encoding, utf_8}
 use Rattle.properties_format.specs.Items.{pair, Entry}
@@ -84,9 +84,6 @@ abbrev pub difference_lines : List ℕ → List ℕ → Difference → List ℕ
 difference_lines old new (gone r) = row_line old (codes "-") r
 difference_lines old new (came r) = row_line new (codes "+") r
 difference_lines old new (changed r s) = row_line old (codes "-") r ++ row_line new (codes "+") s
-
-abbrev pub difference_text : List ℕ → List ℕ → List Difference → List ℕ
-difference_text old new ds = flat_map (difference_lines old new) ds
 
 -- the status: 1 if anything differs
 abbrev pub difference_status : List Difference → ℕ

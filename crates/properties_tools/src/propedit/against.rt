@@ -10,7 +10,7 @@ ghost use Rattle.properties_tables.specs.Private.Table.{place_keys, table_places
 use crate::propedit::answer::{Answer, reported};
 use crate::propedit::named::NamedSource;
 use java_properties::Encoding;
-use properties_checking::check::{Heading, Reported, checked};
+use properties_checking::check::{Heading, Reported, checked, sound_keys};
 use properties_checking::kinds::Kind;
 use properties_checking::line_findings::may_stand_for_bytes;
 use properties_checking::objects::{Member, push_object};
@@ -61,8 +61,10 @@ pub fn base_of(
     let Reported {
         text,
         keys,
+        escapes,
         is_well_formed,
     } = checked(alloc, source.name, source.bytes, encoding, asked)?;
+    let keys = sound_keys(alloc, source.bytes, encoding, keys, &escapes)?;
     let base = Base {
         name: String::from_str(alloc, source.name)?,
         keys,
@@ -96,8 +98,10 @@ pub fn check_against<'a>(
     let Reported {
         mut text,
         keys,
+        escapes,
         is_well_formed,
     } = checked(alloc, source.name, source.bytes, encoding, asked)?;
+    let keys = sound_keys(alloc, source.bytes, encoding, keys, &escapes)?;
     let surplus = Sides {
         heading: Heading {
             name: source.name,

@@ -1,6 +1,5 @@
 use Rattle.std.proofs.Common.{◌≢◌, [], arith, rules}
-use Rattle.std.proofs.lemmas.Grind.{common_steps}
-use Rattle.std.proofs.lemmas.Str.Pattern.{split_parts}
+use Rattle.std.proofs.{lemmas.Grind.common_steps, lemmas.Str.Pattern.split_parts}
 use Rattle.propedit_arguments.proofs.Assignments.{tells, tells-unsigned}
 use Rattle.propedit_arguments.proofs.edits.is_assignment.Goals as goal
 

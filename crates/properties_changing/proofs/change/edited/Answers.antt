@@ -1,8 +1,7 @@
 use Rattle.std.proofs.Common.{inl, inr, ap, ◌∙◌}
 use Rattle.std.specs.Prelude.{map}
 use Rattle.std.proofs.lemmas.Result.{err_from_is_err_and}
-use Rattle.java_properties.specs.Editing.{edits_in}
-use Rattle.java_properties.specs.Maps.{characters}
+use Rattle.java_properties.specs.{Editing.edits_in, Maps.characters}
 use Rattle.properties_changing.specs.Change.{edited_keys}
 use Rattle.properties_changing.proofs.change.edited.Goals as goal
 

@@ -1,8 +1,6 @@
 use Rattle.std.proofs.Common.{◌≡◌, ◌<◌, ℕ, List, true, false, length, ap, sym, ◌∙◌, refl, arith}
 use Rattle.std.specs.Prelude.{Bool, not, Option, Some, None}
-use Rattle.std.specs.Option.{is_some, option_map}
-use Rattle.std.specs.Str.{chars}
-use Rattle.std.specs.declared.string.String.{String}
+use Rattle.std.specs.{Option.is_some, Option.option_map, Str.chars, declared.string.String.String}
 use Rattle.std.proofs.lemmas.List.{get_or-map, length-map}
 use Rattle.java_properties.specs.Maps.{characters}
 use Rattle.properties_changing.proofs.SoughtKeys.{without-more, without-one}

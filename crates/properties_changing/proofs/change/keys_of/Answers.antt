@@ -1,9 +1,7 @@
 use Rattle.std.proofs.Common.{◌<◌, [], ◌∷◌, ◌++◌, length, take, ap, sym, ◌∙◌, arith}
-use Rattle.std.specs.Prelude.{map}
-use Rattle.std.specs.Str.{chars}
+use Rattle.std.specs.{Prelude.map, Str.chars}
 use Rattle.std.proofs.lemmas.List.{map_more, map-append}
-use Rattle.java_properties.specs.Editing.{edit_in, edits_in}
-use Rattle.java_properties.specs.Maps.{characters}
+use Rattle.java_properties.specs.{Editing.edit_in, Editing.edits_in, Maps.characters}
 use Rattle.properties_changing.specs.Change.{edited_key, edited_keys}
 use Rattle.properties_changing.proofs.change.keys_of.Goals as goal
 

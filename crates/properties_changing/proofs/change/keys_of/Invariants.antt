@@ -1,7 +1,6 @@
 use Rattle.std.proofs.Common.{◌≡◌, take}
 use Rattle.std.specs.Prelude.{map}
-use Rattle.java_properties.specs.Editing.{edits_in}
-use Rattle.java_properties.specs.Maps.{characters}
+use Rattle.java_properties.specs.{Editing.edits_in, Maps.characters}
 use Rattle.properties_changing.specs.Change.{edited_keys}
 use Rattle.properties_changing.proofs.change.keys_of.Given as goal
 

@@ -1,16 +1,11 @@
 use Rattle.std.proofs.Common.{length, ap, subst, sym, ◌∙◌}
-use Rattle.std.specs.Prelude.{map}
-use Rattle.std.specs.Option.{option_map}
-use Rattle.std.proofs.lemmas.List.{length-map}
-use Rattle.std.proofs.lemmas.Result.{err_from_is_err_and}
+use Rattle.std.specs.{Prelude.map, Option.option_map}
+use Rattle.std.proofs.{lemmas.List.length-map, lemmas.Result.err_from_is_err_and}
 use Rattle.properties_text.specs.Encoding.{encoding_of}
-use Rattle.java_properties.specs.Editing.{edit_in, edits_in}
-use Rattle.java_properties.specs.Maps.{characters}
-use Rattle.properties_changing.specs.Private.Collected.{with_values}
+use Rattle.java_properties.specs.{Editing.edit_in, Editing.edits_in, Maps.characters}
+use Rattle.properties_changing.specs.{Private.Collected.with_values, Change.edited_key, Change.AreKnown}
 use Rattle.properties_tables.specs.Values.{value_texts, HaveValues}
-use Rattle.properties_changing.specs.Change.{edited_key, AreKnown}
-use Rattle.properties_changing.proofs.SoughtKeys.{as-many, refused}
-use Rattle.properties_changing.proofs.KnownEdits.{known-are}
+use Rattle.properties_changing.proofs.{SoughtKeys.as-many, SoughtKeys.refused, KnownEdits.known-are}
 use Rattle.properties_changing.proofs.change.known_edits.Goals as goal
 
 pub with_values-requires : goal.with_values-requires

@@ -1,10 +1,8 @@
 use Rattle.std.proofs.Common.{ap, sym, refl, inl, subst}
-use Rattle.std.specs.Prelude.{map, Ok}
-use Rattle.std.specs.Str.{chars}
+use Rattle.std.specs.{Prelude.map, Prelude.Ok, Str.chars}
 use Rattle.properties_text.specs.Encoding.{encoding_of}
 use Rattle.java_properties.specs.Maps.{characters}
-use Rattle.properties_changing.specs.Keys.{IsFirstAbsent}
-use Rattle.properties_changing.specs.Private.Collected.{FindsAbsent}
+use Rattle.properties_changing.specs.{Keys.IsFirstAbsent, Private.Collected.FindsAbsent}
 use Rattle.properties_changing.proofs.change.refuse_absent.Goals as goal
 
 pub returns-in_ok-from_str-in-Some : goal.returns-in_ok-from_str-in-Some

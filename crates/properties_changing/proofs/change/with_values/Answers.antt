@@ -5,8 +5,8 @@ use Rattle.properties_editing.proofs.EditComparisons.{edit-clone}
 use Rattle.properties_changing.specs.Private.Collected.{with_values}
 use Rattle.properties_tables.specs.Values.{value_texts}
 use Rattle.properties_renaming.proofs.EditRuns.{same-edit}
-use Rattle.properties_changing.proofs.KnownEdits.{none-more, one-more}
-use Rattle.properties_changing.proofs.change.with_values.Goals.{then-is_some+in_ok-clone+in_ok-push, else-is_some}
+use Rattle.properties_changing.proofs.{KnownEdits.none-more, KnownEdits.one-more, change.with_values.Goals.then-is_some+in_ok-clone+in_ok-push}
+use Rattle.properties_changing.proofs.change.with_values.Goals.{else-is_some}
 use Rattle.properties_changing.proofs.change.with_values.Goals as goal
 
 pub loop-place-preserved : goal.loop-place-preserved

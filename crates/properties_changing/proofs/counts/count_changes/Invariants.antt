@@ -1,6 +1,5 @@
 use Rattle.std.proofs.Common.{◌≤◌, take}
-use Rattle.properties_tables.specs.Private.Table.{rows_of}
-use Rattle.properties_tables.specs.Table.{row_keys}
+use Rattle.properties_tables.specs.{Private.Table.rows_of, Table.row_keys}
 use Rattle.properties_changing.specs.Private.Counting.{CountsKeys}
 use Rattle.properties_changing.proofs.counts.count_changes.Given as goal
 

@@ -1,7 +1,6 @@
 use Rattle.std.proofs.Common.{◌<◌, ◌∙◌, ap, arith, length, sym}
 use Rattle.std.specs.Str.{chars}
-use Rattle.std.proofs.lemmas.List.{get_or-map}
-use Rattle.std.proofs.lemmas.Slice.Eq.{bytes_eq-Decides}
+use Rattle.std.proofs.{lemmas.List.get_or-map, lemmas.Slice.Eq.bytes_eq-Decides}
 use Rattle.properties_tables.specs.Private.Table.{rows_of}
 use Rattle.properties_changing.proofs.Counting.{keys-length, no_row}
 use Rattle.properties_changing.proofs.counts.find_near.Goals as goal

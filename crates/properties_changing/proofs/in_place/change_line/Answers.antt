@@ -1,5 +1,4 @@
-use Rattle.std.proofs.Common.{inl, inr}
-use Rattle.std.proofs.lemmas.Result.{err_from_is_err_and}
+use Rattle.std.proofs.{Common.inl, Common.inr, lemmas.Result.err_from_is_err_and}
 use Rattle.properties_changing.proofs.in_place.change_line.Goals as goal
 
 pub returns-in_err-counts-in-Some-clause-fails : goal.returns-in_err-counts-in-Some-clause-fails

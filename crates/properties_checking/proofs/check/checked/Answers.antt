@@ -5,13 +5,10 @@ use Rattle.properties_items.specs.declared.findings.MalformedEscape.{MalformedEs
 use Rattle.properties_checking.specs.Private.Checking.{escape_finding, finding_of, ill_formed_finding, said_of}
 use Rattle.properties_tables.specs.Private.Table.{table_places}
 use Rattle.properties_checking.specs.Check.{first_of, ill_formed_of, finding_kind, said_line, said_value, ArrangesByLine}
-use Rattle.properties_checking.specs.JsonLines.{IsReportText}
-use Rattle.properties_checking.specs.Kinds.{reported}
-use Rattle.properties_checking.specs.declared.check.Finding.{Finding}
-use Rattle.properties_checking.specs.declared.check.FindingKind.TheVariants.{HoldsZero, LooksUtf8, NonAscii}
+use Rattle.properties_checking.specs.{JsonLines.IsReportText, Kinds.reported, declared.check.Finding.Finding, declared.check.FindingKind.TheVariants.HoldsZero}
+use Rattle.properties_checking.specs.{declared.check.FindingKind.TheVariants.LooksUtf8, declared.check.FindingKind.TheVariants.NonAscii}
 use Rattle.properties_checking.specs.declared.check.Words.{Words}
 use Rattle.properties_checking.proofs.CheckFindings.{said-all, said-arranged, said-escapes, said-first, said-ill_formed, said-otherwise, said-parts}
-use Rattle.properties_checking.proofs.LineFindings.{keys-sound}
 use Rattle.properties_checking.proofs.check.checked.Goals as goal
 
 -- kinds that are added one after another
@@ -47,8 +44,6 @@ returns c =
     (said-first P HoldsZero zero) (said-ill_formed P words numbers) (said-first P LooksUtf8 utf_8) (said-all P NonAscii refused) refl
     (said-escapes P escapes) repeats in
     let printed = rw c.deref-6.ensures.value at c.in_ok-push_findings.ensures in
-    let sound = keys-sound (encoding_of c.args.encoding) c.args.source.now _ _ _ c.in_ok-in_lines.ensures.table c.in_ok-in_lines.ensures.places
-    (rw c.deref-7.ensures.value at c.in_ok-sound_keys.ensures) in
     record {
       report = record {
         zero = zero;
@@ -73,8 +68,8 @@ returns c =
             (reported c.args.asked.ignored (λ s. finding_kind s.what) (map (said_of P) c.sort.new.findings.items)))
             (sym (printed.is ∙ ap (λ v. v ++ printed.text) c.new-text.ensures.bytes)) printed.is_text;
       };
-      table = sound.0;
-      places = sound.1;
+      table = c.in_ok-in_lines.ensures.table;
+      places = c.in_ok-in_lines.ensures.places;
       ill_formed = numbers;
       are_ill_formed = c.in_ok-numbers.ensures.are;
       well_formed = search rules;

@@ -1,6 +1,5 @@
 use Rattle.std.proofs.Common.{◌≤◌, ◌∙◌, ap, arith, length, sym}
-use Rattle.std.proofs.lemmas.List.{get_or_past}
-use Rattle.std.proofs.lemmas.Str.{chars-nil, encodes-chars}
+use Rattle.std.proofs.{lemmas.List.get_or_past, lemmas.Str.chars-nil, lemmas.Str.encodes-chars}
 use Rattle.std.specs.Prelude.{encode_utf8_all}
 use Rattle.java_properties.specs.Findings.{KeyPlace}
 use Rattle.properties_checking.specs.Private.Checking.{no_place}

@@ -3,12 +3,9 @@ use Rattle.std.specs.Prelude.{map}
 use Rattle.std.proofs.lemmas.List.{take_more}
 use Rattle.properties_format.specs.Encoding.{Encoding}
 use Rattle.properties_text.specs.Encoding.{encoding_of}
-use Rattle.properties_checking.specs.Private.Checking.{finding_of, otherwise_finding}
-use Rattle.properties_checking.specs.Check.{AreWithBytes}
-use Rattle.properties_tables.specs.Lines.{AreFlawedLines}
-use Rattle.properties_checking.specs.declared.check.Finding.{Finding}
+use Rattle.properties_checking.specs.{Private.Checking.finding_of, Private.Checking.otherwise_finding, Check.AreWithBytes, declared.check.Finding.Finding}
 use Rattle.properties_checking.specs.declared.check.FindingKind.TheVariants.{ReadOtherwise}
-use Rattle.properties_tables.specs.declared.ill_formed.Flaw.TheVariants.{Byte}
+use Rattle.properties_tables.specs.{Lines.AreFlawedLines, declared.ill_formed.Flaw.TheVariants.Byte}
 use Rattle.properties_checking.proofs.check.lines_with.Goals as goal
 
 -- the findings of one byte more

@@ -1,7 +1,6 @@
 use Rattle.std.proofs.Common.{take}
 use Rattle.properties_text.specs.Encoding.{encoding_of}
-use Rattle.properties_checking.specs.Private.Checking.{otherwise_finding}
-use Rattle.properties_checking.specs.Check.{AreWithBytes}
+use Rattle.properties_checking.specs.{Private.Checking.otherwise_finding, Check.AreWithBytes}
 use Rattle.properties_checking.proofs.check.lines_with.Given as goal
 
 abbrev pub invariant-loop-byte : goal.invariant-loop-byte

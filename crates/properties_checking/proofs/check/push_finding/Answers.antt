@@ -1,7 +1,6 @@
 use Rattle.std.proofs.lemmas.Result.{on_ok_weaker}
-use Rattle.properties_checking.specs.Private.Checking.{said_of}
+use Rattle.properties_checking.specs.{Private.Checking.said_of, Check.said_line, Check.said_value}
 use Rattle.properties_tables.specs.Private.Table.{table_places}
-use Rattle.properties_checking.specs.Check.{said_line, said_value}
 use Rattle.properties_checking.proofs.Json.{adds-line, adds-object}
 use Rattle.properties_checking.proofs.check.push_finding.Goals as goal
 

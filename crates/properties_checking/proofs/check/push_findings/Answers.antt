@@ -1,17 +1,12 @@
 use Rattle.std.proofs.Common.{◌≡◌, ◌≤◌, ◌+◌, ◌++◌, ◌∙◌, [], ◌∷◌, List, ap, arith, get_or, length, map, subst, sym, take}
 use Rattle.std.proofs.lemmas.List.{map-append, take_all, take_more}
-use Rattle.properties_checking.specs.Private.Checking.{finding_of, said_of}
-use Rattle.properties_checking.specs.Private.Objects.{AddsReport}
+use Rattle.properties_checking.specs.{Private.Checking.finding_of, Private.Checking.said_of, Private.Objects.AddsReport, Kinds.is_ignored, Kinds.reported}
+use Rattle.properties_checking.specs.{declared.check.Finding.Finding, declared.check.FindingKind.TheVariants.HoldsZero, declared.kinds.Kind.Kind}
 use Rattle.properties_tables.specs.Private.Table.{table_places}
 use Rattle.properties_checking.specs.Check.{finding_kind, said_line, said_value, SaidFinding}
-use Rattle.properties_checking.specs.Kinds.{is_ignored, reported}
-use Rattle.properties_checking.specs.declared.check.Finding.{Finding}
-use Rattle.properties_checking.specs.declared.check.FindingKind.TheVariants.{HoldsZero}
-use Rattle.properties_checking.specs.declared.kinds.Kind.{Kind}
-use Rattle.properties_checking.proofs.Json.{adds-both, adds-none}
-use Rattle.properties_checking.proofs.LeftOut.{one-ignored, one-reported}
+use Rattle.properties_checking.proofs.{Json.adds-both, Json.adds-none, LeftOut.one-ignored, LeftOut.one-reported}
+use Rattle.properties_checking.proofs.{check.push_findings.Goals.then-not-contains+in_ok-push_finding, check.push_findings.Goals.else-not-contains}
 use Rattle.properties_checking.proofs.check.push_findings.Goals as goal
-use Rattle.properties_checking.proofs.check.push_findings.Goals.{then-not-contains+in_ok-push_finding, else-not-contains}
 
 pub loop-finding-init : goal.loop-finding-init
 loop-finding-init c = adds-none (said_line c.args.heading.name.now) (said_value c.args.heading.name.now) c.args.heading.report c.args.text.now

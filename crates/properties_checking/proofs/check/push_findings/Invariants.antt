@@ -1,9 +1,7 @@
 use Rattle.std.proofs.Common.{map, take}
-use Rattle.properties_checking.specs.Private.Checking.{said_of}
-use Rattle.properties_checking.specs.Private.Objects.{AddsReport}
-use Rattle.properties_tables.specs.Private.Table.{table_places}
-use Rattle.properties_checking.specs.Check.{finding_kind, said_line, said_value}
+use Rattle.properties_checking.specs.{Private.Checking.said_of, Private.Objects.AddsReport, Check.finding_kind, Check.said_line, Check.said_value}
 use Rattle.properties_checking.specs.Kinds.{reported}
+use Rattle.properties_tables.specs.Private.Table.{table_places}
 use Rattle.properties_checking.proofs.check.push_findings.Given as goal
 
 abbrev pub invariant-loop-finding : goal.invariant-loop-finding

@@ -1,6 +1,5 @@
 use Rattle.std.proofs.Common.{◌≡◌, ◌++◌, drop}
-use Rattle.properties_checking.specs.Check.{ill_formed_of}
-use Rattle.properties_checking.specs.Private.Checking.{ill_formed_finding}
+use Rattle.properties_checking.specs.{Check.ill_formed_of, Private.Checking.ill_formed_finding}
 use Rattle.properties_checking.proofs.check.push_ill_formed.Given as goal
 
 abbrev pub invariant-loop-number : goal.invariant-loop-number

@@ -1,6 +1,4 @@
-use Rattle.std.proofs.Common.{◌≡◌, rules}
-use Rattle.std.proofs.lemmas.Fn.{always_returns_same}
-use Rattle.std.proofs.lemmas.List.Sorted.{IsNonDecreasingBy-from_sort_by_key}
+use Rattle.std.proofs.{Common.◌≡◌, Common.rules, lemmas.Fn.always_returns_same, lemmas.List.Sorted.IsNonDecreasingBy-from_sort_by_key}
 use Rattle.properties_checking.proofs.check.sort.Goals as goal
 
 pub returns : goal.returns

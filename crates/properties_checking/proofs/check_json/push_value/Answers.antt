@@ -1,19 +1,14 @@
 use Rattle.std.proofs.Common.{◌≡◌, ℕ, List, ◌∙◌, ◌++◌, ap, ap₂, codes, refl, subst, sym}
-use Rattle.std.specs.Prelude.{decimal}
-use Rattle.std.specs.Global.{Global}
-use Rattle.std.specs.declared.string.String.{String}
+use Rattle.std.specs.{Prelude.decimal, Global.Global, declared.string.String.String}
 use Rattle.std.proofs.lemmas.Result.{on_ok_weaker}
 use Rattle.json.specs.Json as json
 use Rattle.json.specs.Json.{boolean, member, no_members, object, string, Members}
 use Rattle.java_properties.specs.Findings.{KeyPlace}
 use Rattle.properties_items.specs.declared.findings.MalformedEscape.{MalformedEscape}
 use Rattle.properties_checking.specs.Check.{detailed, finding_kind, said_value, words_of, SaidFinding}
-use Rattle.properties_checking.specs.Kinds.{kind_name}
-use Rattle.properties_checking.specs.Private.Checking.{said_of, what_of}
-use Rattle.properties_checking.specs.Private.Objects.{AddsJsonLine}
+use Rattle.properties_checking.specs.{Kinds.kind_name, Private.Checking.said_of, Private.Checking.what_of, Private.Objects.AddsJsonLine}
+use Rattle.properties_checking.specs.{declared.check.Finding.Finding, declared.check.FindingKind.FindingKind}
 use Rattle.properties_tables.specs.Private.Table.{table_places}
-use Rattle.properties_checking.specs.declared.check.Finding.{Finding}
-use Rattle.properties_checking.specs.declared.check.FindingKind.{FindingKind}
 use Rattle.properties_checking.specs.declared.check.FindingKind.TheVariants.{HoldsZero, IllFormedLine, LooksUtf8, NonAscii, ReadOtherwise, Misread, Escape, Repeats}
 use Rattle.properties_checking.proofs.check_json.push_value.Goals as goal
 

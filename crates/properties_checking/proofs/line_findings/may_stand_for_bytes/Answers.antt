@@ -1,7 +1,6 @@
 use Rattle.std.proofs.Common.{◌≡◌, ◌≢◌, ◌||◌, ◌==◌, true, false, rules, eq-eqb, refl, ap, sym}
 use borrow.Author.Tests.{tests}
-use Rattle.std.specs.Str.{chars}
-use Rattle.std.specs.Str.Iter.{chars_rest}
+use Rattle.std.specs.{Str.chars, Str.Iter.chars_rest}
 use Rattle.std.proofs.lemmas.Str.{IsUtf8-past_char}
 use Rattle.java_properties.proofs.Settings.Tests.{past_first, past_last}
 use Rattle.properties_checking.specs.Check.{has_replacement}

@@ -1,6 +1,5 @@
 use Rattle.std.proofs.Common.{◌≡◌}
-use Rattle.std.specs.Str.{IsUtf8, chars}
-use Rattle.std.specs.Str.Iter.{chars_rest}
+use Rattle.std.specs.{Str.IsUtf8, Str.chars, Str.Iter.chars_rest}
 use Rattle.properties_checking.specs.Check.{has_replacement}
 use Rattle.properties_checking.proofs.line_findings.may_stand_for_bytes.Given as goal
 

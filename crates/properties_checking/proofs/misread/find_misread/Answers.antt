@@ -1,7 +1,5 @@
 use Rattle.std.proofs.Common.{◌∙◌, ◌++◌, ℕ, List, append_assoc, ap, map}
-use Rattle.properties_checking.specs.Private.Checking.{misread_finding}
-use Rattle.properties_checking.specs.Misread.{misread_at, misread_mark}
-use Rattle.properties_checking.specs.declared.check.Finding.{Finding}
+use Rattle.properties_checking.specs.{Private.Checking.misread_finding, Misread.misread_at, Misread.misread_mark, declared.check.Finding.Finding}
 use Rattle.properties_checking.specs.declared.misread.Misread.TheVariants.{MarkInside}
 use Rattle.properties_checking.proofs.misread.find_misread.Goals as goal
 

@@ -1,12 +1,8 @@
 use Rattle.std.proofs.Common.{◌≡◌, List, [], ◌∷◌, ◌++◌, ◌∙◌, ap, ap₂, append_assoc, append-nil, arith, codes, drop, subst, sym}
-use Rattle.std.specs.Prelude.{string_bytes}
-use Rattle.std.specs.List.{flat_map}
+use Rattle.std.specs.{Prelude.string_bytes, List.flat_map}
 use Rattle.std.proofs.lemmas.List.{drop_all}
-use Rattle.json.specs.Print.{print}
-use Rattle.json.specs.Token.{begin_object, end_object}
-use Rattle.json.specs.Tree.{MembersHaveNumbers}
-use Rattle.properties_checking.specs.Private.Objects.{member_tokens, members_of}
-use Rattle.properties_checking.specs.declared.objects.Member.{Member}
+use Rattle.json.specs.{Print.print, Token.begin_object, Token.end_object, Tree.MembersHaveNumbers}
+use Rattle.properties_checking.specs.{Private.Objects.member_tokens, Private.Objects.members_of, declared.objects.Member.Member}
 use Rattle.properties_checking.proofs.Json.{members-line}
 use Rattle.properties_checking.proofs.objects.push_object.Goals as goal
 

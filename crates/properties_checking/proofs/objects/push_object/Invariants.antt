@@ -1,7 +1,6 @@
 use Rattle.std.proofs.Common.{◌≡◌, ◌++◌, ◌∷◌, [], drop}
 use Rattle.std.specs.List.{flat_map}
-use Rattle.json.specs.Token.{begin_object}
-use Rattle.json.specs.Tree.{MembersHaveNumbers}
+use Rattle.json.specs.{Token.begin_object, Tree.MembersHaveNumbers}
 use Rattle.properties_checking.specs.Private.Objects.{member_tokens, members_of}
 use Rattle.properties_checking.proofs.objects.push_object.Given as goal
 

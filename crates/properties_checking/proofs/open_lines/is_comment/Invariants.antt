@@ -1,6 +1,5 @@
 use Rattle.std.proofs.Common.{◌≡◌, length}
-use Rattle.properties_format.specs.Text.{without_leading_blanks}
-use Rattle.properties_format.specs.Computed.Cut.{decoded_line}
+use Rattle.properties_format.specs.{Text.without_leading_blanks, Computed.Cut.decoded_line}
 use Rattle.properties_text.specs.Encoding.{encoding_of}
 use Rattle.properties_lines.specs.LineSearch.{unit_size}
 use Rattle.properties_checking.proofs.open_lines.is_comment.Given as goal

@@ -1,8 +1,9 @@
 use Rattle.std.proofs.lemmas.List.{take_rest}
 use Rattle.properties_text.specs.Encoding.{encoding_of}
-use Rattle.properties_checking.proofs.OpenLines.{last-odd, last-short, last-told}
+use Rattle.properties_checking.proofs.{OpenLines.last-odd, OpenLines.last-short, OpenLines.last-told}
+use Rattle.properties_checking.proofs.open_lines.last_ascii.Goals.{then-end-size-via-then-end-size}
+use Rattle.properties_checking.proofs.open_lines.last_ascii.Goals.{then-end-size-via-else-end-size+then-end-size-ne0}
 use Rattle.properties_checking.proofs.open_lines.last_ascii.Goals as goal
-use Rattle.properties_checking.proofs.open_lines.last_ascii.Goals.{then-end-size-via-then-end-size, then-end-size-via-else-end-size+then-end-size-ne0}
 
 pub returns-then-end-size : goal.returns-then-end-size
 returns-then-end-size c =

@@ -2,9 +2,8 @@ use Rattle.std.proofs.Common.{◌≡◌, ◌++◌, false, length}
 use Rattle.properties_format.specs.Computed.Body.{held_lines_of}
 use Rattle.properties_text.specs.Encoding.{encoding_of}
 use Rattle.properties_lines.specs.Private.HeldLines.{held_lines_left}
-use Rattle.properties_checking.specs.Private.Checking.{misread_finding}
+use Rattle.properties_checking.specs.{Private.Checking.misread_finding, Private.OpenLines.ends_from}
 use Rattle.properties_tables.specs.Private.Flawed.{IsScanning}
-use Rattle.properties_checking.specs.Private.OpenLines.{ends_from}
 use Rattle.properties_checking.proofs.open_lines.push_ends.Given as goal
 use Rattle.properties_checking.proofs.OpenLines.{ends_left}
 

@@ -1,5 +1,4 @@
-use Rattle.std.proofs.Common.{string_bytes}
-use Rattle.std.proofs.lemmas.Result.{IfOk-weaker}
+use Rattle.std.proofs.{Common.string_bytes, lemmas.Result.IfOk-weaker}
 use Rattle.properties_tables.proofs.FailureMessages.{numbered-line, unnumbered-line}
 use Rattle.properties_tables.proofs.error.message.Goals as goal
 

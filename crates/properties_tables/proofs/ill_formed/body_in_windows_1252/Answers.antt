@@ -1,5 +1,4 @@
-use Rattle.std.proofs.Common.{◌∙◌, refl}
-use Rattle.std.proofs.lemmas.List.{take_rest}
+use Rattle.std.proofs.{Common.◌∙◌, Common.refl, lemmas.List.take_rest}
 use Rattle.properties_format.specs.Encoding.{windows_1252}
 use Rattle.properties_text.specs.Encoding.{encoding_of}
 use Rattle.properties_tables.proofs.FlawedLines.{lines-body, lines-unsought, unsought-byte, windows_1252-sought}

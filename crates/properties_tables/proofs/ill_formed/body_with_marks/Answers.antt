@@ -1,10 +1,8 @@
-use Rattle.std.proofs.Common.{refl, sym, ◌∙◌}
-use Rattle.std.proofs.lemmas.List.{take_rest}
+use Rattle.std.proofs.{Common.refl, Common.sym, Common.◌∙◌, lemmas.List.take_rest}
 use Rattle.properties_format.specs.Encoding.{utf_8, windows_1252}
 use Rattle.properties_text.specs.Encoding.{encoding_of}
 use Rattle.properties_tables.specs.declared.ill_formed.Flaw.TheVariants.{MarkInside}
-use Rattle.properties_tables.proofs.FlawedLines.{lines-body, lines-flawless}
-use Rattle.properties_tables.proofs.Marks.{none-mark, none-windows_1252}
+use Rattle.properties_tables.proofs.{FlawedLines.lines-body, FlawedLines.lines-flawless, Marks.none-mark, Marks.none-windows_1252}
 use Rattle.properties_tables.proofs.ill_formed.body_with_marks.Goals as goal
 
 pub returns-in-WINDOWS_1252 : goal.returns-in-WINDOWS_1252

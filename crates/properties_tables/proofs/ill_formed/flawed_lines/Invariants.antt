@@ -1,7 +1,6 @@
 use Rattle.std.proofs.Common.{◌++◌, length}
 use Rattle.properties_text.specs.Encoding.{encoding_of}
-use Rattle.properties_tables.specs.Lines.{HasFlawed}
-use Rattle.properties_tables.specs.Private.Flawed.{numbers_left, IsScanning}
+use Rattle.properties_tables.specs.{Lines.HasFlawed, Private.Flawed.numbers_left, Private.Flawed.IsScanning}
 use Rattle.properties_tables.proofs.ill_formed.flawed_lines.Given as goal
 
 abbrev pub invariant-loop-number : goal.invariant-loop-number

@@ -1,5 +1,4 @@
-use Rattle.std.proofs.Common.{◌∙◌, drop, sym}
-use Rattle.std.proofs.lemmas.List.{take_rest}
+use Rattle.std.proofs.{Common.◌∙◌, Common.drop, Common.sym, lemmas.List.take_rest}
 use Rattle.properties_tables.proofs.Marks.{mark-from, mark-here, mark-next, mark-nowhere}
 use Rattle.properties_tables.proofs.ill_formed.holds_mark.Goals as goal
 

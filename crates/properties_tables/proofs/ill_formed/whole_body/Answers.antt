@@ -1,5 +1,4 @@
-use Rattle.std.proofs.Common.{refl}
-use Rattle.std.proofs.lemmas.List.{take_rest}
+use Rattle.std.proofs.{Common.refl, lemmas.List.take_rest}
 use Rattle.properties_text.specs.Encoding.{encoding_of}
 use Rattle.properties_tables.specs.declared.ill_formed.Flaw.TheVariants.{NonAscii}
 use Rattle.properties_tables.proofs.FlawedLines.{lines-body}

@@ -1,10 +1,8 @@
-use Rattle.std.specs.Cow.{cow_str_bytes}
-use Rattle.std.specs.Str.{chars}
+use Rattle.std.specs.{Cow.cow_str_bytes, Str.chars}
 use Rattle.properties_format.specs.Escapes.{breaks, means, Breaks, Means}
 use Rattle.properties_format.specs.Split.{IsSplit, Logical}
 use Rattle.properties_format.proofs.Escapes.Unique.{breaks-only, means-only}
-use Rattle.properties_text.specs.Escaping.{malformed_in}
-use Rattle.properties_text.specs.Parsing.{bytes_in}
+use Rattle.properties_text.specs.{Escaping.malformed_in, Parsing.bytes_in}
 use Rattle.properties_tables.proofs.KeyedPairs.{key-found, key-of_pair}
 use Rattle.properties_tables.proofs.key_table.sound_key.Goals as goal
 

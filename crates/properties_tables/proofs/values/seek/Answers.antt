@@ -1,6 +1,5 @@
 use Rattle.std.proofs.Common.{◌<◌, [], ◌∷◌, ◌++◌, length, take, ap, sym, ◌∙◌, arith, subst}
-use Rattle.std.specs.Prelude.{map}
-use Rattle.std.specs.Str.{chars}
+use Rattle.std.specs.{Prelude.map, Str.chars}
 use Rattle.std.proofs.lemmas.List.{map_more}
 use Rattle.java_properties.specs.Maps.{characters}
 use Rattle.properties_tables.specs.Private.Sought.{Seeks}

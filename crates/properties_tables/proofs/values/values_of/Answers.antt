@@ -3,8 +3,7 @@ use Rattle.std.specs.Prelude.{map}
 use Rattle.java_properties.specs.Maps.{characters}
 use Rattle.properties_text.specs.Encoding.{encoding_of}
 use Rattle.properties_tables.specs.Values.{HaveValues}
-use Rattle.properties_tables.proofs.SoughtKeys.{have-found, in-comments, took-none}
-use Rattle.properties_tables.proofs.RefusedSources.{one-found}
+use Rattle.properties_tables.proofs.{SoughtKeys.have-found, SoughtKeys.in-comments, SoughtKeys.took-none, RefusedSources.one-found}
 use Rattle.properties_tables.proofs.values.values_of.Goals as goal
 
 pub take_all-requires : goal.take_all-requires

@@ -1,5 +1,4 @@
-use Rattle.std.proofs.lemmas.Iterator.{items_from_collect}
-use Rattle.std.proofs.lemmas.Iterator.Adapters.{YieldsList-from_vec}
+use Rattle.std.proofs.{lemmas.Iterator.items_from_collect, lemmas.Iterator.Adapters.YieldsList-from_vec}
 use Rattle.properties_tools.proofs.TakenArguments.{after-next, len-items}
 use Rattle.properties_tools.proofs.arguments.words_after_name.Goals as goal
 

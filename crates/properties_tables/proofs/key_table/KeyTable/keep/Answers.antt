@@ -1,14 +1,10 @@
 use Rattle.std.proofs.Common.{ℕ, ◌∙◌, ◌+◌, List, ap, arith, inl, inr, refl, subst}
 use Rattle.std.proofs.Math.ListN.{set}
-use Rattle.std.specs.Prelude.{Some, string_bytes}
-use Rattle.std.specs.BTreeMap.{UpdatesBy}
-use Rattle.std.specs.Cmp.Lexicographic.{slice_cmp}
-use Rattle.std.specs.Ordering.{nat_cmp}
-use Rattle.std.specs.String.{string_cmp}
+use Rattle.std.specs.{Prelude.Some, Prelude.string_bytes, BTreeMap.UpdatesBy, Cmp.Lexicographic.slice_cmp, Ordering.nat_cmp, String.string_cmp}
 use Rattle.properties_items.proofs.TextMaps.Values.{at_chars-updated}
-use Rattle.properties_tables.proofs.KeyTables.{slot-is, some-row}
+use Rattle.properties_tables.proofs.{KeyTables.slot-is, KeyTables.some-row, key_table.KeyTable.keep.Goals.then-index-eq0+else-row-lt-ROWS_IN_SLOTS}
+use Rattle.properties_tables.proofs.key_table.KeyTable.keep.Goals.{else-index-eq0}
 use Rattle.properties_tables.proofs.key_table.KeyTable.keep.Goals as goal
-use Rattle.properties_tables.proofs.key_table.KeyTable.keep.Goals.{then-index-eq0+else-row-lt-ROWS_IN_SLOTS, else-index-eq0}
 
 pub returns-then-row-lt-ROWS_IN_SLOTS : goal.returns-then-row-lt-ROWS_IN_SLOTS
 returns-then-row-lt-ROWS_IN_SLOTS c =

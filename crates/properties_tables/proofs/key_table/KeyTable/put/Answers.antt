@@ -1,6 +1,5 @@
 use Rattle.std.proofs.Common.{◌≡◌, ◌∙◌, ap, arith, inl, inr, length, refl, subst, sym}
-use Rattle.properties_tables.specs.Private.Table.{bytes_at, HoldsText}
-use Rattle.properties_tables.specs.declared.key_table.KeyRow.{KeyRow}
+use Rattle.properties_tables.specs.{Private.Table.bytes_at, Private.Table.HoldsText, declared.key_table.KeyRow.KeyRow}
 use Rattle.properties_tables.proofs.KeyTables.{length-places, places-more, table-more}
 use Rattle.properties_tables.proofs.key_table.KeyTable.put.Goals as goal
 

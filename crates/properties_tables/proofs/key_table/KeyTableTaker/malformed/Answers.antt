@@ -1,7 +1,5 @@
 use Rattle.std.proofs.Common.{◌≡◌, refl}
-use Rattle.std.specs.Prelude.{None, Some}
-use Rattle.std.specs.Cow.{cow_str_bytes}
-use Rattle.std.specs.Str.{chars}
+use Rattle.std.specs.{Prelude.None, Prelude.Some, Cow.cow_str_bytes, Str.chars}
 use Rattle.properties_format.specs.Computed.Split.{split_of}
 use Rattle.properties_tables.specs.Private.Fold.{sound_key}
 use Rattle.properties_tables.proofs.KeyTables.{took-escape, took-keyed}

@@ -1,7 +1,6 @@
 use Rattle.std.proofs.Common.{rules, ◌≡◌, ℕ, List, [], ◌∷◌, ◌++◌, true, encode_utf8, sym, ap, ◌∙◌, append_assoc, append-nil}
-use Rattle.std.proofs.Output.{has_written_append, has_written_of_eq}
-use Rattle.std.proofs.lemmas.List.{nil_from_length}
-use Rattle.std.proofs.lemmas.Str.{chars_past_char, chars-nil, IsUtf8-past_char}
+use Rattle.std.proofs.{Output.has_written_append, Output.has_written_of_eq, lemmas.List.nil_from_length, lemmas.Str.chars_past_char, lemmas.Str.chars-nil}
+use Rattle.std.proofs.lemmas.Str.{IsUtf8-past_char}
 use Rattle.std.specs.Char.{is_control}
 use Rattle.properties_tables.specs.Messages.{all_shown, shown_by}
 use Rattle.properties_tables.proofs.messages.EscapedDisplay.fmt.Goals as goal

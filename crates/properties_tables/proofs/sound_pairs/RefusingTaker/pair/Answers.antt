@@ -1,5 +1,4 @@
-use Rattle.std.proofs.Common.{◌∙◌, sym}
-use Rattle.std.proofs.lemmas.Result.{on_ok_weaker}
+use Rattle.std.proofs.{Common.◌∙◌, Common.sym, lemmas.Result.on_ok_weaker}
 use Rattle.std.specs.Str.{chars}
 use Rattle.properties_tables.proofs.RefusedSources.{first-kept}
 use Rattle.properties_tables.proofs.sound_pairs.RefusingTaker.pair.Goals as goal

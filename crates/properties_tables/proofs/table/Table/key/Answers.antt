@@ -1,7 +1,6 @@
 use Rattle.std.proofs.Common.{◌∙◌, ap, sym}
 use Rattle.properties_tables.specs.Table.{Row}
-use Rattle.properties_tables.proofs.KeyTables.{none}
-use Rattle.properties_tables.proofs.Tables.{below-places, no_last, row-at}
+use Rattle.properties_tables.proofs.{KeyTables.none, Tables.below-places, Tables.no_last, Tables.row-at}
 use Rattle.properties_tables.proofs.table.Table.key.Goals as goal
 
 pub key-requires-clause-within : goal.key-requires-clause-within

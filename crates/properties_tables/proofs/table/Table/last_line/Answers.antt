@@ -1,6 +1,5 @@
 use Rattle.std.proofs.Common.{◌∙◌, ap, arith, sym}
-use Rattle.properties_tables.specs.Table.{Row}
-use Rattle.properties_tables.specs.declared.table.LastPair.{LastPair}
+use Rattle.properties_tables.specs.{Table.Row, declared.table.LastPair.LastPair}
 use Rattle.properties_tables.proofs.Tables.{length-rows, row-at}
 use Rattle.properties_tables.proofs.table.Table.last_line.Goals as goal
 

@@ -1,8 +1,6 @@
 use Rattle.std.proofs.Common.{◌∙◌, ap, arith, subst, sym}
 use Rattle.std.specs.Str.{chars}
-use Rattle.properties_tables.specs.Private.Table.{bytes_at, HoldsText}
-use Rattle.properties_tables.specs.Table.{Row}
-use Rattle.properties_tables.specs.declared.table.LastPair.{LastPair}
+use Rattle.properties_tables.specs.{Private.Table.bytes_at, Private.Table.HoldsText, Table.Row, declared.table.LastPair.LastPair}
 use Rattle.properties_tables.proofs.Tables.{length-rows, row-at}
 use Rattle.properties_tables.proofs.table.Table.value.Goals as goal
 

@@ -1,7 +1,6 @@
 use Rattle.std.proofs.Common.{◌<◌, length, refl, ap, ◌∙◌, ◌≡◌, subst, arith}
 use Rattle.std.specs.Prelude.{None, Some, bytes_eq, string_bytes}
-use Rattle.std.specs.Map.{update}
-use Rattle.std.specs.Str.{chars}
+use Rattle.std.specs.{Map.update, Str.chars}
 use Rattle.std.proofs.lemmas.Str.{IsUtf8-string_bytes}
 use Rattle.properties_items.proofs.TextMaps.Values.{at_chars, at_chars-updated}
 use Rattle.properties_tables.specs.Private.Sought.{mark_for}

@@ -1,7 +1,5 @@
 use Rattle.std.proofs.Common.{ap, sym, ◌∙◌}
-use Rattle.std.specs.Option.{option_map, unwrap_or}
-use Rattle.std.specs.Prelude.{None, Some}
-use Rattle.std.specs.Str.{chars}
+use Rattle.std.specs.{Option.option_map, Option.unwrap_or, Prelude.None, Prelude.Some, Str.chars}
 use Rattle.properties_items.proofs.TextMaps.Values.{at_chars-sorted}
 use Rattle.properties_items.specs.Texts.{characters}
 use Rattle.properties_tables.proofs.values.Sought.value_of.Goals as goal

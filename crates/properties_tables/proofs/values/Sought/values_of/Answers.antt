@@ -1,11 +1,8 @@
 use Rattle.std.proofs.Common.{◌<◌, [], ◌∷◌, ◌++◌, length, take, ap, sym, ◌∙◌, arith}
-use Rattle.std.specs.Prelude.{map}
-use Rattle.std.specs.Option.{option_map}
-use Rattle.std.specs.Str.{chars}
+use Rattle.std.specs.{Prelude.map, Option.option_map, Str.chars}
 use Rattle.std.proofs.lemmas.List.{map_more, map-append}
 use Rattle.java_properties.specs.Maps.{characters}
-use Rattle.properties_tables.specs.Values.{value_texts}
-use Rattle.properties_tables.specs.Private.Sought.{found_value}
+use Rattle.properties_tables.specs.{Values.value_texts, Private.Sought.found_value}
 use Rattle.properties_tables.proofs.values.Sought.values_of.Goals as goal
 
 pub loop-key-preserved : goal.loop-key-preserved

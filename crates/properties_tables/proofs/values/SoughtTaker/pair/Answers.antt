@@ -1,7 +1,5 @@
 use Rattle.std.proofs.Common.{refl, ap, sym, ◌∙◌}
-use Rattle.std.specs.Option.{is_some, option_map}
-use Rattle.std.specs.Prelude.{Some}
-use Rattle.std.specs.Str.{chars}
+use Rattle.std.specs.{Option.is_some, Option.option_map, Prelude.Some, Str.chars}
 use Rattle.properties_items.proofs.TextMaps.Values.{at_chars-sorted, at_chars-updated}
 use Rattle.properties_items.specs.Texts.{characters}
 use Rattle.properties_tables.specs.declared.values.Sought.{Sought}

@@ -1,6 +1,5 @@
 use Rattle.std.proofs.Common.{◌≡◌, ◌∙◌, refl, sym}
-use Rattle.std.specs.Prelude.{not}
-use Rattle.std.specs.Str.{chars}
+use Rattle.std.specs.{Prelude.not, Str.chars}
 use Rattle.properties_tools.specs.Private.Lacking.{is_among}
 use Rattle.properties_tables.specs.Private.Table.{place_keys, table_places}
 use Rattle.properties_tools.proofs.MissingKeys.{found-told}

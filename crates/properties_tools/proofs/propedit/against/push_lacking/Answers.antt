@@ -5,12 +5,11 @@ use Rattle.properties_tools.specs.Private.Lacking.{is_lacking, key_place, lackin
 use Rattle.properties_tables.specs.Private.Table.{place_keys, table_places}
 use Rattle.properties_checking.specs.Kinds.{is_ignored}
 use Rattle.properties_tools.specs.declared.propedit.against.Sides.{Sides}
-use Rattle.properties_checking.proofs.Json.{adds-both, adds-none}
+use Rattle.properties_checking.proofs.{Json.adds-both, Json.adds-none, LeftOut.all-reported, LeftOut.none-reported}
 use Rattle.properties_tables.proofs.KeyTables.{none}
-use Rattle.properties_checking.proofs.LeftOut.{all-reported, none-reported}
-use Rattle.properties_tools.proofs.PrintedLists.{kept, left_out}
+use Rattle.properties_tools.proofs.{PrintedLists.kept, PrintedLists.left_out, propedit.against.push_lacking.Goals.then-is_lacking+in_ok-push_key}
+use Rattle.properties_tools.proofs.propedit.against.push_lacking.Goals.{else-is_lacking}
 use Rattle.properties_tools.proofs.propedit.against.push_lacking.Goals as goal
-use Rattle.properties_tools.proofs.propedit.against.push_lacking.Goals.{then-is_lacking+in_ok-push_key, else-is_lacking}
 
 pub loop-row-preserved : goal.loop-row-preserved
 loop-row-preserved c =

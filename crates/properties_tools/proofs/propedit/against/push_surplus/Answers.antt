@@ -1,15 +1,11 @@
 use Rattle.std.proofs.Common.{◌≡◌, ℕ, List, ◌∙◌, codes, refl, subst, sym}
-use Rattle.std.specs.Prelude.{decimal, encode_utf8_all}
-use Rattle.std.specs.Str.{chars}
+use Rattle.std.specs.{Prelude.decimal, Prelude.encode_utf8_all, Str.chars}
 use Rattle.std.proofs.lemmas.Str.{encodes-chars}
 use Rattle.json.specs.Json.{member, no_members, number, object, string}
 use Rattle.java_properties.specs.Findings.{KeyPlace}
-use Rattle.properties_tools.specs.Private.Lacking.{key_place}
-use Rattle.properties_tools.specs.Propedit.Against.{surplus_line, surplus_value, surplus_words}
-use Rattle.properties_checking.specs.Kinds.{kind_name}
-use Rattle.properties_checking.specs.declared.kinds.Kind.TheVariants.{SurplusKey}
-use Rattle.properties_checking.specs.Private.Objects.{AddsJsonLine}
+use Rattle.properties_tools.specs.{Private.Lacking.key_place, Propedit.Against.surplus_line, Propedit.Against.surplus_value, Propedit.Against.surplus_words}
 use Rattle.properties_tools.specs.declared.propedit.against.Sides.{Sides}
+use Rattle.properties_checking.specs.{Kinds.kind_name, declared.kinds.Kind.TheVariants.SurplusKey, Private.Objects.AddsJsonLine}
 use Rattle.properties_checking.proofs.Json.{adds-object}
 use Rattle.properties_tools.proofs.propedit.against.push_surplus.Goals as goal
 

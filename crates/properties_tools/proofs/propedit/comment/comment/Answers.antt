@@ -1,6 +1,5 @@
 use Rattle.std.proofs.Common.{inl, inr}
-use Rattle.std.specs.Prelude.{map}
-use Rattle.std.specs.Option.{option_map}
+use Rattle.std.specs.{Prelude.map, Option.option_map}
 use Rattle.java_properties.specs.Maps.{characters}
 use Rattle.properties_tools.proofs.propedit.comment.comment.Goals as goal
 

@@ -1,10 +1,8 @@
 use Rattle.std.proofs.Common.{◌<◌, ◌++◌, [], ◌∷◌, length, take, ap, sym, ◌∙◌, arith}
-use Rattle.std.specs.Prelude.{map}
-use Rattle.std.specs.Str.{chars}
+use Rattle.std.specs.{Prelude.map, Str.chars}
 use Rattle.std.proofs.lemmas.List.{flat_map_more, map_more}
 use Rattle.java_properties.specs.Maps.{characters}
-use Rattle.properties_tools.specs.Propedit.Texts.{ended, ended_all}
-use Rattle.properties_tools.specs.declared.propedit.request.Terminator.TheVariants.{LineFeed}
+use Rattle.properties_tools.specs.{Propedit.Texts.ended, Propedit.Texts.ended_all, declared.propedit.request.Terminator.TheVariants.LineFeed}
 use Rattle.properties_tools.proofs.propedit.comment.lines_of.Goals as goal
 
 pub loop-line-preserved : goal.loop-line-preserved

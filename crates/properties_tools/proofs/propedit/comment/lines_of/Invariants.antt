@@ -1,8 +1,7 @@
 use Rattle.std.proofs.Common.{◌≡◌, take}
 use Rattle.std.specs.Prelude.{map}
 use Rattle.java_properties.specs.Maps.{characters}
-use Rattle.properties_tools.specs.Propedit.Texts.{ended_all}
-use Rattle.properties_tools.specs.declared.propedit.request.Terminator.TheVariants.{LineFeed}
+use Rattle.properties_tools.specs.{Propedit.Texts.ended_all, declared.propedit.request.Terminator.TheVariants.LineFeed}
 use Rattle.properties_tools.proofs.propedit.comment.lines_of.Given as goal
 
 abbrev pub invariant-loop-line : goal.invariant-loop-line

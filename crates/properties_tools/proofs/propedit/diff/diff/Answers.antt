@@ -1,6 +1,5 @@
 use Rattle.properties_text.specs.Encoding.{encoding_of}
-use Rattle.properties_tools.specs.Propedit.Diff.{IsDifferenceText}
-use Rattle.properties_tools.specs.Propedit.Differences.{difference_lines}
+use Rattle.properties_tools.specs.{Propedit.Diff.IsDifferenceText, Propedit.Differences.difference_lines}
 use Rattle.properties_tools.proofs.TableDifferences.{some-line, told-so}
 use Rattle.properties_tools.proofs.propedit.diff.diff.Goals as goal
 

@@ -1,7 +1,6 @@
 use Rattle.std.proofs.Common.{ap, ◌∙◌}
 use Rattle.properties_text.specs.Encoding.{encoding_of}
-use Rattle.properties_tools.specs.Propedit.{report_status}
-use Rattle.properties_tools.specs.Private.Differing.{differences}
+use Rattle.properties_tools.specs.{Propedit.report_status, Private.Differing.differences}
 use Rattle.properties_tables.specs.Private.Table.{rows_of}
 use Rattle.properties_tools.proofs.TableDifferences.{comparable, compared, lines-between}
 use Rattle.properties_tables.proofs.Tables.{lines-fit}

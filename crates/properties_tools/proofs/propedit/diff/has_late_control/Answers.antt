@@ -1,6 +1,5 @@
 use Rattle.std.proofs.Common.{◌≡◌, ◌||◌, true, false, ap, sym, refl, ◌∙◌}
-use Rattle.std.specs.Str.{chars}
-use Rattle.std.specs.Str.Iter.{chars_rest}
+use Rattle.std.specs.{Str.chars, Str.Iter.chars_rest}
 use Rattle.std.proofs.lemmas.Str.{IsUtf8-past_char}
 use Rattle.java_properties.proofs.Settings.Tests.{past_first, past_last}
 use Rattle.properties_tools.specs.Propedit.Differences.{has_late_control, is_late_control}

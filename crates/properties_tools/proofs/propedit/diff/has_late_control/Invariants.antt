@@ -1,6 +1,5 @@
 use Rattle.std.proofs.Common.{◌≡◌}
-use Rattle.std.specs.Str.{IsUtf8, chars}
-use Rattle.std.specs.Str.Iter.{chars_rest}
+use Rattle.std.specs.{Str.IsUtf8, Str.chars, Str.Iter.chars_rest}
 use Rattle.properties_tools.specs.Propedit.Differences.{has_late_control}
 use Rattle.properties_tools.proofs.propedit.diff.has_late_control.Given as goal
 

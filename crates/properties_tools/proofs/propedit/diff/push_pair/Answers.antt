@@ -1,6 +1,5 @@
 use Rattle.std.proofs.Common.{◌≡◌, ◌++◌, ◌||◌, true, ap, subst, ◌∙◌}
-use Rattle.std.specs.Prelude.{OnOk, codes}
-use Rattle.std.specs.Str.{chars}
+use Rattle.std.specs.{Prelude.OnOk, Prelude.codes, Str.chars}
 use Rattle.properties_format.specs.Text.{is_blanks}
 use Rattle.properties_text.specs.Printing.{key_bytes, value_bytes}
 use Rattle.properties_tools.specs.Propedit.Differences.{has_late_control}

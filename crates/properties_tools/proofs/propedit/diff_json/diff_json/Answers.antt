@@ -1,8 +1,6 @@
 use Rattle.properties_text.specs.Encoding.{encoding_of}
-use Rattle.properties_tools.proofs.TableDifferences.{told-so}
-use Rattle.properties_tools.specs.Propedit.Diff.{AreObjects}
-use Rattle.properties_tools.specs.Private.Json.{difference_line}
-use Rattle.properties_tools.proofs.Objects.{are-objects, some-object}
+use Rattle.properties_tools.proofs.{TableDifferences.told-so, Objects.are-objects, Objects.some-object}
+use Rattle.properties_tools.specs.{Propedit.Diff.AreObjects, Private.Json.difference_line}
 use Rattle.properties_tools.proofs.propedit.diff_json.diff_json.Goals as goal
 
 pub returns : goal.returns

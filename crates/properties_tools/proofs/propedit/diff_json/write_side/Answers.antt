@@ -1,6 +1,5 @@
 use Rattle.std.proofs.Common.{◌≡◌, ◌∙◌, ◌++◌, ◌∷◌, [], List, ap, ap₂, codes, refl, sym}
-use Rattle.std.specs.Fmt.{decimal}
-use Rattle.std.specs.Prelude.{encode_utf8_all}
+use Rattle.std.specs.{Fmt.decimal, Prelude.encode_utf8_all}
 use Rattle.std.proofs.lemmas.Str.{encodes-chars}
 use Rattle.json.specs.Token.{Token, begin_object, end_object, key, number, string}
 use Rattle.properties_tools.proofs.propedit.diff_json.write_side.Goals as goal

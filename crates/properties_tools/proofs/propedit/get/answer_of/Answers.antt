@@ -1,13 +1,11 @@
 use Rattle.std.proofs.Common.{◌≡◌, ◌<◌, ℕ, List, [], ◌∷◌, ◌++◌, length, take, ap, sym, ◌∙◌, refl, arith, append-nil}
 use Rattle.std.specs.Prelude.{map, Option, Some, None}
-use Rattle.std.specs.List.{flat_map}
-use Rattle.std.specs.Option.{option_map}
+use Rattle.std.specs.{List.flat_map, Option.option_map}
 use Rattle.std.proofs.lemmas.List.{flat_map_more, map_more, map-append}
 use Rattle.java_properties.specs.Maps.{characters}
-use Rattle.properties_tools.specs.Propedit.Get.{ended_if, found_status, value_or}
+use Rattle.properties_tools.specs.{Propedit.Get.ended_if, Propedit.Get.found_status, Propedit.Get.value_or, declared.propedit.request.Terminator.Terminator}
 use Rattle.properties_changing.specs.Change.{borrowed_characters}
 use Rattle.properties_tables.specs.Values.{value_texts}
-use Rattle.properties_tools.specs.declared.propedit.request.Terminator.{Terminator}
 use Rattle.properties_tools.proofs.propedit.get.answer_of.Goals.{in-Some+in_ok-push_ended-in-Some, in-None}
 use Rattle.properties_tools.proofs.propedit.get.answer_of.Goals as goal
 

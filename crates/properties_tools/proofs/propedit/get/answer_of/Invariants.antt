@@ -1,7 +1,5 @@
 use Rattle.std.proofs.Common.{◌≡◌, take}
-use Rattle.std.specs.Prelude.{map}
-use Rattle.std.specs.List.{flat_map}
-use Rattle.std.specs.Option.{option_map}
+use Rattle.std.specs.{Prelude.map, List.flat_map, Option.option_map}
 use Rattle.properties_tables.specs.Values.{value_texts}
 use Rattle.properties_tools.specs.Propedit.Get.{ended_if, found_status, value_or}
 use Rattle.properties_changing.specs.Change.{borrowed_characters}

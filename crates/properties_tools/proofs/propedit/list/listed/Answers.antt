@@ -2,13 +2,12 @@ use Rattle.std.proofs.Common.{◌≡◌, ◌∙◌, ◌<◌, ap, arith, get_or, 
 use Rattle.std.specs.Str.{chars}
 use Rattle.std.proofs.lemmas.List.{get_or-map, length-map}
 use Rattle.java_properties.specs.Findings.{KeyPlace}
-use Rattle.properties_tools.specs.Propedit.Listing.{is_key_listed}
-use Rattle.properties_tools.specs.Propedit.Texts.{ended}
+use Rattle.properties_tools.specs.{Propedit.Listing.is_key_listed, Propedit.Texts.ended}
 use Rattle.properties_tables.specs.Private.Table.{place_keys, places_in}
 use Rattle.properties_tables.proofs.KeyTables.{none}
-use Rattle.properties_tools.proofs.PrintedLists.{passed, printed}
+use Rattle.properties_tools.proofs.{PrintedLists.passed, PrintedLists.printed, propedit.list.listed.Goals.then-is_listed+in_ok-push_ended}
+use Rattle.properties_tools.proofs.propedit.list.listed.Goals.{else-is_listed}
 use Rattle.properties_tools.proofs.propedit.list.listed.Goals as goal
-use Rattle.properties_tools.proofs.propedit.list.listed.Goals.{then-is_listed+in_ok-push_ended, else-is_listed}
 
 pub loop-row-preserved : goal.loop-row-preserved
 loop-row-preserved c =

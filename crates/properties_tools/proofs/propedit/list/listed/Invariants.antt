@@ -1,8 +1,6 @@
 use Rattle.std.proofs.Common.{◌≡◌, take}
-use Rattle.std.specs.List.{flat_map}
-use Rattle.std.specs.Str.{chars}
-use Rattle.properties_tools.specs.Propedit.Listing.{listed_keys}
-use Rattle.properties_tools.specs.Propedit.Texts.{ended}
+use Rattle.std.specs.{List.flat_map, Str.chars}
+use Rattle.properties_tools.specs.{Propedit.Listing.listed_keys, Propedit.Texts.ended}
 use Rattle.properties_tables.specs.Private.Table.{place_keys, places_in}
 use Rattle.properties_tools.proofs.propedit.list.listed.Given as goal
 

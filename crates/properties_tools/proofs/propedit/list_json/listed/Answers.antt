@@ -1,16 +1,12 @@
 use Rattle.std.proofs.Common.{◌≡◌, ◌∙◌, ◌<◌, [], ap, ap₂, arith, get_or, length, map, sym, take}
-use Rattle.std.specs.Prelude.{encode_utf8_all}
-use Rattle.std.specs.Str.{chars}
-use Rattle.std.proofs.lemmas.List.{get_or-map, length-map, take_all}
-use Rattle.std.proofs.lemmas.Str.{encodes-chars}
+use Rattle.std.specs.{Prelude.encode_utf8_all, Str.chars}
+use Rattle.std.proofs.{lemmas.List.get_or-map, lemmas.List.length-map, lemmas.List.take_all, lemmas.Str.encodes-chars}
 use Rattle.properties_format.specs.Writing.{Pair}
 use Rattle.properties_tools.specs.Propedit.Listing.{is_key_listed, is_pair_listed}
-use Rattle.properties_tables.specs.Table.{Row}
-use Rattle.properties_tables.specs.Private.Table.{row_pair, rows_of}
-use Rattle.properties_tools.proofs.PairObjects.{began, object-line, one-more}
-use Rattle.properties_tools.proofs.PrintedLists.{kept, left_out}
+use Rattle.properties_tables.specs.{Table.Row, Private.Table.row_pair, Private.Table.rows_of}
+use Rattle.properties_tools.proofs.{PairObjects.began, PairObjects.object-line, PairObjects.one-more, PrintedLists.kept, PrintedLists.left_out}
+use Rattle.properties_tools.proofs.{propedit.list_json.listed.Goals.then-is_listed+in_ok-key+in_ok-string, propedit.list_json.listed.Goals.else-is_listed}
 use Rattle.properties_tools.proofs.propedit.list_json.listed.Goals as goal
-use Rattle.properties_tools.proofs.propedit.list_json.listed.Goals.{then-is_listed+in_ok-key+in_ok-string, else-is_listed}
 
 pub loop-row-init : goal.loop-row-init
 loop-row-init c =

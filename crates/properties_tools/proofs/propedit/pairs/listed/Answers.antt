@@ -2,16 +2,15 @@ use Rattle.std.proofs.Common.{◌≡◌, ◌∙◌, ◌++◌, ◌<◌, [], ap, a
 use Rattle.std.specs.Str.{chars}
 use Rattle.std.proofs.lemmas.List.{get_or-map, length-map}
 use Rattle.properties_format.specs.Writing.{Pair}
-use Rattle.properties_tools.specs.Propedit.Listing.{ended_pair, is_key_listed, is_pair_listed}
-use Rattle.properties_tables.specs.Table.{Row}
-use Rattle.properties_tools.specs.Propedit.Texts.{ended, followed_text}
+use Rattle.properties_tools.specs.{Propedit.Listing.ended_pair, Propedit.Listing.is_key_listed, Propedit.Listing.is_pair_listed, Propedit.Texts.ended}
+use Rattle.properties_tools.specs.Propedit.Texts.{followed_text}
+use Rattle.properties_tables.specs.{Table.Row, declared.table.LastPair.LastPair}
 use Rattle.properties_tables.specs.Private.Table.{bytes_at, row_pair, rows_of, HoldsText}
-use Rattle.properties_tables.specs.declared.table.LastPair.{LastPair}
 use Rattle.properties_tables.proofs.KeyTables.{none}
 use Rattle.properties_tables.proofs.Tables.{below-places, length-rows, no_last, row-at}
-use Rattle.properties_tools.proofs.PrintedLists.{passed, printed}
+use Rattle.properties_tools.proofs.{PrintedLists.passed, PrintedLists.printed, propedit.pairs.listed.Goals.then-is_listed+in_ok-push_followed+in_ok-push_ended}
+use Rattle.properties_tools.proofs.propedit.pairs.listed.Goals.{else-is_listed}
 use Rattle.properties_tools.proofs.propedit.pairs.listed.Goals as goal
-use Rattle.properties_tools.proofs.propedit.pairs.listed.Goals.{then-is_listed+in_ok-push_followed+in_ok-push_ended, else-is_listed}
 
 pub key-key-requires-clause-table : goal.key-key-requires-clause-table
 key-key-requires-clause-table c = rw c.into_keys-keys.ensures c.requires.keys.texts

@@ -1,6 +1,5 @@
 use Rattle.std.proofs.Common.{◌≡◌, map, take}
-use Rattle.std.specs.List.{flat_map}
-use Rattle.std.specs.Str.{chars}
+use Rattle.std.specs.{List.flat_map, Str.chars}
 use Rattle.properties_tools.specs.Propedit.Listing.{ended_pair, listed_pairs}
 use Rattle.properties_tables.specs.Private.Table.{row_pair, rows_of}
 use Rattle.properties_tools.proofs.propedit.pairs.listed.Given as goal

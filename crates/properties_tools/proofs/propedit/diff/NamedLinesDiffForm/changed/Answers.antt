@@ -1,6 +1,5 @@
 use Rattle.std.proofs.Common.{◌∙◌, ◌++◌, ap, append_assoc, codes}
-use Rattle.properties_tools.specs.Propedit.Differences.{row_line}
-use Rattle.properties_tools.specs.Private.Differing.{row_at}
+use Rattle.properties_tools.specs.{Propedit.Differences.row_line, Private.Differing.row_at}
 use Rattle.properties_tools.proofs.propedit.diff.NamedLinesDiffForm.changed.Goals as goal
 
 pub returns : goal.returns

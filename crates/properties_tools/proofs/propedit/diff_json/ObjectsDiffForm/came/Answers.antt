@@ -1,9 +1,6 @@
-use Rattle.std.proofs.Common.{◌∙◌, ap, sym}
+use Rattle.std.proofs.{Common.◌∙◌, Common.ap, Common.sym, lemmas.Result.on_ok_weaker, lemmas.Str.encodes-chars}
 use Rattle.std.specs.Prelude.{encode_utf8_all}
-use Rattle.std.proofs.lemmas.Result.{on_ok_weaker}
-use Rattle.std.proofs.lemmas.Str.{encodes-chars}
-use Rattle.properties_tools.specs.Propedit.Differences.{came}
-use Rattle.properties_tools.specs.Private.Differing.{row_at}
+use Rattle.properties_tools.specs.{Propedit.Differences.came, Private.Differing.row_at}
 use Rattle.properties_tools.proofs.Objects.{object-written}
 use Rattle.properties_tools.proofs.propedit.diff_json.ObjectsDiffForm.came.Goals as goal
 
