@@ -19,10 +19,10 @@ use crate::misread::{Misread, find_misread};
 use crate::request::{Allowed, Check, Report};
 use java_properties::{Encoding, MalformedEscape, PropertiesError};
 use properties_tables::error::{HOLDS_ZERO, NOT_UTF_8, NOT_UTF_8_BY_MARK, NOT_UTF_16};
+use properties_tables::fold::take_all;
 use properties_tables::ill_formed::{
     Flaw, first_flawed_line, first_utf_8_line, flawed_lines, has_byte_order_mark, ill_formed_lines,
 };
-use properties_tables::fold::take_all;
 use properties_tables::key_table::KeyTable;
 use properties_tables::messages::Escaped;
 use properties_tables::sound::{first_in_pair, in_utf_16};
