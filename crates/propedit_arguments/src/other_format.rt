@@ -1,5 +1,6 @@
 // Files in other formats, which `merge` would take for properties files.
 
+use memchr::memmem;
 use properties_tools::messages::Escaped;
 use properties_tools::propedit::request::Source;
 use std::fmt;
@@ -46,7 +47,10 @@ fn format_of(bytes: &[u8]) -> Option<OtherFormat> {
         _ if matches!(body, b"---" | [b'-', b'-', b'-', b'\n' | b'\r', ..]) => {
             Some(OtherFormat::Yaml)
         }
-        _ if has_export(body) => Some(OtherFormat::Shell),
+        // Few files have the word, and it is found faster than lines are.
+        _ if memmem::find(body, b"export").is_some() && has_export(body) => {
+            Some(OtherFormat::Shell)
+        }
         _ => None,
     }
 }

@@ -173,11 +173,13 @@ pub fn sound_keys(
 ) -> Result<KeyTable, PropertiesError>
     ensures { FindsSoundKeys (encoding_of encoding) source.now keys escapes.now result }
 {
-    if first_in_pair(escapes).is_none() {
-        return Ok(keys);
+    match first_in_pair(escapes) {
+        None => Ok(keys),
+        Some(_) => {
+            let none = KeyTable::for_source(alloc, source.len())?;
+            take_all(alloc, source, encoding, none)
+        }
     }
-    let none = KeyTable::for_source(alloc, source.len())?;
-    take_all(alloc, source, encoding, none)
 }
 
 fn push_first(
