@@ -1,6 +1,7 @@
 -- The hints on arguments that may have been meant otherwise.
 use Rattle.std.specs.Prelude.{◌≡◌, ◌==◌, ◌⊎◌, ℕ, Bool, true, false, not, List, [], ◌∷◌, ◌++◌, length, Option, Some, None, codes, map, string_bytes}
 use Rattle.std.specs.Borrow.{Bor}
+use Rattle.std.specs.Fmt.{decimal}
 use Rattle.std.specs.Global.{Global}
 use Rattle.std.specs.Option.{option_map}
 use Rattle.std.specs.Str.{chars}
@@ -11,7 +12,6 @@ use Rattle.properties_text.specs.Encoding.{encoding_of}
 use Rattle.properties_tables.specs.Messages.{escaped, printed_line, HasPrintedLine}
 use Rattle.java_properties.specs.Maps.{characters}
 use Rattle.properties_changing.specs.Keys.{HoldsKey, HoldsKeys, HoldsNoKey, IsFirstAbsent}
-use Rattle.properties_tables.specs.Failures.{message}
 use Rattle.properties_tables.specs.Lines.{IsFirstFlawed}
 use Rattle.properties_tables.specs.declared.ill_formed.Flaw.TheVariants.{Misread}
 use Rattle.properties_tools.specs.Propedit.Listing.{listed_keys, AreKeysOf}
@@ -37,8 +37,8 @@ reading_line = printed_line (codes "propedit: reading standard input; '-f FILE' 
 
 -- the line on the first line of a source with a byte that Java reads otherwise, if it reads ISO 8859-1
 abbrev pub misread_line : List ℕ → ℕ → List ℕ
-misread_line name number = printed_line (message name (Some number)
-    (codes "has a byte that Java reads as a control character; 'propedit check -e iso-8859-1' names each"))
+misread_line name number = codes "propedit: " ++ (escaped name ++ (codes ":" ++ (decimal number ++ (codes ": " ++ printed_line
+    (codes "has a byte that Java reads as a control character; 'propedit check -e iso-8859-1' names each")))))
 
 abbrev pub PrintsMisreadIn : {W : Type 0} → Sink W → List ℕ → Option ℕ → W → W → Type 0
 PrintsMisreadIn sink name None old new = new ≡ old
