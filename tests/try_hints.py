@@ -1,11 +1,12 @@
 #!/usr/bin/env python3
-"""Runs each hint that propedit gives in the rows of slips as a command, in the files of its row.
+"""Runs each hint that propedit gives in rows as a command, in the files of its row.
 
-    tests/try_hints.py PROPEDIT [FILE ..]
+    tests/try_hints.py PROPEDIT [FILE ..]    without a FILE, all of crates/program_vectors/data
 
-A hint stands in quotes after "did you mean", "use" or "write", or is all that comes after "use:". A shell runs it. If it is
-no command, it takes the place of the word that the message names; if it names no file, the row's -f or -i does. It has to be
-accepted, and edits have to make of the pairs of its file what they say.
+A hint is in quotes after "did you mean", "use" or "write", or is all that comes after "use:". A shell runs it. If it isn't a
+command, it takes the place of the word that the message names; if it names no file, the row's -f or -i does. Names that
+aren't files of the row are empty files. The hint has to be accepted, and edits have to make of the pairs of its file what
+they say.
 """
 import pathlib
 import re
@@ -19,6 +20,14 @@ from try_rows import ROWS, make_files, rows_in
 COMMANDS = ["get", "list", "comment", "check", "diff", "set", "remove", "rename", "set-comment", "merge", "convert", "help"]
 HINT = re.compile(r"(?:did you mean|\buse|\bwrite) '([^']+)'")
 OTHER = re.compile(r"; use: (.*)$")
+NAME = re.compile(r"[a-zA-Z][\w.]*")
+FILE_OPTIONS = ["-f", "-i", "--file", "--in-place"]
+# Hints that are refused, by the row's command line, and why.
+KNOWN = {
+    "$ set - -": "the note doesn't name the file to edit, which 'merge -z -' requires",
+    "$ check --ignore malformed_escape": "the message says itself that this kind cannot be ignored",
+    "$ check --ignore ill": "the message says itself that this kind cannot be ignored",
+}
 
 
 def run(program, words, folder, data=b""):
@@ -28,7 +37,7 @@ def run(program, words, folder, data=b""):
 def named(words):
     """The option of a row that names a file, and the file."""
     for at, word in enumerate(words):
-        if re.match(r"-[fi]$", word) and at + 1 < len(words):
+        if word in FILE_OPTIONS and at + 1 < len(words):
             return words[at : at + 2]
     return []
 
@@ -37,10 +46,22 @@ def command_of(hint, message, words):
     """The words of the command that a hint means."""
     said = shlex.split(hint)
     if said[0] not in COMMANDS or len(said) == 1 or said == ["list", "--json"]:
-        wrong = next(word for word in re.findall(r"'([^']*)'", message) if word in words)
-        at = words.index(wrong)
-        return words[:at] + said + words[at + 1 :]
+        return replaced(said, message, words)
     return said if named(said) else said[:1] + named(words) + said[1:]
+
+
+def replaced(said, message, words):
+    """The words of a row, with those of a hint for what the message names: words, or a part of one."""
+    names = re.findall(r"'([^']+)'", message)
+    for named_words in [[name] for name in names] + [name.split() for name in names]:
+        for at in range(len(words)):
+            end = at + len(named_words)
+            if named_words and words[at:end] == named_words:
+                # A hint with an option replaces the option too, and a command for an option replaces the row's command.
+                is_command = said[0] in COMMANDS and words[at][0] == "-" and at and words[at - 1] in COMMANDS
+                return words[: at - 1 if is_command or at and said[0] == words[at - 1] else at] + said + words[end:]
+    name, at = next((name, at) for name in names for at, word in enumerate(words) if name in word)
+    return [*words[:at], words[at].replace(name, said[0]), *words[at + 1 :]]
 
 
 def pairs_of(program, folder, data):
@@ -76,6 +97,8 @@ def wrong_with(program, row, message, hint):
     with tempfile.TemporaryDirectory() as name:
         folder = pathlib.Path(name)
         make_files(folder, row)
+        for word in filter(NAME.fullmatch, words):
+            (folder / word).exists() or (folder / word).touch()
         source = (folder / option[1]).read_bytes() if option and option[1] != "-" else row.input
         line = hint if is_other else f"propedit {shlex.join(words)}"
         done = subprocess.run(line, shell=True, cwd=folder, input=row.input, env=path, capture_output=True, check=False)
@@ -100,15 +123,18 @@ def hints_of(program, row):
 
 def main():
     program = pathlib.Path(sys.argv[1]).resolve()
-    passed = failed = 0
-    for path in [pathlib.Path(name) for name in sys.argv[2:]] or [ROWS / "slips.txt"]:
+    passed = failed = known = 0
+    for path in [pathlib.Path(name) for name in sys.argv[2:]] or sorted(ROWS.glob("*.txt")):
         for row in rows_in(path):
             for line, hint in hints_of(program, row):
                 wrong = wrong_with(program, row, line, hint)
+                if row.line in KNOWN:
+                    known, wrong = known + 1, None if wrong else "accepted, but in KNOWN"
+                    passed -= wrong is None
                 passed, failed = passed + (wrong is None), failed + (wrong is not None)
                 if wrong is not None:
                     print(f"{row.place}: {row.line}", line, f"{hint}: {wrong}", sep="\n    ")
-    print(f"{passed} passed, {failed} failed")
+    print(f"{passed} passed, {failed} failed, {known} known")
     return min(failed, 1)
 
 
