@@ -1,177 +1,327 @@
--- Pairs that are counted.
-use Rattle.std.proofs.Common.{◌≡◌, ◌≢◌, ℕ, ◌+◌, ◌-◌, ◌<◌, ◌≤◌, true, false, List, [], ◌∷◌, length, take, get_or, refl, sym, ap, ap₂, subst, ◌∙◌, inl, inr, arith}
-use Rattle.std.specs.Prelude.{◌&&◌, not, Bool, AllPairs, bytes_eq, count_by, Contains, Option, Some, None, cond}
-use Rattle.std.specs.{Bool.Decides, Int.from_bool, List.filter, Option.is_some, Set.is_member}
-use Rattle.std.proofs.{lemmas.Bool.cases_Bool, lemmas.Cmp.nat_list_eq_equiv, lemmas.List.get_or-map, lemmas.List.length-map, lemmas.List.take_all}
-use Rattle.std.proofs.{lemmas.List.Elements.All-weaker, lemmas.List.Filters.length-filter_both, lemmas.List.Kept.AllPairs-filter}
-use Rattle.std.proofs.lemmas.Slice.Eq.{bytes_eq-Decides}
-use Rattle.std.proofs.lemmas.List.Sums.{count_by-le-length, length-filter, sum_by-cons, sum_by_more}
-use Rattle.std.proofs.lemmas.Map.Made.{is_member-Decides, is_member-filter, length-IsIntersection, IsDistinct-from_AllPairs}
-use Rattle.properties_format.specs.{Computed.Maps.HasNot, Encoding.Encoding, Items.Entry, Maps.AreKeys, Maps.IsValue}
-use Rattle.properties_format.proofs.{Keys.contained, Maps.value_in, Maps.value_in-meets, Maps.value_in-only}
-use Rattle.properties_tables.specs.{Sources.IsSound, Private.Table.FindsKey}
-use Rattle.properties_tables.specs.Table.{row_keys, AreRows, HasRows, IsRow, Row}
-use Rattle.properties_tables.proofs.FirstKeys.{no-both}
-use Rattle.properties_changing.specs.{Counts.is_changed, Counts.AreCounts, Private.Counting.AreRowValues, Private.Counting.CountsKeys}
-
--- ---- one key more
+-- Pairs that are compared and counted.
+use Rattle.std.proofs.Common.{◌≡◌, ◌≢◌, ℕ, ◌+◌, ◌<◌, true, false, List, [], ◌∷◌, ◌++◌, length, get_or, refl, sym, ap, ap₂, subst, ◌∙◌, inl, inr, arith, append-nil}
+use Rattle.std.specs.Prelude.{◌&&◌, ◌⊎◌, not, Bool, All, AllPairs, bytes_eq, count_by, map, Contains, Option, Some, None, cond, if◌then◌else◌}
+use Rattle.std.specs.{Bool.Decides, List.filter, Option.is_none, Option.is_some, Set.is_member}
+use Rattle.std.proofs.{Math.Bool.and-true, Math.ListN.replicate, Math.ListN.set, lemmas.Bool.cases_Bool, lemmas.Bool.cases_eq, lemmas.Bool.cases_lt, lemmas.Cmp.nat_list_eq_equiv}
+use Rattle.std.proofs.lemmas.List.{ext_get_or, get_or-map, get_or-set_other, length-map, length-set, map-append}
+use Rattle.std.proofs.lemmas.List.{Elements.All-tail, Elements.All-weaker, Elements.filter-append, Elements.filter_map-append}
+use Rattle.std.proofs.lemmas.List.Sums.{length-filter, sum_by-cons}
+use Rattle.std.proofs.{lemmas.Grind.get_or-set_at, lemmas.Map.Made.is_member-Decides, lemmas.Map.Made.is_member-filter, lemmas.Simd.splat_is_map, lemmas.Slice.Eq.bytes_eq-Decides}
+use Rattle.properties_format.specs.{Computed.Maps.AreFirstOf, Computed.Maps.HasNot, Computed.Maps.first_value, Edits.ArePairs, Encoding.Encoding, Items.pair, Items.Entry, Items.item}
+use Rattle.properties_format.specs.Maps.{AreKeys, IsValue}
+use Rattle.properties_format.proofs.{Keys.contained, Keys.contains, Keys.pair_key, Keys.pair_keys, Keys.are-keys, Maps.value_in, Maps.value_in-append, Maps.value_in-meets, Maps.value_in-only}
+use Rattle.properties_tables.specs.{Sources.IsSound, Private.Fold.found_escape, Private.Fold.found_pair, Private.Fold.found_pairs, Private.Fold.AreFindings, Private.Fold.Finding, Private.Fold.Takes}
+use Rattle.properties_tables.specs.Private.Table.{place_keys, rows_of, table_places, FindsKey, IsKeyTable, IsTable, PutsKey}
+use Rattle.properties_tables.specs.{Table.row_keys, Table.HasRows, Table.IsRow, Table.Row, declared.key_table.KeyTable.KeyTable}
+use Rattle.properties_tables.proofs.{FirstKeys.first-new, FirstKeys.first-same, FirstKeys.has_not, FirstKeys.no-both, KeyTables.map-same, Rows.pairs-found, Rows.places-none, SourceFindings.pairs-append}
+use Rattle.properties_items.specs.declared.findings.MalformedEscape.{MalformedEscape}
+use Rattle.properties_changing.specs.{Counts.is_changed, Counts.AreCounts, declared.counts.Comparison.Comparison, declared.counts.Counts.Counts, declared.counts.State.State}
+use Rattle.properties_changing.specs.Private.Counting.{has_changed, is_gone, is_new, state_of, states_by, AreCounted, HasCompared}
+use Rattle.properties_changing.specs.declared.counts.State.TheVariants.{Gone, Same, Changed}
 
 -- what stands for a row where there is none
 abbrev pub no_row : Row
 no_row = record { key = []; first = 0; last = 0; value = [] }
 
-as-number : (b : Bool) → from_bool b ≡ cond b 1 0
-as-number true = refl
-as-number false = refl
-
-pub at-most-one : (b : Bool) → from_bool b ≤ 1
-at-most-one true = omega arith
-at-most-one false = omega arith
-
-one-more : (test : List ℕ → Bool) (keys : List (List ℕ)) (i n : ℕ) (is : Bool) → i < length keys → is ≡ test (get_or keys i [])
-    → n ≡ count_by test (take i keys) → n + from_bool is ≡ count_by test (take (i + 1) keys)
-one-more test keys i n is below tells counted =
-    ap₂ (λ v b. v + from_bool b) counted tells ∙ ap (λ v. count_by test (take i keys) + v) (as-number (test (get_or keys i [])))
-    ∙ sym (sum_by_more (λ k. cond (test k) 1 0) keys i [] below)
-
 pub keys-length : (rows : List Row) → length (row_keys rows) ≡ length rows
 keys-length rows = length-map rows (λ r. r.key)
 
-key-at : (rows : List Row) (i : ℕ) (d : Row) → i < length rows → get_or (row_keys rows) i [] ≡ (get_or rows i d).key
-key-at rows i d below = get_or-map (λ r. r.key) rows i d [] below
+member : (keys : List (List ℕ)) (key : List ℕ) → Decides (is_member bytes_eq keys key) (Contains keys key)
+member keys key = is_member-Decides bytes_eq-Decides keys key
 
-module _ (olds news : List Row) (i changed kept : ℕ) (d : Row) (below : i < length olds)
-    (counted : CountsKeys olds news (take i (row_keys olds)) changed kept) where
-  more : (changed' kept' : ℕ) (is_other is_kept : Bool) → changed' ≡ changed + from_bool is_other → kept' ≡ kept + from_bool is_kept
-      → ((new : List ℕ → Option (List ℕ)) → AreRowValues news new
-      → (is_other ≡ is_changed (Some (get_or olds i d).value) (new (get_or olds i d).key)) × (is_kept ≡ is_some (new (get_or olds i d).key)))
-      → CountsKeys olds news (take (i + 1) (row_keys olds)) changed' kept'
-  more changed' kept' is_other is_kept changes keeps tells old new were are =
-      let r = get_or olds i d in
-      let told = tells new are in
-      let key = key-at olds i d below in
-      let within : i < length (row_keys olds) = let l = keys-length olds in omega arith in (
-        changes ∙ one-more (λ k. is_changed (old k) (new k)) (row_keys olds) i changed is_other within
-            (told.0 ∙ sym (ap (λ k. is_changed (old k) (new k)) key ∙ ap (λ v. is_changed v (new r.key)) (were.each i d below))) (counted old new were are).0,
-        keeps ∙ one-more (λ k. is_some (new k)) (row_keys olds) i kept is_kept within (told.1 ∙ sym (ap (λ k. is_some (new k)) key)) (counted old new were are).1,
-      )
+-- ---- one pair more
 
-  -- The new table has a row of the key,
-  pub more-kept : (key : List ℕ) (n : ℕ) (e : Row) (changed' kept' : ℕ) (is_other : Bool) → changed' ≡ changed + from_bool is_other → kept' ≡ kept + 1
-      → key ≡ (get_or olds i d).key → FindsKey key (row_keys news) (Some n) → is_other ≡ not (bytes_eq (get_or olds i d).value (get_or news n e).value)
-      → CountsKeys olds news (take (i + 1) (row_keys olds)) changed' kept'
-  more-kept key n e changed' kept' is_other changes keeps same f tells = more changed' kept' is_other true changes keeps (λ new are.
-      let within : n < length news = let l = keys-length news in let m = f.0 in omega arith in
-      let its : (get_or news n e).key ≡ (get_or olds i d).key = sym (key-at news n e within) ∙ f.1 [] ∙ same in
-      let has : new (get_or olds i d).key ≡ Some (get_or news n e).value = ap new (sym its) ∙ are.each n e within in
-      (tells ∙ ap (is_changed (Some (get_or olds i d).value)) (sym has), ap is_some (sym has)))
+module _ (pairs : List Entry) (number : ℕ) (key value : List ℕ) where
+  abbrev more : List Entry
+  more = pairs ++ item number (pair key value) ∷ []
 
-  -- or it has none.
-  pub more-gone : (key : List ℕ) (changed' kept' : ℕ) → changed' ≡ changed → kept' ≡ kept → key ≡ (get_or olds i d).key → FindsKey key (row_keys news) None
-      → CountsKeys olds news (take (i + 1) (row_keys olds)) changed' kept'
-  more-gone key changed' kept' changes keeps same f = more changed' kept' false false (omega arith) (omega arith) (λ new are.
-      let none : new (get_or olds i d).key ≡ None = ap new (sym same) ∙ are.others key f in
-      (ap (is_changed (Some (get_or olds i d).value)) (sym none), ap is_some (sym none)))
+  keys-more : pair_keys more ≡ pair_keys pairs ++ key ∷ []
+  keys-more = filter_map-append pair_key pairs (item number (pair key value) ∷ [])
 
--- After the last row, all keys are counted.
-pub counted-all : (olds news : List Row) (i changed kept : ℕ) → length olds ≤ i → CountsKeys olds news (take i (row_keys olds)) changed kept
-    → CountsKeys olds news (row_keys olds) changed kept
-counted-all olds news i changed kept end counted =
-    let keys : length (row_keys olds) ≤ i = (let l = keys-length olds in omega arith) in
-    subst (λ v. CountsKeys olds news v changed kept) (take_all i (row_keys olds) keys) counted
+  value-more : (k : List ℕ) (b : Bool) → bytes_eq key k ≡ b → value_in more k ≡ first_value (if b then Some value else None) (value_in pairs k)
+  value-more k b is = value_in-append pairs (item number (pair key value) ∷ []) k ∙ ap (λ c. first_value (if c then Some value else None) (value_in pairs k)) is
 
--- ---- keys that two lists share
+  value-same : value_in more key ≡ Some value
+  value-same = value-more key true ((bytes_eq-Decides key key).1 refl)
 
-module _ (xs ys : List (List ℕ)) where
-  -- As many keys of one list are in the other as the other way round.
-  shared : AllPairs (λ k l. k ≢ l) xs → AllPairs (λ k l. k ≢ l) ys → count_by (is_member bytes_eq ys) xs ≡ count_by (is_member bytes_eq xs) ys
-  shared apart apart' =
-      let both = filter (is_member bytes_eq ys) xs in
-      let distinct = IsDistinct-from_AllPairs bytes_eq-Decides in
-      sym (length-filter (is_member bytes_eq ys) xs)
-      ∙ length-IsIntersection nat_list_eq_equiv ys xs both (distinct ys apart') (distinct both (AllPairs-filter (λ k l. k ≢ l) (is_member bytes_eq ys) xs apart))
-      (λ q. is_member-filter nat_list_eq_equiv (is_member bytes_eq ys) q (λ x same. ap (is_member bytes_eq ys) ((bytes_eq-Decides q x).0 same)) xs
-      ∙ turned (is_member bytes_eq xs q) (is_member bytes_eq ys q))
+  value-other : (k : List ℕ) → key ≢ k → value_in more k ≡ value_in pairs k
+  value-other k other = elim (cases_Bool (bytes_eq key k)) [
+    | inl same ↦ absurd (other ((bytes_eq-Decides key k).0 same))
+    | inr differ ↦ value-more k false differ
+  ]
+
+  -- The keys, each once.
+  keys-next : (keys : List (List ℕ)) → AreFirstOf (pair_keys pairs) keys → (next : List (List ℕ)) × AreFirstOf (pair_keys more) next
+      × (((is_member bytes_eq keys key ≡ true) × (next ≡ keys)) ⊎ ((is_member bytes_eq keys key ≡ false) × (next ≡ keys ++ key ∷ [])))
+  keys-next keys are = elim (cases_Bool (is_member bytes_eq keys key)) [
+    | inl there ↦ (
+      keys,
+      subst (λ v. AreFirstOf v keys) (sym keys-more) (first-same (pair_keys pairs) keys key are (contained key keys ((member keys key).0 there))),
+      inl (there, refl),
+    )
+    | inr absent ↦ (
+      keys ++ key ∷ [],
+      subst (λ v. AreFirstOf v (keys ++ key ∷ [])) (sym keys-more)
+          (first-new (pair_keys pairs) keys key are (has_not key keys (λ has. let is = (member keys key).1 (contains key keys has) in absurd (cc)))),
+      inr (absent, refl),
+    )
+  ]
+
+module _ (rows : List Row) (pairs : List Entry) (number : ℕ) (key value : List ℕ) where
+  abbrev state_by : List Entry → Row → State
+  state_by es r = state_of r.value (value_in es r.key)
+
+  -- The row of the key gets a state,
+  states-set : (row : ℕ) → AllPairs (λ k l. k ≢ l) (row_keys rows) → FindsKey key (row_keys rows) (Some row)
+      → set (states_by rows pairs) row (state_of (get_or rows row no_row).value (Some value)) ≡ states_by rows (more pairs number key value)
+  states-set row apart found = ext_get_or Gone _ _ (set-length ∙ sym (length-map rows now)) (λ i l. at i (omega (arith, set-length, l)))
     where
-      turned : (a b : Bool) → (a && b) ≡ (b && a)
-      turned true true = refl
-      turned true false = refl
-      turned false true = refl
-      turned false false = refl
+      was : Row → State
+      was = state_by pairs
 
-module _ (p q : List ℕ → Bool) where
-  alike : ((key : List ℕ) → p key ≡ q key) → (keys : List (List ℕ)) → count_by p keys ≡ count_by q keys
-  alike same [] = refl
-  alike same (key ∷ keys) =
-      sum_by-cons (λ k. cond (p k) 1 0) key keys ∙ ap₂ (λ b n. cond b 1 0 + n) (same key) (alike same keys) ∙ sym (sum_by-cons (λ k. cond (q k) 1 0) key keys)
+      now : Row → State
+      now = state_by (more pairs number key value)
 
--- Each key passes a test or doesn't.
-both-ways : (test : List ℕ → Bool) (keys : List (List ℕ)) → count_by test keys + count_by (λ k. not (test k)) keys ≡ length keys
-both-ways test keys =
-    ap₂ (λ m n. m + n) (sym (length-filter test keys)) (sym (length-filter (λ k. not (test k)) keys)) ∙ length-filter_both test (λ k. not (test k)) (λ k. refl) keys
+      state : State
+      state = state_of (get_or rows row no_row).value (Some value)
 
--- ---- the rows of a source
+      below : row < length rows
+      below = omega (arith, found.0, keys-length rows)
 
--- A key of some pairs is one that has a value.
-valued : (pairs : List Entry) (keys : List (List ℕ)) (key : List ℕ) → AreKeys pairs keys → is_member bytes_eq keys key ≡ is_some (value_in pairs key)
-valued pairs keys key are = of (value_in pairs key) (value_in-meets pairs key)
-  where
-    member : Decides (is_member bytes_eq keys key) (Contains keys key)
-    member = is_member-Decides bytes_eq-Decides keys key
+      set-length : length (set (map was rows) row state) ≡ length rows
+      set-length = length-set (map was rows) row state ∙ length-map rows was
 
-    of : (v : Option (List ℕ)) → IsValue pairs key v → is_member bytes_eq keys key ≡ is_some v
-    of None none = elim (cases_Bool (is_member bytes_eq keys key)) [
-      | inl m ↦
-          let had = (are.each key).0 (member.0 m) in
-          let same = value_in-only pairs key (Some had.0) had.1 ∙ sym (value_in-only pairs key None none) in absurd (cc)
-      | inr other ↦ other
-    ]
-    of (Some value) last = member.1 ((are.each key).1 (value, last))
+      its : (get_or rows row no_row).key ≡ key
+      its = sym (get_or-map (λ r. r.key) rows row no_row key below) ∙ found.1 key
 
-row-values : (pairs : List Entry) (rows : List Row) → AreRows pairs rows → AreRowValues rows (value_in pairs)
-row-values pairs rows h = record {
-  each = All-weaker (IsRow pairs) (λ r. value_in pairs r.key ≡ Some r.value) (λ r is. sym (value_in-only pairs r.key (Some r.value)
-      (record { before = is.last.before; number = r.last; after = is.last.after; division = is.last.division; no_later = is.last.none_after }))) rows h.each;
-  others = λ key none. of key none (value_in pairs key) (value_in-meets pairs key);
+      differs : (i : ℕ) → i < length rows → (i ≡ row → ⊥) → key ≢ (get_or rows i no_row).key
+      differs i l other e =
+          let same = get_or-map (λ r. r.key) rows i no_row key l ∙ sym e ∙ sym (found.1 key) in
+          elim (cases_lt i row) [
+            | inl before ↦ apart i row key before found.0 same
+            | inr after ↦ apart row i key (omega (arith, other)) (omega (arith, l, keys-length rows)) (sym same)
+          ]
+
+      at : (i : ℕ) → i < length rows → get_or (set (map was rows) row state) i Gone ≡ get_or (map now rows) i Gone
+      at i l = elim (cases_eq i row) [
+        | inl e ↦
+            get_or-set_at (map was rows) row i state Gone e (omega (arith, below, length-map rows was))
+            ∙ sym (get_or-map now rows i no_row Gone l ∙ ap (λ j. now (get_or rows j no_row)) e
+            ∙ ap (state_of (get_or rows row no_row).value) (ap (value_in (more pairs number key value)) its ∙ value-same pairs number key value))
+        | inr other ↦
+            get_or-set_other (map was rows) row i state Gone other ∙ get_or-map was rows i no_row Gone l
+            ∙ ap (state_of (get_or rows i no_row).value) (sym (value-other pairs number key value (get_or rows i no_row).key (differs i l other)))
+            ∙ sym (get_or-map now rows i no_row Gone l)
+      ]
+
+  -- and without one, none does.
+  states-kept : FindsKey key (row_keys rows) None → states_by rows pairs ≡ states_by rows (more pairs number key value)
+  states-kept none =
+      map-same (state_by pairs) (state_by (more pairs number key value)) (λ r. key ≢ r.key) rows
+      (λ i d l e. no-both key (row_keys rows) none (contained key (row_keys rows)
+      (i, omega (arith, l, keys-length rows), get_or-map (λ r. r.key) rows i d key l ∙ sym e)))
+      (λ r other. ap (state_of r.value) (sym (value-other pairs number key value r.key other)))
+
+-- ---- what is taken
+
+pub took-none : (c : Comparison) → IsTable c.old → AllPairs (λ k l. k ≢ l) (row_keys (rows_of c.old)) → IsKeyTable c.added → table_places c.added ≡ []
+    → c.states.items ≡ replicate (length (rows_of c.old)) Gone → HasCompared c [] c
+took-none c table apart added empty states = record {
+  same = refl;
+  table = table;
+  apart = apart;
+  states = states ∙ splat_is_map (rows_of c.old) _ Gone refl;
+  keys = [];
+  are = places-none.first;
+  added = added;
+  others = ap place_keys empty;
 }
-  where
-    of : (key : List ℕ) → HasNot key (row_keys rows) → (v : Option (List ℕ)) → IsValue pairs key v → v ≡ None
-    of key none None is = refl
-    of key none (Some value) last = absurd (no-both key (row_keys rows) none (contained key (row_keys rows) ((h.keys.each key).1 (value, last))))
 
-module _ (e : Encoding) (source bytes : List ℕ) (olds news : List Row) (sound : IsSound e source) (sound' : IsSound e bytes)
-    (had : HasRows e source olds) (has : HasRows e bytes news) (changed kept : ℕ) (counted : CountsKeys olds news (row_keys olds) changed kept) where
+module _ (first old : Comparison) (findings : List Finding) (number : ℕ) (key value : List ℕ) (took : HasCompared first findings old) where
+  abbrev rows : List Row
+  rows = rows_of old.old
+
+  abbrev later : List Finding
+  later = findings ++ found_pair number key value ∷ []
+
+  pairs-later : found_pairs later ≡ more (found_pairs findings) number key value
+  pairs-later = pairs-append findings (found_pair number key value ∷ [])
+
+  abbrev next : (next : List (List ℕ)) × AreFirstOf (pair_keys (more (found_pairs findings) number key value)) next
+      × (((is_member bytes_eq took.keys key ≡ true) × (next ≡ took.keys)) ⊎ ((is_member bytes_eq took.keys key ≡ false) × (next ≡ took.keys ++ key ∷ [])))
+  next = keys-next (found_pairs findings) number key value took.keys took.are
+
+  with-next : (c : Comparison) → c.old ≡ old.old → c.states.items ≡ states_by rows (more (found_pairs findings) number key value) → IsKeyTable c.added
+      → place_keys (table_places c.added) ≡ filter (is_new rows) next.0 → HasCompared first later c
+  with-next c same states added others = record {
+    same = same ∙ took.same;
+    table = subst IsTable (sym same) took.table;
+    apart = subst (λ t. AllPairs (λ k l. k ≢ l) (row_keys (rows_of t))) (sym same) took.apart;
+    states = states ∙ sym (ap₂ (λ t es. states_by (rows_of t) es) same pairs-later);
+    keys = next.0;
+    are = subst (λ es. AreFirstOf (pair_keys es) next.0) (sym pairs-later) next.1;
+    added = added;
+    others = others ∙ sym (ap (λ t. filter (is_new (rows_of t)) next.0) same);
+  }
+
+  filtered : (is : Bool) → is_new rows key ≡ is → filter (is_new rows) (took.keys ++ key ∷ []) ≡ filter (is_new rows) took.keys ++ cond is (key ∷ []) []
+  filtered is new = filter-append (is_new rows) took.keys (key ∷ []) ∙ ap (λ b. filter (is_new rows) took.keys ++ cond b (key ∷ []) []) new
+
+  -- a key that has a row
+  pub took-known : (c : Comparison) (row : ℕ) → c.old ≡ old.old → c.added ≡ old.added → FindsKey key (row_keys rows) (Some row)
+      → c.states.items ≡ set old.states.items row (state_of (get_or rows row no_row).value (Some value)) → HasCompared first later c
+  took-known c row same added found states =
+      let known : is_new rows key ≡ false = ap not ((member (row_keys rows) key).1 (row, found.0, found.1 key)) in
+      with-next c same
+      (states ∙ ap (λ v. set v row (state_of (get_or rows row no_row).value (Some value))) took.states
+      ∙ states-set rows (found_pairs findings) number key value row took.apart found)
+      (subst IsKeyTable (sym added) took.added)
+      (ap (λ t. place_keys (table_places t)) added ∙ took.others ∙ elim next.2 [
+        | inl (there, is) ↦ ap (filter (is_new rows)) (sym is)
+        | inr (absent, is) ↦ sym (ap (filter (is_new rows)) is ∙ filtered false known ∙ append-nil (filter (is_new rows) took.keys))
+      ])
+
+  -- and one that has none
+  pub took-new : (c : Comparison) (row : ℕ) → c.old ≡ old.old → c.states ≡ old.states → FindsKey key (row_keys rows) None
+      → PutsKey number key (table_places old.added) row (table_places c.added) → IsKeyTable c.added → HasCompared first later c
+  took-new c row same states none puts added =
+      with-next c same (ap (λ v. v.items) states ∙ took.states ∙ states-kept rows (found_pairs findings) number key value none) added (elim puts [
+        | inl (found, is) ↦
+            let there = sym in-keys ∙ (member (place_keys (table_places old.added)) key).1 (row, found.0, found.1 key) in
+            ap place_keys is ∙ took.others ∙ elim next.2 [
+              | inl (t, is) ↦ ap (filter (is_new rows)) (sym is)
+              | inr (f, is) ↦ absurd (cc)
+            ]
+        | inr (absent, at, is) ↦ elim next.2 [
+          | inl (there, is) ↦
+              absurd (no-both key (place_keys (table_places old.added)) absent (contained key _ ((member (place_keys (table_places old.added)) key).0 (in-keys ∙ there))))
+          | inr (f, last) ↦
+              ap place_keys is ∙ map-append (λ p. p.key) (table_places old.added) (record { number = number; key = key } ∷ [])
+              ∙ ap (λ v. v ++ key ∷ []) took.others ∙ sym (ap (filter (is_new rows)) last ∙ filtered true new)
+        ]
+      ])
+    where
+      new : is_new rows key ≡ true
+      new = elim (cases_Bool (is_member bytes_eq (row_keys rows) key)) [
+        | inl there ↦ absurd (no-both key (row_keys rows) none (contained key (row_keys rows) ((member (row_keys rows) key).0 there)))
+        | inr absent ↦ ap not absent
+      ]
+
+      in-keys : is_member bytes_eq (place_keys (table_places old.added)) key ≡ is_member bytes_eq took.keys key
+      in-keys =
+          ap (λ v. is_member bytes_eq v key) took.others
+          ∙ is_member-filter nat_list_eq_equiv (is_new rows) key (λ x same. ap (is_new rows) ((bytes_eq-Decides key x).0 same)) took.keys
+          ∙ ap (λ b. is_member bytes_eq took.keys key && b) new ∙ and-true (is_member bytes_eq took.keys key)
+
+-- a malformed escape
+pub took-escape : (c : Comparison) (escape : MalformedEscape) (x : List ℕ) → Takes HasCompared c (found_escape escape x) c
+took-escape c escape x = λ first findings took.
+    let same : found_pairs (findings ++ found_escape escape x ∷ []) ≡ found_pairs findings =
+        pairs-append findings (found_escape escape x ∷ []) ∙ append-nil (found_pairs findings) in
+    record {
+      same = took.same;
+      table = took.table;
+      apart = took.apart;
+      states = took.states ∙ sym (ap (states_by (rows_of c.old)) same);
+      keys = took.keys;
+      are = subst (λ es. AreFirstOf (pair_keys es) took.keys) (sym same) took.are;
+      added = took.added;
+      others = took.others;
+    }
+
+-- ---- what is counted
+
+counted : (f : Row → State) (p : State → Bool) (q : List ℕ → Bool) (rows : List Row) → All (λ r. p (f r) ≡ q r.key) rows
+    → count_by p (map f rows) ≡ count_by q (row_keys rows)
+counted f p q [] same = refl
+counted f p q (r ∷ rows) same =
+    sum_by-cons (λ s. cond (p s) 1 0) (f r) (map f rows)
+    ∙ ap₂ (λ b n. cond b 1 0 + n) (same 0 r (omega arith)) (counted f p q rows (All-tail (λ r. p (f r) ≡ q r.key) r rows same))
+    ∙ sym (sum_by-cons (λ k. cond (q k) 1 0) r.key (row_keys rows))
+
+alike : (p q : List ℕ → Bool) → ((key : List ℕ) → p key ≡ q key) → (keys : List (List ℕ)) → count_by p keys ≡ count_by q keys
+alike p q same [] = refl
+alike p q same (key ∷ keys) =
+    sum_by-cons (λ k. cond (p k) 1 0) key keys ∙ ap₂ (λ b n. cond b 1 0 + n) (same key) (alike p q same keys) ∙ sym (sum_by-cons (λ k. cond (q k) 1 0) key keys)
+
+changed-state : (old : List ℕ) (new : Option (List ℕ)) → has_changed (state_of old new) ≡ is_changed (Some old) new
+changed-state old None = refl
+changed-state old (Some new) = of (bytes_eq old new)
+  where
+    of : (b : Bool) → has_changed (if b then Same else Changed) ≡ not b
+    of true = refl
+    of false = refl
+
+gone-state : (old : List ℕ) (new : Option (List ℕ)) → is_gone (state_of old new) ≡ is_none new
+gone-state old None = refl
+gone-state old (Some new) = of (bytes_eq old new)
+  where
+    of : (b : Bool) → is_gone (if b then Same else Changed) ≡ false
+    of true = refl
+    of false = refl
+
+-- A key of no row has no value.
+valued : (pairs : List Entry) (rows : List Row) (key : List ℕ) → AreKeys pairs (row_keys rows) → is_new rows key ≡ is_none (value_in pairs key)
+valued pairs rows key are = of (value_in pairs key) (value_in-meets pairs key)
+  where
+    of : (v : Option (List ℕ)) → IsValue pairs key v → is_new rows key ≡ is_none v
+    of None none = elim (cases_Bool (is_member bytes_eq (row_keys rows) key)) [
+      | inl there ↦
+          let had = (are.each key).0 ((member (row_keys rows) key).0 there) in
+          let same = value_in-only pairs key (Some had.0) had.1 ∙ sym (value_in-only pairs key None none) in absurd (cc)
+      | inr absent ↦ ap not absent
+    ]
+    of (Some value) last = ap not ((member (row_keys rows) key).1 ((are.each key).1 (value, last)))
+
+module _ (e : Encoding) (source bytes : List ℕ) (sound : IsSound e source) (sound' : IsSound e bytes) (first c : Comparison) (findings : List Finding)
+    (had : HasRows e source (rows_of first.old)) (are : AreFindings e bytes findings) (took : HasCompared first findings c) (counts : Counts)
+    (tally : AreCounted c counts) where
+  abbrev olds : List Row
+  olds = rows_of c.old
+
+  held : HasRows e source olds
+  held = subst (λ t. HasRows e source (rows_of t)) (sym took.same) had
+
   abbrev old : List ℕ → Option (List ℕ)
-  old = value_in had.pairs
+  old = value_in held.pairs
+
+  read : (entries : List Entry) × ArePairs e bytes entries × (found_pairs findings ≡ entries)
+  read = pairs-found e bytes findings are
 
   abbrev new : List ℕ → Option (List ℕ)
-  new = value_in has.pairs
+  new = value_in read.0
 
-  counts : (changed ≡ count_by (λ key. is_changed (old key) (new key)) (row_keys olds)) × (kept ≡ count_by (λ key. is_some (new key)) (row_keys olds))
-  counts = counted old new (row-values had.pairs olds had.have) (row-values has.pairs news has.have)
+  has-value : All (λ r. old r.key ≡ Some r.value) olds
+  has-value = All-weaker (IsRow held.pairs) (λ r. old r.key ≡ Some r.value) (λ r is. sym (value_in-only held.pairs r.key (Some r.value)
+      (record { before = is.last.before; number = r.last; after = is.last.after; division = is.last.division; no_later = is.last.none_after }))) olds held.have.each
 
-  -- The keys that are kept are as many in the new source.
-  kept-too : kept ≡ count_by (λ key. is_some (old key)) (row_keys news)
-  kept-too =
-      counts.1 ∙ alike (λ k. is_some (new k)) (is_member bytes_eq (row_keys news)) (λ k. sym (valued has.pairs (row_keys news) k has.have.keys)) (row_keys olds)
-      ∙ shared (row_keys olds) (row_keys news) (λ i j d l m. (had.have.keys.in_order i j d l m).differ) (λ i j d l m. (has.have.keys.in_order i j d l m).differ)
-      ∙ alike (is_member bytes_eq (row_keys olds)) (λ k. is_some (old k)) (λ k. valued had.pairs (row_keys olds) k had.have.keys) (row_keys news)
+  states : c.states.items ≡ map (λ r. state_of r.value (new r.key)) olds
+  states = took.states ∙ ap (states_by olds) read.2
 
-  pub kept-few : kept ≤ length news
-  kept-few = let l = count_by-le-length (λ key. is_some (old key)) (row_keys news) in let k = keys-length news in let n = kept-too in omega arith
+  counted-by : (p : State → Bool) (q : List ℕ → Bool) → All (λ r. p (state_of r.value (new r.key)) ≡ q r.key) olds
+      → count_by p c.states.items ≡ count_by q (row_keys olds)
+  counted-by p q same = ap (count_by p) states ∙ counted (λ r. state_of r.value (new r.key)) p q olds same
 
   -- So the counts are those of the sources.
-  pub counts-are : AreCounts e source bytes (record { changed = changed; added = length news - kept; removed = length olds - kept })
+  pub counts-are : AreCounts e source bytes counts
   counts-are = record {
     old_keys = row_keys olds;
-    new_keys = row_keys news;
-    had = record { in_comments = sound.in_comments; pairs = had.pairs; are = had.are; is = had.have.keys };
-    has = record { in_comments = sound'.in_comments; pairs = has.pairs; are = has.are; is = has.have.keys };
+    new_keys = took.keys;
+    had = record { in_comments = sound.in_comments; pairs = held.pairs; are = held.are; is = held.have.keys };
+    has = record {
+      in_comments = sound'.in_comments;
+      pairs = read.0;
+      are = read.1;
+      is = are-keys read.0 (pair_keys read.0) took.keys refl (subst (λ es. AreFirstOf (pair_keys es) took.keys) read.2 took.are);
+    };
     old = old;
     new = new;
-    were = λ key. record { in_comments = sound.in_comments; pairs = had.pairs; are = had.are; is = value_in-meets had.pairs key };
-    are = λ key. record { in_comments = sound'.in_comments; pairs = has.pairs; are = has.are; is = value_in-meets has.pairs key };
-    changed = counts.0;
-    added = let l = both-ways (λ key. is_some (old key)) (row_keys news) in let k = keys-length news in let n = kept-too in omega arith;
-    removed = let l = both-ways (λ key. is_some (new key)) (row_keys olds) in let k = keys-length olds in let n = counts.1 in omega arith;
+    were = λ key. record { in_comments = sound.in_comments; pairs = held.pairs; are = held.are; is = value_in-meets held.pairs key };
+    are = λ key. record { in_comments = sound'.in_comments; pairs = read.0; are = read.1; is = value_in-meets read.0 key };
+    changed = tally.changed ∙ counted-by has_changed (λ key. is_changed (old key) (new key))
+        (λ i d l. changed-state (get_or olds i d).value (new (get_or olds i d).key) ∙ ap (λ v. is_changed v (new (get_or olds i d).key)) (sym (has-value i d l)));
+    added =
+        tally.added ∙ sym (length-map (table_places c.added) (λ p. p.key)) ∙ ap length took.others ∙ length-filter (is_new olds) took.keys
+        ∙ alike (is_new olds) (λ key. is_none (old key)) (λ key. valued held.pairs olds key held.have.keys) took.keys;
+    removed = tally.removed ∙ counted-by is_gone (λ key. is_none (new key)) (λ i d l. gone-state (get_or olds i d).value (new (get_or olds i d).key));
   }

@@ -1,16 +1,20 @@
 // How many pairs a change of a source changed, added and removed.
 
-ghost use Rattle.std.specs.Prelude.{◌≡◌};
+ghost use Rattle.std.specs.Prelude.{◌≡◌, Some};
 ghost use Rattle.std.specs.Str.{chars};
 ghost use Rattle.properties_text.specs.Encoding.{encoding_of};
 ghost use Rattle.properties_tables.specs.Private.Table.{rows_of, FindsKey, IsTable};
 ghost use Rattle.properties_tables.specs.Table.{row_keys};
 ghost use Rattle.properties_changing.specs.Counts.{pair_words, CountsChanges};
+ghost use Rattle.properties_changing.specs.Private.Counting.{state_of, AreCounted, HasCompared};
 
-use java_properties::Encoding;
+use java_properties::{Encoding, MalformedEscape};
 use properties_tables::error::Failure;
+use properties_tables::fold::Taker;
+use properties_tables::key_table::KeyTable;
+use properties_tables::sound_pairs::take_sound;
 use properties_tables::table::{Table, table_of};
-use std::alloc::Global;
+use std::alloc::{AllocError, Global};
 use std::fmt;
 
 /// How many pairs a change of a source changed, added and removed.
@@ -29,7 +33,7 @@ pub struct Counts {
 
 /// Returns how many pairs of a source another one has changed, added and removed. Of both, comments are passed over.
 ///
-/// It holds the table of both at once, and refuses each as `list` does.
+/// It holds the table of the old one, and of the other only the keys that it adds. It refuses each as `list` does.
 ///
 /// ```text
 /// let counts = count_changes(alloc, b"a = 1\nb = 2\n", b"a = 2\nc = 2\n", Encoding::UTF_8)?;
@@ -44,22 +48,97 @@ pub fn count_changes(
     ensures { CountsChanges (encoding_of encoding) source.now bytes.now result }
 {
     let old = table_of(alloc, source, encoding)?;
-    let new = table_of(alloc, bytes, encoding)?;
-    let mut changed = 0;
-    let mut kept = 0;
-    let mut next = 0;
-    for row in 0..old.len() {
-        if let Some(found) = find_near(&new, next, old.key(row)) {
-            changed += usize::from(old.value(row) != new.value(found));
-            kept += 1;
-            next = found.saturating_add(1);
+    let none = Comparison {
+        states: vec![in alloc; State::Gone; old.len()]?,
+        old,
+        next: 0,
+        added: KeyTable::for_source(alloc, bytes.len())?,
+    };
+    let compared = take_sound(alloc, bytes, encoding, none)?;
+    Ok(compared.counts())
+}
+
+// What became of a pair of the old source.
+#[derive(Clone, Copy)]
+pub(crate) enum State {
+    Gone,
+    Same,
+    Changed,
+}
+
+// The pairs of an old source, compared with those of a new one that came so far.
+#[derive(Drop)]
+pub(crate) struct Comparison {
+    pub old: Table,
+    // One for each row of that table.
+    pub states: Vec<State>,
+    // The row that comes next if the lines stay in their order.
+    pub next: usize,
+    // The keys that the old source doesn't have.
+    pub added: KeyTable,
+}
+
+impl Comparison {
+    fn counts(&self) -> Counts
+        ensures { AreCounted self.now result }
+    {
+        let mut changed = 0;
+        let mut removed = 0;
+        for state in &self.states {
+            match state {
+                State::Same => {}
+                State::Changed => changed += 1,
+                State::Gone => removed += 1,
+            }
+        }
+        Counts {
+            changed,
+            added: self.added.len(),
+            removed,
         }
     }
-    Ok(Counts {
-        changed,
-        added: new.len() - kept,
-        removed: old.len() - kept,
-    })
+}
+
+impl Taker for Comparison {
+    ghost took = { HasCompared };
+
+    #[inline(always)]
+    fn pair(
+        &mut self,
+        alloc: Global,
+        line_number: usize,
+        key: &str,
+        value: &str,
+    ) -> Result<(), AllocError> {
+        let Some(row) = find_near(&self.old, self.next, key) else {
+            self.added.put(alloc, line_number, key)?;
+            return Ok(());
+        };
+        self.states[row] = state_of(self.old.value(row), value);
+        self.next = row.saturating_add(1);
+        Ok(())
+    }
+
+    fn malformed(
+        &mut self,
+        _alloc: Global,
+        _escape: MalformedEscape,
+        _line: &str,
+    ) -> Result<(), AllocError> {
+        Ok(())
+    }
+}
+
+// Returns what became of a pair whose key now has this value.
+#[inline(always)]
+fn state_of(old: &str, new: &str) -> State
+    ensures { result ≡ state_of (chars old.now) (Some (chars new.now)) }
+{
+    if old == new {
+        State::Same
+    } else {
+        State::Changed
+    }
 }
 
 // Returns the row of a key. It looks at this row first, since most lines stay in their order.

@@ -181,7 +181,7 @@ pub rows-none : HoldRows [] []
 rows-none = record { first = none-first; each = λ k d l. absurd (omega arith) }
 
 module _ (e : Encoding) (source : List ℕ) (findings : List Finding) (are : AreFindings e source findings) where
-  pairs-found : (entries : List Entry) × ArePairs e source entries × (found_pairs findings ≡ entries)
+  pub pairs-found : (entries : List Entry) × ArePairs e source entries × (found_pairs findings ≡ entries)
   pairs-found =
       let g = findings-groups e source findings are in
       (pairs_in g.0, found-in_groups _ g.1, ap found_pairs g.2 ∙ pairs-groups g.0)

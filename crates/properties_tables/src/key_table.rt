@@ -95,15 +95,15 @@ impl Keys {
 }
 
 impl KeyTable {
-    /// Returns an empty table, with slots for as many keys as a source of this length often has.
+    /// Returns an empty table, with room for the keys that a source of this length often has.
     pub fn for_source(alloc: Global, length: usize) -> Result<KeyTable, AllocError>
         ensures table { IfOk result IsKeyTable }
         ensures empty { IfOk result (λ table. table_places table ≡ []) }
     {
         let slots = length / 8 + 1;
         let keys = Keys {
-            text: Vec::new(alloc),
-            rows: Vec::new(alloc),
+            text: Vec::with_capacity(alloc, length)?,
+            rows: Vec::with_capacity(alloc, length / 32)?,
         };
         Ok(KeyTable {
             keys,

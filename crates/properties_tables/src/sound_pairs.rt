@@ -13,7 +13,7 @@ use java_properties::{Encoding, MalformedEscape};
 use std::alloc::{AllocError, Global};
 
 /// Has a taker take each pair of a source. The source is refused for its bytes, or for a malformed escape in a pair.
-pub(crate) fn take_sound<T: Taker>(
+pub fn take_sound<T: Taker>(
     alloc: Global,
     source: &[u8],
     encoding: Encoding,

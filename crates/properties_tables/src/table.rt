@@ -46,15 +46,15 @@ pub fn table_of(alloc: Global, source: &[u8], encoding: Encoding) -> Result<Tabl
 }
 
 impl Table {
-    /// Returns an empty table, with slots for as many keys as a source of this length often has.
+    /// Returns an empty table, with room for the keys and the values that a source of this length often has.
     pub fn for_source(alloc: Global, length: usize) -> Result<Table, AllocError>
         ensures table { IfOk result IsTable }
         ensures empty { IfOk result (λ table. rows_of table ≡ []) }
     {
         Ok(Table {
             keys: KeyTable::for_source(alloc, length)?,
-            lasts: Vec::new(alloc),
-            values: Vec::new(alloc),
+            lasts: Vec::with_capacity(alloc, length / 32)?,
+            values: Vec::with_capacity(alloc, length)?,
         })
     }
 

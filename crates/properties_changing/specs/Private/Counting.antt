@@ -1,16 +1,47 @@
--- How the rows of two tables are compared.
-use Rattle.std.specs.Prelude.{◌≡◌, ℕ, All, List, count_by, Option, Some, None}
-use Rattle.std.specs.Option.{is_some}
-use Rattle.properties_format.specs.Computed.Maps.{HasNot}
-use Rattle.properties_tables.specs.Table.{row_keys, Row}
-use Rattle.properties_changing.specs.Counts.{is_changed}
+-- How the pairs of an old source are compared with those of a new one, as one after another comes.
+use Rattle.std.specs.Prelude.{◌≡◌, ◌≢◌, Bool, true, false, not, if◌then◌else◌, AllPairs, bytes_eq, count_by, List, ℕ, length, map, Option, Some, None}
+use Rattle.std.specs.{List.filter, Set.is_member}
+use Rattle.properties_format.specs.{Computed.Maps.AreFirstOf, Items.Entry}
+use Rattle.properties_format.proofs.{Keys.pair_keys, Maps.value_in}
+use Rattle.properties_tables.specs.{Private.Fold.found_pairs, Private.Fold.Finding, Table.row_keys, Table.Row}
+use Rattle.properties_tables.specs.Private.Table.{place_keys, rows_of, table_places, IsKeyTable, IsTable}
+use Rattle.properties_changing.specs.declared.counts.{Comparison.Comparison, Counts.Counts, State.State}
+use Rattle.properties_changing.specs.declared.counts.State.TheVariants.{Gone, Same, Changed}
 
--- These are the values of the keys of rows.
-pub record AreRowValues (rows : List Row) (value_at : List ℕ → Option (List ℕ)) : Type 0 where
-  pub each : All (λ r. value_at r.key ≡ Some r.value) rows
-  pub others : (key : List ℕ) → HasNot key (row_keys rows) → value_at key ≡ None
+-- what became of a pair with this value, if its key now has that one
+abbrev pub state_of : List ℕ → Option (List ℕ) → State
+state_of old None = Gone
+state_of old (Some new) = if bytes_eq old new then Same else Changed
 
--- So many of these keys have another value in the new rows, and so many have one there, whatever gives the values.
-abbrev pub CountsKeys : List Row → List Row → List (List ℕ) → (changed kept : ℕ) → Type 0
-CountsKeys olds news keys changed kept = (old new : List ℕ → Option (List ℕ)) → AreRowValues olds old → AreRowValues news new
-    → (changed ≡ count_by (λ key. is_changed (old key) (new key)) keys) × (kept ≡ count_by (λ key. is_some (new key)) keys)
+-- what these pairs make of rows
+abbrev pub states_by : List Row → List Entry → List State
+states_by rows pairs = map (λ r. state_of r.value (value_in pairs r.key)) rows
+
+-- whether none of the rows has a key
+abbrev pub is_new : List Row → List ℕ → Bool
+is_new rows key = not (is_member bytes_eq (row_keys rows) key)
+
+-- The rows are in the states that these pairs make, and the other keys of the pairs are added.
+pub record HasCompared (first : Comparison) (findings : List Finding) (new : Comparison) : Type 0 where
+  pub same : new.old ≡ first.old
+  pub table : IsTable new.old
+  pub apart : AllPairs (λ k l. k ≢ l) (row_keys (rows_of new.old))
+  pub states : new.states.items ≡ states_by (rows_of new.old) (found_pairs findings)
+  pub keys : List (List ℕ)
+  pub are : AreFirstOf (pair_keys (found_pairs findings)) keys
+  pub added : IsKeyTable new.added
+  pub others : place_keys (table_places new.added) ≡ filter (is_new (rows_of new.old)) keys
+
+abbrev pub has_changed : State → Bool
+has_changed Changed = true
+has_changed state = false
+
+abbrev pub is_gone : State → Bool
+is_gone Gone = true
+is_gone state = false
+
+-- So many rows are in each state, and so many keys are added.
+pub record AreCounted (c : Comparison) (counts : Counts) : Type 0 where
+  pub changed : counts.changed ≡ count_by has_changed c.states.items
+  pub added : counts.added ≡ length (table_places c.added)
+  pub removed : counts.removed ≡ count_by is_gone c.states.items
