@@ -1,7 +1,7 @@
 -- The lines of a body that have a flaw, found one after another.
 use Rattle.std.proofs.Common.{◌≡◌, ◌≢◌, ℕ, suc, ◌+◌, ◌<◌, ◌≤◌, ◌==◌, Bool, true, false, List, [], ◌∷◌, ◌++◌, length, get_or, drop, refl, sym, ap, subst, ◌∙◌, inl, inr, length-append, take_all, eqb-true, arith}
-use Rattle.std.specs.Prelude.{◌&&◌, if◌then◌else◌, not, Option, Some, None}
-use Rattle.std.specs.{Option.is_some, Str.is_utf8, Str.IsUtf8}
+use Rattle.std.specs.Prelude.{◌&&◌, ◌||◌, if◌then◌else◌, nat_le, not, Option, Some, None}
+use Rattle.std.specs.{List.list_any, Option.is_some, Str.is_utf8, Str.IsUtf8}
 use Rattle.std.proofs.{lemmas.Bool.Decides.eqb_tells, lemmas.List.Folds.list_any-append, lemmas.List.Folds.list_any_at, Math.Seq.take-append_seam}
 use Rattle.std.proofs.lemmas.Bool.{cases_Bool, and_parts, or_from, or_parts, false_from_ne_true}
 use Rattle.std.proofs.lemmas.Str.{IsCharBoundary-after_ascii, IsCharBoundary-before_ascii, IsUtf8-drop, IsUtf8-from_is_utf8, is_utf8-from_IsUtf8, IsUtf8-from_ascii, IsUtf8-take}
@@ -20,7 +20,7 @@ use Rattle.properties_lines.specs.{Private.HeldLines.held_lines_left, declared.s
 use Rattle.properties_lines.specs.{declared.scanner.RawLine.RawLine, declared.scanner.Scanner.Scanner}
 use Rattle.properties_lines.specs.Scanner.{scanner_state, is_decided, after_cr, raw_line_bytes, Fits, GivesScannedLine}
 use Rattle.properties_lines.proofs.HeldLines.{body-next, body-after, body-lines_left}
-use Rattle.properties_tables.specs.Lines.{holds_byte, holds_zero, is_sought, is_windows_1252, starts_with_bom, AreFlawed, AreFlawedIn, HasLineFlaw, HasFlawed, IsFirstFlawed, IsFirstUtf8, IsWellFormedIn, LacksFlaw, LooksUtf8}
+use Rattle.properties_tables.specs.Lines.{holds_byte, holds_zero, is_read_otherwise, is_sought, is_windows_1252, starts_with_bom, AreFlawed, AreFlawedIn, HasLineFlaw, HasFlawed, IsFirstFlawed, IsFirstUtf8, IsWellFormedIn, LacksFlaw, LooksUtf8}
 use Rattle.properties_tables.specs.Private.Flawed.{are_paired, is_ascii, is_flawed, is_of_windows_1252, is_well_formed, unit_at, numbers_from, numbers_left, FindsFlawedLine, HasFlawedIn, HasLinesOf, IsFoundLine, IsScanning}
 use Rattle.properties_tables.specs.declared.ill_formed.Flaw.{Flaw}
 use Rattle.properties_tables.specs.declared.ill_formed.Flaw.TheVariants.{IllFormed, Zero, NonAscii, Byte, MarkInside, Misread}
@@ -103,18 +103,18 @@ empty-flawless MarkInside utf_16be = refl
 empty-flawless Misread e = refl
 empty-flawless NonAscii e = let told = told-nothing e in rw told refl
 
--- No place has a byte.
-none-at : (byte : ℕ) (bytes : List ℕ) → ((k : ℕ) → k < length bytes → (get_or bytes k 0 == byte) ≡ true → ⊥) → holds_byte byte bytes ≡ false
-none-at byte [] h = refl
-none-at byte (b ∷ bs) h =
-    or_from (b == byte) (holds_byte byte bs)
-    (false_from_ne_true (b == byte) (h 0 (omega arith)))
-    (none-at byte bs (λ k l e. h (suc k) (omega arith) e))
+-- No place has a byte of a class.
+none-at : (is_in : ℕ → Bool) (bytes : List ℕ) → ((k : ℕ) → k < length bytes → is_in (get_or bytes k 0) ≡ true → ⊥) → list_any is_in bytes ≡ false
+none-at is_in [] h = refl
+none-at is_in (b ∷ bs) h =
+    or_from (is_in b) (list_any is_in bs)
+    (false_from_ne_true (is_in b) (h 0 (omega arith)))
+    (none-at is_in bs (λ k l e. h (suc k) (omega arith) e))
 
 -- A search tells whether one of the bytes is this one.
 pub tells_byte : (byte : ℕ) (bytes : List ℕ) (found : Option ℕ) → IsFirstByte (is_byte byte) bytes found → is_some found ≡ holds_byte byte bytes
 tells_byte byte bytes (Some at) h = sym (list_any_at (λ b. b == byte) bytes at 0 h.0.high h.1)
-tells_byte byte bytes None h = sym (none-at byte bytes (λ k l e. h k (omega arith) l e))
+tells_byte byte bytes None h = sym (none-at (λ b. b == byte) bytes (λ k l e. h k (omega arith) l e))
 
 -- ---- the numbers, computed
 
@@ -239,23 +239,43 @@ pub sought-unmarked : (e : Encoding) (source body : List ℕ) → byte_order_mar
     → is_sought Zero e source ≡ true
 sought-unmarked e source body is mark = rw (is, mark) refl
 
--- Lines without a byte 0 have no flawed line.
-none-held : (n : ℕ) (ls : List Ended) (last : List ℕ) → holds_zero (bytes_together utf_8 ls last) ≡ false
-    → numbers_from Zero utf_8 n (held_of utf_8 ls last) ≡ []
-none-held n [] last h = rw h refl
-none-held n (l ∷ ls) last h =
-    let after = bytes_together utf_8 ls last in
-    let ending = line_ending_bytes utf_8 l.by in
-    let parts = or_parts (holds_zero l.text) (holds_zero (ending ++ after)) (sym (list_any-append is_zero l.text (ending ++ after)) ∙ h) in
-    let later = or_parts (holds_zero ending) (holds_zero after) (sym (list_any-append is_zero ending after) ∙ parts.1) in
-    rw parts.0 (none-held (n + 1) ls last later.1)
+-- If the flaw is one of these bytes,
+module _ (is_in : ℕ → Bool) (flaw : Flaw) (e : Encoding) (tells : (bytes : List ℕ) → is_flawed flaw e bytes ≡ list_any is_in bytes) where
+  -- lines without one have no flawed line.
+  none-held : (n : ℕ) (ls : List Ended) (last : List ℕ) → list_any is_in (bytes_together e ls last) ≡ false
+      → numbers_from flaw e n (held_of e ls last) ≡ []
+  none-held n [] last h = rw (tells last ∙ h) refl
+  none-held n (l ∷ ls) last h =
+      let after = bytes_together e ls last in
+      let ending = line_ending_bytes e l.by in
+      let parts = or_parts (list_any is_in l.text) (list_any is_in (ending ++ after)) (sym (list_any-append is_in l.text (ending ++ after)) ∙ h) in
+      let later = or_parts (list_any is_in ending) (list_any is_in after) (sym (list_any-append is_in ending after) ∙ parts.1) in
+      rw (tells l.text ∙ parts.0) (none-held (n + 1) ls last later.1)
 
--- Nor has a body without one.
+  -- Nor has a body without one.
+  none-in : (body : List ℕ) → list_any is_in body ≡ false → HasFlawedIn flaw e body []
+  none-in body h =
+      let lines = cut_of e body in
+      subst (HasFlawedIn flaw e body) (none-held 0 lines.ended lines.last (ap (list_any is_in) (sym (cut_of-meets e body).bytes) ∙ h))
+      (has-flawed flaw e body)
+
 pub none-zero : (body : List ℕ) → holds_zero body ≡ false → HasFlawedIn Zero utf_8 body []
-none-zero body h =
-    let lines = cut_of utf_8 body in
-    subst (HasFlawedIn Zero utf_8 body) (none-held 0 lines.ended lines.last (ap holds_zero (sym (cut_of-meets utf_8 body).bytes) ∙ h))
-    (has-flawed Zero utf_8 body)
+none-zero body h = none-in is_zero Zero utf_8 (λ bytes. refl) body h
+
+-- The bytes that are misread are among those that are sought first.
+pub unmisread : {e : Encoding} {source : List ℕ} (f : Encoding) (body : List ℕ)
+    → IsFirstByte (λ b. nat_le 0x80 b && nat_le b 0x9f) body None
+    → HasLinesOf Misread e source f body
+    → HasLinesOf Misread e source f []
+unmisread {e} {source} f body none lines = λ numbers h.
+    subst (HasFlawed Misread e source) (h.only [] (no-bytes Misread f).are)
+    (lines [] (none-in is_read_otherwise Misread f (λ bytes. refl) body (none-at is_read_otherwise body (λ k l is. none k (omega arith) l (within (get_or body k 0) is)))))
+  where
+    within : (b : ℕ) → is_read_otherwise b ≡ true → (nat_le 0x80 b && nat_le b 0x9f) ≡ true
+    within b is =
+        let low = and_parts (nat_le 0x80 b) (nat_le b 0x9f && not (b == 0x81 || (b == 0x8d || (b == 0x8f || (b == 0x90 || b == 0x9d))))) is in
+        let high = and_parts (nat_le b 0x9f) (not (b == 0x81 || (b == 0x8d || (b == 0x8f || (b == 0x90 || b == 0x9d))))) low.1 in
+        rw (low.0, high.0) refl
 
 -- What comes before an ASCII character of a text is a text, and so is what comes after it.
 around-ascii : (x : List ℕ) (b : ℕ) (y : List ℕ) → b < 128 → IsUtf8 (x ++ b ∷ y) → IsUtf8 x × IsUtf8 y

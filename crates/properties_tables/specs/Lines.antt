@@ -8,7 +8,7 @@ use Rattle.std.specs.Global.{Vec}
 use Rattle.std.specs.List.{list_any, starts_with}
 use Rattle.properties_format.specs.Encoding.{Encoding, windows_1252, utf_8, utf_16le, utf_16be, byte_order_mark}
 use Rattle.properties_format.specs.Cut.{units, IsCut, IsDecodedLine}
-use Rattle.properties_format.specs.Lines.{end, is_comment_line, Line, Lines, numbered_lines}
+use Rattle.properties_format.specs.Lines.{end, Line, Lines, numbered_lines}
 use Rattle.properties_format.specs.Utf8.{IsWellFormedText}
 use Rattle.java_properties.specs.Errors.{IsBareError}
 use Rattle.properties_items.specs.declared.error.ErrorKind.TheVariants as kind
@@ -67,9 +67,9 @@ holds_mark_in e bytes = list_any (λ u. u == 0xfeff) (units e bytes)
 abbrev pub is_read_otherwise : ℕ → Bool
 is_read_otherwise b = nat_le 0x80 b && (nat_le b 0x9f && not (b == 0x81 || (b == 0x8d || (b == 0x8f || (b == 0x90 || b == 0x9d)))))
 
--- whether one of the bytes is such a one, if the first that isn't a blank is no comment sign
-abbrev pub is_misread_line : List ℕ → Bool
-is_misread_line bytes = not (is_comment_line bytes) && list_any is_read_otherwise bytes
+-- whether one of the bytes is such a byte
+abbrev pub holds_misread : List ℕ → Bool
+holds_misread bytes = list_any is_read_otherwise bytes
 
 -- The bytes are well-formed in this encoding. In windows-1252 every byte is a character.
 abbrev pub IsWellFormedIn : Encoding → List ℕ → Type 0
@@ -92,7 +92,7 @@ HasLineFlaw IllFormed e bytes = ¬ IsWellFormedIn e bytes
 HasLineFlaw Zero e bytes = holds_zero bytes ≡ true
 HasLineFlaw (Byte byte) e bytes = holds_byte byte bytes ≡ true
 HasLineFlaw MarkInside e bytes = holds_mark_in e bytes ≡ true
-HasLineFlaw Misread e bytes = is_misread_line bytes ≡ true
+HasLineFlaw Misread e bytes = holds_misread bytes ≡ true
 HasLineFlaw NonAscii e bytes = IsWellFormedIn e bytes × TellsNonAscii e bytes true
 
 -- The bytes don't have it.
@@ -101,7 +101,7 @@ LacksFlaw IllFormed e bytes = IsWellFormedIn e bytes
 LacksFlaw Zero e bytes = holds_zero bytes ≡ false
 LacksFlaw (Byte byte) e bytes = holds_byte byte bytes ≡ false
 LacksFlaw MarkInside e bytes = holds_mark_in e bytes ≡ false
-LacksFlaw Misread e bytes = is_misread_line bytes ≡ false
+LacksFlaw Misread e bytes = holds_misread bytes ≡ false
 LacksFlaw NonAscii e bytes = (¬ IsWellFormedIn e bytes) ⊎ TellsNonAscii e bytes false
 
 -- ---- of a body

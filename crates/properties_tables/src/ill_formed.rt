@@ -7,11 +7,11 @@ ghost use Rattle.properties_lines.specs.Scanner.{raw_line_bytes};
 ghost use Rattle.properties_tables.specs.Lines as spec;
 ghost use Rattle.properties_tables.specs.Lines.{FindsFlawed, IsFirstFlawed, IsFirstUtf8, starts_with_bom, starts_with_utf_32_mark};
 ghost use Rattle.properties_tables.specs.Private.Flawed.{are_ascii, are_paired, holds_mark_unit, is_ascii, is_flawed, is_of_windows_1252, is_well_formed, unit_at, FindsFlawedLine, HasLinesOf, IsFoundLine, IsScanning};
-ghost use Rattle.properties_tables.specs.declared.ill_formed.Flaw.TheVariants.{Byte, IllFormed, MarkInside, NonAscii, Zero};
+ghost use Rattle.properties_tables.specs.declared.ill_formed.Flaw.TheVariants.{Byte, IllFormed, MarkInside, Misread, NonAscii, Zero};
 
+use byte_blocks::{Within, find};
 use java_properties::{Encoding, PropertiesError};
 use memchr::memchr;
-use properties_lines::continuation::is_comment;
 use properties_lines::scanner::{RawLine, Scan, Scanner};
 use properties_text::encoding::byte_order_mark::encoding_in_force;
 use properties_text::encoding::well_formed_length;
@@ -31,8 +31,8 @@ pub enum Flaw {
     Byte(u8),
     /// They hold U+FEFF, which is a byte order mark only at the front of a source.
     MarkInside,
-    /// They are no comment line, and ISO 8859-1 reads one of them as another character than windows-1252. It is sought
-    /// only if windows-1252 is in force.
+    /// ISO 8859-1 reads one of them differently than windows-1252, as a control character. It is sought only if
+    /// windows-1252 is in force.
     Misread,
 }
 
@@ -120,7 +120,7 @@ fn body_to_search(source: &[u8], encoding: Encoding, flaw: Flaw) -> (Encoding, &
         Flaw::NonAscii => whole_body(source, encoding),
         Flaw::Byte(_) => body_in_windows_1252(source, encoding, flaw),
         Flaw::MarkInside => body_with_marks(source, encoding),
-        Flaw::Misread => body_in_windows_1252(source, encoding, flaw),
+        Flaw::Misread => body_misread(source, encoding),
     }
 }
 
@@ -161,6 +161,17 @@ fn body_in_windows_1252(source: &[u8], encoding: Encoding, flaw: Flaw) -> (Encod
     match in_force {
         Encoding::WINDOWS_1252 => (in_force, &source[start..]),
         _ => (in_force, &[]),
+    }
+}
+
+// Most sources have none of the bytes, which this tells faster than a walk of the lines.
+fn body_misread(source: &[u8], encoding: Encoding) -> (Encoding, &[u8])
+    ensures { HasLinesOf Misread (encoding_of encoding) source.now (encoding_of result.0) result.1.now }
+{
+    let (in_force, body) = body_in_windows_1252(source, encoding, Flaw::Misread);
+    match find::<Within<0x80, 0x9f>>(body) {
+        Some(_) => (in_force, body),
+        None => (in_force, &[]),
     }
 }
 
@@ -212,7 +223,7 @@ fn has_flaw(encoding: Encoding, body: &[u8], line: &RawLine, flaw: Flaw) -> bool
         Flaw::Zero => holds_zero(&body[line.start..line.end]),
         Flaw::Byte(byte) => holds(&body[line.start..line.end], byte),
         Flaw::MarkInside => holds_mark_in(encoding, &body[line.start..line.end]),
-        Flaw::Misread => is_misread(&body[line.start..line.end]),
+        Flaw::Misread => holds_misread(&body[line.start..line.end]),
         Flaw::NonAscii => {
             !is_ascii(encoding, body, line) && is_well_formed(encoding, body, line)
         }
@@ -249,13 +260,10 @@ fn holds_zero(bytes: &[u8]) -> bool
     holds(bytes, 0)
 }
 
-// Returns whether a line is no comment line, and has a byte that ISO 8859-1 reads otherwise.
-fn is_misread(line: &[u8]) -> bool
-    ensures { result ≡ spec.is_misread_line line.now }
+// Returns whether ISO 8859-1 reads one of the bytes differently.
+fn holds_misread(line: &[u8]) -> bool
+    ensures { result ≡ spec.holds_misread line.now }
 {
-    if is_comment(line) {
-        return false;
-    }
     for byte in line {
         if is_read_otherwise(*byte) {
             return true;

@@ -7,7 +7,7 @@ use Rattle.properties_format.specs.Utf16.{is_high, is_low, low_first, high_first
 use Rattle.properties_text.specs.Encoding.{encoding_of}
 use Rattle.properties_lines.specs.{Private.HeldLines.IsInBody, Private.HeldLines.held_lines_left, Scanner.HasRightFlags, Scanner.raw_line_bytes}
 use Rattle.properties_lines.specs.{declared.scanner.RawLine.RawLine, declared.scanner.Scanner.Scanner}
-use Rattle.properties_tables.specs.Lines.{holds_byte, holds_mark_in, holds_non_ascii, holds_zero, is_misread_line, AreFlawedIn, HasFlawed}
+use Rattle.properties_tables.specs.Lines.{holds_byte, holds_mark_in, holds_misread, holds_non_ascii, holds_zero, AreFlawedIn, HasFlawed}
 use Rattle.properties_tables.specs.declared.ill_formed.Flaw.{Flaw}
 use Rattle.properties_tables.specs.declared.ill_formed.Flaw.TheVariants.{IllFormed, Zero, NonAscii, Byte, MarkInside, Misread}
 
@@ -56,7 +56,7 @@ is_flawed IllFormed e bytes = not (is_well_formed e bytes)
 is_flawed Zero e bytes = holds_zero bytes
 is_flawed (Byte byte) e bytes = holds_byte byte bytes
 is_flawed MarkInside e bytes = holds_mark_in e bytes
-is_flawed Misread e bytes = is_misread_line bytes
+is_flawed Misread e bytes = holds_misread bytes
 is_flawed NonAscii e bytes = not (is_ascii e bytes) && is_well_formed e bytes
 
 -- whether it is a flaw in windows-1252 alone

@@ -98,9 +98,8 @@ pub fn print_reading<E: CountedWrite>(errors: &mut E)
     print_line(errors, READING);
 }
 
-/// Prints on `errors` the first line with a byte that Java reads as a control character, if it reads the source as ISO
-/// 8859-1, and windows-1252 doesn't: if there is one that is no comment line, and memory for the message. What can't be
-/// printed is dropped.
+/// Prints on `errors` the first line with a byte that ISO 8859-1 reads as a control character, and windows-1252 as
+/// another character. Prints nothing if there is none, or if memory runs out. What can't be printed is dropped.
 ///
 /// ```text
 /// print_misread(alloc, &mut errors, "a.properties", b"a=5 \x80"); // They name line 1.

@@ -11,3 +11,6 @@ returns-in-NonAscii c = rw c.in-NonAscii.is c.whole_body.ensures
 
 pub returns-in-MarkInside : goal.returns-in-MarkInside
 returns-in-MarkInside c = rw c.in-MarkInside.is c.body_with_marks.ensures
+
+pub returns-in-Misread : goal.returns-in-Misread
+returns-in-Misread c = rw c.in-Misread.is c.body_misread.ensures
