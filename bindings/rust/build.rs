@@ -12,9 +12,9 @@ fn main() {
     println!("cargo:rerun-if-changed=build.rs");
     println!("cargo:rerun-if-changed=native");
     match found() {
-        Ok(folder) => {
-            println!("cargo:rerun-if-changed={}", folder.join(ARCHIVE).display());
-            println!("cargo:rustc-link-search=native={}", folder.display());
+        Ok(directory) => {
+            println!("cargo:rerun-if-changed={}", directory.join(ARCHIVE).display());
+            println!("cargo:rustc-link-search=native={}", directory.display());
         }
         Err(why) => println!("cargo:warning=todrenval cannot be linked: {why}"),
     }
@@ -27,9 +27,9 @@ fn found() -> Result<PathBuf, String> {
         return Err(format!("it is for Linux on x86-64, and not for {target}"));
     }
     if let Some(named) = env::var_os("TODRENVAL_LIB_DIR") {
-        let folder = PathBuf::from(named);
-        let why = format!("TODRENVAL_LIB_DIR: there is no {ARCHIVE} in {}", folder.display());
-        return Some(folder).filter(|folder| has_archive(folder)).ok_or(why);
+        let directory = PathBuf::from(named);
+        let why = format!("TODRENVAL_LIB_DIR: there is no {ARCHIVE} in {}", directory.display());
+        return Some(directory).filter(|directory| has_archive(directory)).ok_or(why);
     }
     packed().or_else(installed).ok_or(format!(
         "there is no {ARCHIVE}: name its directory in TODRENVAL_LIB_DIR, put it into the directory native of this crate, or install \
@@ -38,8 +38,8 @@ fn found() -> Result<PathBuf, String> {
 }
 
 fn packed() -> Option<PathBuf> {
-    let folder = Path::new(&env::var_os("CARGO_MANIFEST_DIR")?).join("native");
-    has_archive(&folder).then_some(folder)
+    let directory = Path::new(&env::var_os("CARGO_MANIFEST_DIR")?).join("native");
+    has_archive(&directory).then_some(directory)
 }
 
 fn installed() -> Option<PathBuf> {
@@ -47,10 +47,10 @@ fn installed() -> Option<PathBuf> {
         .args(["--variable=libdir", "todrenval"])
         .output()
         .ok()?;
-    let folder = PathBuf::from(String::from_utf8(asked.stdout).ok()?.trim());
-    has_archive(&folder).then_some(folder)
+    let directory = PathBuf::from(String::from_utf8(asked.stdout).ok()?.trim());
+    has_archive(&directory).then_some(directory)
 }
 
-fn has_archive(folder: &Path) -> bool {
-    folder.join(ARCHIVE).is_file()
+fn has_archive(directory: &Path) -> bool {
+    directory.join(ARCHIVE).is_file()
 }

@@ -1,9 +1,9 @@
-// The files in the folder that this program runs in.
+// The files in the directory that this program runs in.
 
 use crate::row::{Content, Entry, Row};
 use std::{fs, io};
 
-/// Returns the names of all that is in the folder.
+/// Returns the names of all that is in the directory.
 pub fn names_in(rt: &HostRuntime) -> io::Result<Vec<String>> {
     let mut names = Vec::new(rt.alloc());
     for entry in fs::read_dir(rt, ".")? {
@@ -13,7 +13,7 @@ pub fn names_in(rt: &HostRuntime) -> io::Result<Vec<String>> {
     Ok(names)
 }
 
-/// Makes files and folders.
+/// Makes files and directories.
 pub fn make(rt: &HostRuntime, entries: &[Entry]) -> io::Result<()> {
     for entry in entries {
         match &entry.content {
@@ -24,14 +24,14 @@ pub fn make(rt: &HostRuntime, entries: &[Entry]) -> io::Result<()> {
     Ok(())
 }
 
-/// What a row leaves in the folder: its files, and the names of whatever else is there.
+/// What a row leaves in the directory: its files, and the names of whatever else is there.
 #[derive(Drop)]
 pub struct Left {
     pub entries: Vec<Entry>,
     pub others: Vec<String>,
 }
 
-/// Returns what a row leaves beside what has the names in `kept`, and removes its files.
+/// Returns what a row leaves, except what has the names in `kept`, and removes its files.
 pub fn take(rt: &HostRuntime, kept: &[String], row: &Row) -> io::Result<Left> {
     let mut left = Left {
         entries: Vec::new(rt.alloc()),

@@ -1,7 +1,7 @@
-//! Runs rows of `propedit` over its code: what a command line prints, and what it leaves of the files in its folder. The
-//! head of `tests/try_rows.py`, which runs them on the built program, explains their form.
+//! Runs rows of `propedit` over its code: what a command line prints, and what it leaves of the files in its directory.
+//! The head of `tests/try_rows.py`, which runs them on the built program, explains their form.
 //!
-//! The files of a row are made in the folder that this program runs in, and removed after it.
+//! The files of a row are made in the directory that this program runs in, and removed after it.
 #![tactic(auto)]
 
 mod folder;

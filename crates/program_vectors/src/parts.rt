@@ -122,7 +122,7 @@ fn count(word: &str) -> Option<u64> {
     word.strip_suffix('*')?.parse::<u64>().ok()
 }
 
-// Returns a text so many times, in which `{}` is the number of the time.
+// Returns a text that many times, in which `{}` is the number of the time.
 fn repeated(alloc: Global, count: u64, text: &str) -> Result<Vec<u8>, Halt> {
     let mut all = String::new(alloc);
     for number in 1..=count {

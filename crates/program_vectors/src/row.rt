@@ -4,14 +4,14 @@ use crate::parts::{Part, parts};
 use std::alloc::{AllocError, Global};
 use vector_notation::notation::{Halt, owned, text};
 
-/// What is in a folder under a name.
+/// What is in a directory under a name.
 #[derive(Drop)]
 pub struct Entry {
     pub name: String,
     pub content: Content,
 }
 
-/// A folder, or the bytes of a file.
+/// A directory, or the bytes of a file.
 #[derive(Drop)]
 pub enum Content {
     Folder,
@@ -119,7 +119,7 @@ impl Row {
         Ok(())
     }
 
-    /// Returns whether a file or a folder of the row has this name.
+    /// Returns whether a file or a directory of the row has this name.
     pub fn has_file(&self, name: &str) -> bool {
         let mut entries = self.before.iter().chain(self.after.iter());
         entries.any(|entry| entry.name.as_str() == name)
@@ -142,7 +142,7 @@ fn add_texts(bytes: &mut Vec<u8>, texts: &[Part]) -> Result<(), AllocError> {
     Ok(())
 }
 
-// Adds a folder, or a file with these texts after those of the lines above for it. `./-` is a file called `-`.
+// Adds a directory, or a file with these texts after those of the lines above for it. `./-` is a file called `-`.
 fn add_entry(
     alloc: Global,
     entries: &mut Vec<Entry>,

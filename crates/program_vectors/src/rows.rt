@@ -16,7 +16,7 @@ struct Reading<'a> {
     report: Report,
 }
 
-/// Runs the rows of a file. What has the names in `kept` is in the folder before.
+/// Runs the rows of a file. What has the names in `kept` is in the directory before.
 pub fn check_rows(rt: &HostRuntime, kept: &[String], text: &str) -> io::Result<Report> {
     let mut reading = Reading {
         rt,

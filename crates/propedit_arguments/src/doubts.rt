@@ -1,4 +1,4 @@
-// Arguments that are taken as they are, and may be meant otherwise.
+// Arguments that are taken as they are, and may mean something else.
 
 use crate::command_line::CommandRow;
 use crate::edits::AskedEdit;
@@ -43,7 +43,7 @@ pub(crate) fn note_on_prefix(alloc: Global, prefix: &String) -> Result<Option<No
     Ok(Some(Note { doubt, line }))
 }
 
-/// Returns the note on the first of some edits of a source of this name that may be meant otherwise.
+/// Returns the note on the first of some edits of a source of this name that may mean something else.
 pub(crate) fn note_on_edits(
     alloc: Global,
     name: &str,

@@ -17,7 +17,7 @@ use propedit_arguments::{asked_for, explain, explain_not_utf_8, marked_words};
 use properties_tools::propedit::answers::name;
 use properties_tools::propedit::diff::run_diff;
 use properties_tools::propedit::hint::{
-    possible_files, print_misread, print_reading, refused_file,
+    possible_files, print_misread, print_reading, refused_files,
 };
 use properties_tools::propedit::in_place::edit_file;
 use properties_tools::propedit::merge::{Merged, read_merge};
@@ -126,12 +126,16 @@ pub(crate) fn do_job<W: CountedWrite, E: CountedWrite>(
         Ok(input) => input,
         Err(status) => return status,
     };
+    if let Some(file) = refused_files(job)
+        .iter()
+        .find(|file| is_file(rt, file.as_str()))
+    {
+        let mistake = Mistake::FileAsKey(file.as_str());
+        return explain_mistake(alloc, mistake, &mut sinks.errors);
+    }
     let Ok(files) = files_among(rt, possible_files(job)) else {
         return print_out_of_memory(&mut sinks.errors);
     };
-    if let Some(file) = refused_file(job, &files) {
-        return explain_mistake(alloc, Mistake::FileAsKey(file), &mut sinks.errors);
-    }
     if standard.is_typed(rt, &job.source) {
         print_reading(&mut sinks.errors);
     }
@@ -139,7 +143,7 @@ pub(crate) fn do_job<W: CountedWrite, E: CountedWrite>(
         Ok(input) => input,
         Err(status) => return status,
     };
-    // Of a file that is named, another one is said first.
+    // If an option names a file, the hint on another file comes before a note.
     let is_second = matches!(job.source, Source::File(_)) && !files.is_empty();
     if is_second || lacks_file(rt, &job.note) {
         job.note = None;

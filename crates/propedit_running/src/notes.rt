@@ -1,4 +1,4 @@
-// What may be meant otherwise, and is said after the answer if the source bears it out.
+// Notes on arguments that may mean something else, printed after the result.
 
 use crate::input::is_file;
 use counted_io::CountedWrite;

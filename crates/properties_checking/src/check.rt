@@ -75,11 +75,11 @@ pub(crate) enum Words {
 /// first line with U+0000, if UTF-8 is in force without a byte order mark; the lines that are ill-formed in the
 /// encoding in force; the first line with a non-ASCII character, if windows-1252 is in force though the source is
 /// well-formed UTF-8; the well-formed lines with a non-ASCII character, if only ASCII is allowed; a byte order mark of
-/// UTF-8 or UTF-32 at the front, and in UTF-8 and UTF-16 each line with U+FEFF; the lines, but for comment lines, that
+/// UTF-8 or UTF-32 at the front, and in UTF-8 and UTF-16 each line with U+FEFF; the lines, except comment lines, that
 /// end in a backslash and blanks, and the last line if it ends in a backslash; each byte of a line that ISO 8859-1
 /// reads as another character, if that isn't allowed and windows-1252 is in force; malformed escapes; and pairs that
-/// repeat a key. Findings of kinds that are ignored are left out. The text is empty if nothing is left. Fails only if
-/// memory runs out. Whether the check is quiet is the caller's concern.
+/// repeat a key. Omits findings of kinds that are ignored. The text is empty if nothing is left. Fails only if memory
+/// runs out. Whether the check is quiet is the caller's concern.
 ///
 /// If a line is ill-formed, a key with U+FFFD repeats no other, since that character may stand for any bytes.
 ///
@@ -113,7 +113,7 @@ pub fn report(
 pub struct Reported {
     /// What is wrong, as [`report`] returns it.
     pub text: String,
-    /// The keys of its pairs, but for malformed ones.
+    /// The keys of its pairs, except those with a malformed escape.
     pub keys: KeyTable,
     /// Its malformed escapes.
     pub escapes: Vec<MalformedEscape>,

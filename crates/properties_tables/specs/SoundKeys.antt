@@ -1,5 +1,4 @@
--- The pairs of a source whose keys are sound, whatever their values: where an escape of a value is malformed, the key is
--- there all the same.
+-- The pairs of a source whose keys are valid. A key counts even if an escape of its value is malformed.
 -- Source: java.util.Properties of Java SE 7, load.
 use Rattle.std.specs.Prelude.{◌≡◌, ◌⊎◌, ℕ, List, [], ◌∷◌}
 use Rattle.properties_format.specs.Encoding.{Encoding}

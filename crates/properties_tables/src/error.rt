@@ -301,7 +301,7 @@ impl fmt::Display for SystemError<'_> {
     }
 }
 
-// Prints the words of an error, and leaves out the number that comes after them.
+// Prints the words of an error without the number that comes after them.
 #[derive(Drop)]
 struct Words<'a, W> {
     f: &'a mut fmt::Formatter<W>,

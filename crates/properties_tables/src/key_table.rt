@@ -237,7 +237,7 @@ impl Taker for KeyTable {
         Ok(())
     }
 
-    // If the value alone is malformed, the key is one all the same.
+    // A key counts even if its value is malformed.
     fn malformed(
         &mut self,
         alloc: Global,

@@ -81,7 +81,7 @@ pub record IsChecked (name : List ℕ) (e : Encoding) (check : Check) (source : 
   pub are_ill_formed : AreFlawedLines flaw.IllFormed e source ill_formed
   pub well_formed : c.is_well_formed ≡ (length ill_formed == 0)
 
--- What finding the sound keys of a source returns, given those of its pairs and its malformed escapes. It fails only if
+-- What finding the valid keys of a source returns, given those of its pairs and its malformed escapes. It fails only if
 -- memory runs out.
 abbrev pub FindsSoundKeys : Encoding → List ℕ → KeyTable → List MalformedEscape → Result KeyTable PropertiesError → Type 0
 FindsSoundKeys e source keys escapes (Ok t) =

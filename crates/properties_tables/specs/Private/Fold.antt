@@ -46,7 +46,7 @@ found_pairs [] = []
 found_pairs (found_pair number key value ∷ rest) = item number (pair key value) ∷ found_pairs rest
 found_pairs (found_escape escape x ∷ rest) = found_pairs rest
 
--- the key of a pair, if it is sound
+-- the key of a pair, if it is valid
 abbrev pub key_meant : Meaning → Option (List ℕ)
 key_meant (means key) = Some key
 key_meant (breaks kind) = None
@@ -55,12 +55,12 @@ abbrev pub sound_key : Logical → Option (List ℕ)
 sound_key (Logical.pair raw_key raw_value) = key_meant (meaning_of raw_key)
 sound_key other = None
 
--- a pair with a sound key before others
+-- a pair with a valid key before others
 abbrev pub with_key : ℕ → Option (List ℕ) → List Entry → List Entry
 with_key number None rest = rest
 with_key number (Some key) rest = item number (pair key []) ∷ rest
 
--- the pairs, and those that have a sound key, but a malformed value
+-- the pairs, and those that have a valid key, but a malformed value
 abbrev pub keyed_pairs : List Finding → List Entry
 keyed_pairs [] = []
 keyed_pairs (found_pair number key value ∷ rest) = item number (pair key value) ∷ keyed_pairs rest

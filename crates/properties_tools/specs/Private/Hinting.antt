@@ -17,7 +17,7 @@ abbrev pub FindsHint : Job → List (List ℕ) → List ℕ → ℕ → Result (
 FindsHint job files source status (Ok hint) = IsHint job files source status (hint_bytes hint)
 FindsHint job files source status (Err failure) = (answer : Answer) → Answers job source (Ok answer) → Answers job source (Err failure)
 
--- Whether the source bears out that an argument may be meant otherwise; or it is refused, or memory ran out.
+-- Whether the source bears out that an argument may mean something else; or it is refused, or memory ran out.
 abbrev pub TellsDoubt : Encoding → List ℕ → Doubt → Result Bool Failure → Type 0
 TellsDoubt e source doubt (Ok told) = Tells e source doubt told
 TellsDoubt e source doubt (Err failure) = IsUnsound e source failure ⊎ (IsSound e source → IsMemoryFailure failure)

@@ -1,4 +1,4 @@
--- What `check` says of the keys of a source beside those of another one, its base: which keys only one of the two has a
+-- What `check` says of the keys of a source, compared with those of another one, its base: which keys only one of the two has a
 -- pair of. Comments, layout, spelling, order, values, also malformed ones, and pairs that repeat a key don't count.
 use Rattle.std.specs.Prelude.{◌≡◌, ◌↔◌, ℕ, ◌==◌, ◌&&◌, ◌||◌, not, length, Bool, true, List, [], ◌∷◌, ◌++◌, codes, map, All, AllPairs, Contains}
 use Rattle.std.specs.Fmt.{decimal}

@@ -1,6 +1,5 @@
--- The hints on arguments that may have been meant otherwise.
+-- Hints on arguments that may mean something else.
 use Rattle.std.specs.Prelude.{◌≡◌, ◌==◌, ◌⊎◌, ℕ, Bool, true, false, not, List, [], ◌∷◌, ◌++◌, length, Option, Some, None, codes, map, string_bytes}
-use Rattle.std.specs.Borrow.{Bor}
 use Rattle.std.specs.Fmt.{decimal}
 use Rattle.std.specs.Global.{Global}
 use Rattle.std.specs.Option.{option_map}
@@ -24,10 +23,6 @@ use Rattle.properties_tools.specs.declared.propedit.request.Job.{Job}
 use Rattle.properties_tools.specs.declared.propedit.request.Note.{Note}
 use Rattle.properties_tools.specs.declared.propedit.request.Source.{Source}
 use Rattle.properties_tools.specs.declared.propedit.request.Source.TheVariants.{Dash, File, StandardInput}
-
--- the bytes of a text that is borrowed
-abbrev pub borrowed_bytes : Bor (List ℕ) → List ℕ
-borrowed_bytes text = text.now
 
 -- ---- before standard input is read
 
@@ -59,24 +54,19 @@ prefix_of (ListValues prefix end) = prefix ∷ []
 prefix_of (ListJson prefix) = prefix ∷ []
 prefix_of other = []
 
--- The arguments that may be files by mistake, unless standard input is named: the KEYs of `get`, but with a default, if
--- no file is named, not the first one; the KEY of `comment`; and a PREFIX, if a file is named.
+-- The arguments that may be files by mistake, unless standard input is named: the KEYs of `get`, the KEY of `comment`, and a
+-- PREFIX, if a file is named.
 abbrev pub possible_files : Source → Command → List (String Global)
 possible_files Dash command = []
-possible_files StandardInput (Get keys (Some default) end) = without_first keys.items
 possible_files source (Get keys default end) = keys.items
 possible_files source (Comment key) = key ∷ []
 possible_files (File path) command = prefix_of command
 possible_files source command = []
 
-abbrev pub first_name : List (String Global) → Option (List ℕ)
-first_name [] = None
-first_name (file ∷ files) = Some (string_bytes file)
-
--- The first of these files, where a default would hide that it was taken for a KEY, and no file is named.
-abbrev pub refused_file : Source → Command → List (String Global) → Option (List ℕ)
-refused_file StandardInput (Get keys (Some default) end) files = first_name files
-refused_file source command files = None
+-- the arguments that are refused if they are files: of `get` with a default, if no file is named, each KEY after the first
+abbrev pub refused_files : Source → Command → List (String Global)
+refused_files StandardInput (Get keys (Some default) end) = without_first keys.items
+refused_files source command = []
 
 -- ---- of an answer that finds nothing
 
@@ -127,7 +117,7 @@ abbrev pub PrintsHint : {W : Type 0} → Sink W → W → Option (List ℕ) → 
 PrintsHint sink old None new = new ≡ old
 PrintsHint sink old (Some line) new = HasPrintedLine sink old line new
 
--- ---- an argument that may be meant otherwise
+-- ---- an argument that may mean something else
 
 -- Whether some of the keys of the source begin with a prefix.
 abbrev pub HasPrefix : Encoding → List ℕ → List ℕ → Bool → Type 0
@@ -147,7 +137,7 @@ abbrev pub IsNoteOf : Encoding → List ℕ → Option Note → List ℕ → Typ
 IsNoteOf e source None line = ⊥
 IsNoteOf e source (Some note) line = Tells e source note.doubt true × (line ≡ string_bytes note.line)
 
--- What is printed beside an answer with this status: the job's note, if the source bears it out, or else a hint.
+-- What is printed with an answer of this status: the job's note, if the source bears it out, or else a hint.
 abbrev pub IsHint : Job → List (List ℕ) → List ℕ → ℕ → Option (List ℕ) → Type 0
 IsHint job files source status hint =
     ((line : List ℕ) × IsNoteOf (encoding_of job.encoding) source job.note line × (hint ≡ Some line))

@@ -1,4 +1,4 @@
-// The keys of a source, beside those of a base.
+// The keys of a source, compared with those of a base.
 
 ghost use Rattle.std.specs.Prelude.{◌≡◌, ◌&&◌, ◌∷◌, [], OnOk};
 ghost use Rattle.std.specs.Str.{chars};
@@ -77,8 +77,8 @@ pub fn base_of(
 /// the source has, and which keys of the source no pair of the base has, unless these kinds are ignored. Fails only if
 /// memory runs out.
 ///
-/// A key beside a malformed value is there; a malformed key isn't. If a line of either is ill-formed, keys with U+FFFD aren't compared, since that
-/// character may stand for any bytes.
+/// A key whose value is malformed counts. A malformed key doesn't. If a line of either is ill-formed, keys with U+FFFD
+/// aren't compared, since that character may stand for any bytes.
 ///
 /// ```text
 /// let source = NamedSource { name: "m_de.properties", bytes: b"b=2\nc=3" };

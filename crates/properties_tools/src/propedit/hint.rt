@@ -1,14 +1,13 @@
-// The hints on arguments that may have been meant otherwise.
+// Hints on arguments that may mean something else.
 
 ghost use Rattle.std.specs.Prelude.{◌≡◌, map, IfOk, IfSome, string_bytes};
-ghost use Rattle.std.specs.Option.{option_map};
 ghost use Rattle.std.specs.Str.{chars};
 ghost use Rattle.counted_io.specs.Streams.{IsSameSink};
 ghost use Rattle.java_properties.specs.Maps.{characters};
 ghost use Rattle.properties_text.specs.Encoding.{encoding_of};
 ghost use Rattle.properties_tables.specs.Messages.{HasPrintedLine};
 ghost use Rattle.properties_tools.specs.Private.Hinting.{FindsFileHint, FindsHint, FindsPrefix, TellsDoubt};
-ghost use Rattle.properties_tools.specs.Propedit.Hints.{borrowed_bytes, hint_bytes, key_line, misread_line, possible_files, prefix_hint, prefix_line, prefix_of, reading_line, refused_file, without_first, IsNoteOf, PrintsHint, PrintsMisread};
+ghost use Rattle.properties_tools.specs.Propedit.Hints.{hint_bytes, key_line, misread_line, possible_files, prefix_hint, prefix_line, prefix_of, reading_line, refused_files, without_first, IsNoteOf, PrintsHint, PrintsMisread};
 
 use crate::propedit::list::list;
 use crate::propedit::request::{Command, Doubt, Job, Note, Source, Terminator};
@@ -28,8 +27,8 @@ const IS_MISREAD: &str =
 
 const READING: &str = "propedit: reading standard input; '-f FILE' reads a file\n";
 
-/// Returns the arguments of a job that may be files by mistake, unless standard input is named: the KEYs of `get`, or
-/// with a default, if no file is named, all but the first one; the KEY of `comment`; and a PREFIX, if a file is named.
+/// Returns the arguments of a job that may be files by mistake, unless standard input is named: the KEYs of `get`, the
+/// KEY of `comment`, and a PREFIX, if a file is named.
 ///
 /// ```text
 /// // For the arguments `get port app.properties` it returns both.
@@ -40,7 +39,6 @@ pub fn possible_files(job: &Job) -> &[String]
 {
     match (&job.source, &job.command) {
         (Source::Dash, _) => &[],
-        (Source::StandardInput, Command::Get(keys, Some(_), _)) => without_first(keys.as_slice()),
         (_, Command::Get(keys, _, _)) => keys.as_slice(),
         (_, Command::Comment(key)) => slice::from_ref(key),
         (Source::File(_), command) => prefix_of(command),
@@ -59,28 +57,28 @@ fn prefix_of(command: &Command) -> &[String]
     }
 }
 
+/// Returns the arguments of a job that are refused if they are files: of `get` with a default, if no file is named, each
+/// KEY after the first.
+///
+/// ```text
+/// // For the arguments `-d 80 get port app.properties` it returns the second.
+/// let words = refused_files(&job);
+/// ```
+pub fn refused_files(job: &Job) -> &[String]
+    ensures { result.now ≡ refused_files job.now.source job.now.command }
+{
+    match (&job.source, &job.command) {
+        (Source::StandardInput, Command::Get(keys, Some(_), _)) => without_first(keys.as_slice()),
+        _ => &[],
+    }
+}
+
 fn without_first(keys: &[String]) -> &[String]
     ensures { result.now ≡ without_first keys.now }
 {
     match keys {
         [_, others @ ..] => others,
         [] => &[],
-    }
-}
-
-/// Returns the first of the `files` if the job has a default and no file is named: nothing would tell that a KEY is
-/// meant as a file. The files are those of its possible files that are there.
-///
-/// ```text
-/// // For the arguments `-d 80 get port app.properties` it returns the name, and else `None`.
-/// let file = refused_file(&job, &files);
-/// ```
-pub fn refused_file<'a>(job: &Job, files: &'a [String]) -> Option<&'a str>
-    ensures { option_map borrowed_bytes result ≡ refused_file job.now.source job.now.command files.now }
-{
-    match (&job.source, &job.command, files) {
-        (Source::StandardInput, Command::Get(_, Some(_), _), [file, ..]) => Some(file.as_str()),
-        _ => None,
     }
 }
 
@@ -122,7 +120,7 @@ fn misread_line(alloc: Global, name: &str, number: usize) -> Result<String, Allo
     format!(in alloc; "propedit: {name}:{number}: {IS_MISREAD}\n")
 }
 
-/// Returns the line beside an answer with this status: that of the job's note, if the source bears it out. Or it says
+/// Returns the line with an answer of this status: that of the job's note, if the source bears it out. Or it says
 /// which argument may have been meant as a file: a PREFIX that no key begins with, if no file is named or it is one of
 /// the `files`, or a KEY that no pair has, if it is one.
 pub(crate) fn hint(
@@ -186,7 +184,7 @@ fn key_line(alloc: Global, key: &str) -> Result<String, AllocError>
     format!(in alloc; "propedit: no pair has the key '{key}'; {IS_A_FILE}\n")
 }
 
-// Returns the hint on a PREFIX: that a file is named otherwise, if none is named, or if it is one.
+// Returns the hint on a PREFIX: how a file is named, if none is named, or if it is one.
 fn prefix_hint(
     alloc: Global,
     source: &Source,
@@ -228,7 +226,7 @@ pub fn told(alloc: Global, source: &[u8], encoding: Encoding, note: &Option<Note
     }
 }
 
-// Returns whether a source bears out that an argument may be meant otherwise: no pair has the KEY, and pairs have all
+// Returns whether a source bears out that an argument may mean something else: no pair has the KEY, and pairs have all
 // keys that may be meant; or no key begins with the PREFIX, and one does with what it may mean. A VALUE tells by itself.
 fn bears_out(
     alloc: Global,

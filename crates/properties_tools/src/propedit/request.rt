@@ -34,7 +34,7 @@ pub struct Job {
     pub source: Source,
     /// What is to be done.
     pub command: Command,
-    /// What is printed beside the answer, if the source bears it out.
+    /// What is printed with the answer, if the source bears it out.
     pub note: Option<Note>,
 }
 
@@ -108,8 +108,8 @@ pub enum Form {
 pub enum Destination {
     /// The source is read from here, and printed after the change.
     Printed(Source),
-    /// The file of this name is changed in place. Beside it stand what is done if there is none, and whether a line
-    /// says how its pairs changed.
+    /// The file of this name is changed in place, with what is done if there is none, and whether a line says how its
+    /// pairs changed.
     InPlace(String, Missing, bool),
 }
 
@@ -145,14 +145,14 @@ pub enum Command {
     Change(Change),
 }
 
-/// A line about an argument that may be meant otherwise.
+/// A line about an argument that may mean something else.
 #[derive(Drop)]
 pub struct Note {
     pub doubt: Doubt,
     pub line: String,
 }
 
-/// An argument that may be meant otherwise.
+/// An argument that may mean something else.
 #[derive(Drop)]
 pub enum Doubt {
     /// This KEY, and those that may be meant by it.
