@@ -95,9 +95,9 @@ is "$(awk 'length > 80' ../usage)" ''
 run -h
 gives 0 "$(cat ../usage)\n" ''
 run --version
-gives 0 'propedit 1.27.0\n' ''
+gives 0 'propedit 1.28.0\n' ''
 run -V
-gives 0 'propedit 1.27.0\n' ''
+gives 0 'propedit 1.28.0\n' ''
 run -f nowhere --help get
 gives 0 "$(cat ../usage)\n" ''
 run help
@@ -133,7 +133,7 @@ is "$(head -n 3 ../output)" $'Prints the commands, or the page of one of them\n\
 run help remove
 is "$(tail -n 2 ../output)" $'Status: 0 done; 1 no pair has a KEY, and -x is given; 2 an error.\nThe option -a requires a \'set\', \'rename\' or \'set-comment\'.'
 run get -V
-gives 0 'propedit 1.27.0\n' ''
+gives 0 'propedit 1.28.0\n' ''
 
 # Each option, short and long.
 

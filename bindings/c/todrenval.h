@@ -90,7 +90,7 @@ extern "C" {
 #define TODRENVAL_VERSION 4
 
 /* The release that this header came with, as the programs and the Python package have it, and the same as a number to
- * compare: 1.27.0 is 12700. todrenval_release returns the number of the library. build.sh sets both. */
+ * compare: 1.28.0 is 12800. todrenval_release returns the number of the library. build.sh sets both. */
 #define TODRENVAL_RELEASE "0"
 #define TODRENVAL_RELEASE_NUMBER 0
 

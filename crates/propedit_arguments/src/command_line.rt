@@ -4,7 +4,7 @@ use crate::kinds::KINDS;
 use java_properties::Repertoire;
 use std::fmt;
 
-const VERSION: &str = "1.27.0";
+const VERSION: &str = "1.28.0";
 
 /// A command.
 #[derive(Clone, Copy, Debug, PartialEq, Eq)]

@@ -10,10 +10,10 @@ pub extern "C" fn todrenval_version() -> u32
     4
 }
 
-/// Returns the release as a number: 1.27.0 is 12700.
+/// Returns the release as a number: 1.28.0 is 12800.
 #[unsafe(no_mangle)]
 pub extern "C" fn todrenval_release() -> u32
-    ensures { result ≡ 12700 }
+    ensures { result ≡ 12800 }
 {
-    12700
+    12800
 }

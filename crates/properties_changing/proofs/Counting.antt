@@ -1,7 +1,7 @@
 -- Pairs that are compared and counted.
 use Rattle.std.proofs.Common.{◌≡◌, ◌≢◌, ℕ, ◌+◌, ◌<◌, true, false, List, [], ◌∷◌, ◌++◌, length, get_or, refl, sym, ap, ap₂, subst, ◌∙◌, inl, inr, arith, append-nil}
 use Rattle.std.specs.Prelude.{◌&&◌, ◌⊎◌, not, Bool, All, AllPairs, bytes_eq, count_by, map, Contains, Option, Some, None, cond, if◌then◌else◌}
-use Rattle.std.specs.{Bool.Decides, List.filter, Option.is_none, Option.is_some, Set.is_member}
+use Rattle.std.specs.{Bool.Decides, List.filter, Option.is_none, Set.is_member, Global.Vec}
 use Rattle.std.proofs.{Math.Bool.and-true, Math.ListN.replicate, Math.ListN.set, lemmas.Bool.cases_Bool, lemmas.Bool.cases_eq, lemmas.Bool.cases_lt, lemmas.Cmp.nat_list_eq_equiv}
 use Rattle.std.proofs.lemmas.List.{ext_get_or, get_or-map, get_or-set_other, length-map, length-set, map-append}
 use Rattle.std.proofs.lemmas.List.{Elements.All-tail, Elements.All-weaker, Elements.filter-append, Elements.filter_map-append}
@@ -10,13 +10,12 @@ use Rattle.std.proofs.{lemmas.Grind.get_or-set_at, lemmas.Map.Made.is_member-Dec
 use Rattle.properties_format.specs.{Computed.Maps.AreFirstOf, Computed.Maps.HasNot, Computed.Maps.first_value, Edits.ArePairs, Encoding.Encoding, Items.pair, Items.Entry, Items.item}
 use Rattle.properties_format.specs.Maps.{AreKeys, IsValue}
 use Rattle.properties_format.proofs.{Keys.contained, Keys.contains, Keys.pair_key, Keys.pair_keys, Keys.are-keys, Maps.value_in, Maps.value_in-append, Maps.value_in-meets, Maps.value_in-only}
-use Rattle.properties_tables.specs.{Sources.IsSound, Private.Fold.found_escape, Private.Fold.found_pair, Private.Fold.found_pairs, Private.Fold.AreFindings, Private.Fold.Finding, Private.Fold.Takes}
+use Rattle.properties_tables.specs.{Sources.IsSound, Private.Fold.found_pairs, Private.Fold.AreFindings, Private.Fold.Finding}
 use Rattle.properties_tables.specs.Private.Table.{place_keys, rows_of, table_places, FindsKey, IsKeyTable, IsTable, PutsKey}
 use Rattle.properties_tables.specs.{Table.row_keys, Table.HasRows, Table.IsRow, Table.Row, declared.key_table.KeyTable.KeyTable}
-use Rattle.properties_tables.proofs.{FirstKeys.first-new, FirstKeys.first-same, FirstKeys.has_not, FirstKeys.no-both, KeyTables.map-same, Rows.pairs-found, Rows.places-none, SourceFindings.pairs-append}
-use Rattle.properties_items.specs.declared.findings.MalformedEscape.{MalformedEscape}
+use Rattle.properties_tables.proofs.{FirstKeys.first-new, FirstKeys.first-same, FirstKeys.has_not, FirstKeys.no-both, KeyTables.map-same, Rows.pairs-found, Rows.places-none}
 use Rattle.properties_changing.specs.{Counts.is_changed, Counts.AreCounts, declared.counts.Comparison.Comparison, declared.counts.Counts.Counts, declared.counts.State.State}
-use Rattle.properties_changing.specs.Private.Counting.{has_changed, is_gone, is_new, state_of, states_by, AreCounted, HasCompared}
+use Rattle.properties_changing.specs.Private.Counting.{has_changed, is_gone, is_new, state_of, states_by, HasCompared}
 use Rattle.properties_changing.specs.declared.counts.State.TheVariants.{Gone, Same, Changed}
 
 -- what stands for a row where there is none
@@ -124,9 +123,9 @@ module _ (rows : List Row) (pairs : List Entry) (number : ℕ) (key value : List
 
 -- ---- what is taken
 
-pub took-none : (c : Comparison) → IsTable c.old → AllPairs (λ k l. k ≢ l) (row_keys (rows_of c.old)) → IsKeyTable c.added → table_places c.added ≡ []
+pub compared-none : (c : Comparison) → IsTable c.old → AllPairs (λ k l. k ≢ l) (row_keys (rows_of c.old)) → IsKeyTable c.added → table_places c.added ≡ []
     → c.states.items ≡ replicate (length (rows_of c.old)) Gone → HasCompared c [] c
-took-none c table apart added empty states = record {
+compared-none c table apart added empty states = record {
   same = refl;
   table = table;
   apart = apart;
@@ -137,69 +136,66 @@ took-none c table apart added empty states = record {
   others = ap place_keys empty;
 }
 
-module _ (first old : Comparison) (findings : List Finding) (number : ℕ) (key value : List ℕ) (took : HasCompared first findings old) where
+module _ (first old : Comparison) (pairs : List Entry) (number : ℕ) (key value : List ℕ) (h : HasCompared first pairs old) where
   abbrev rows : List Row
   rows = rows_of old.old
 
-  abbrev later : List Finding
-  later = findings ++ found_pair number key value ∷ []
+  -- what was compared with these states and added keys
+  abbrev so-far : Vec State → ℕ → KeyTable → Comparison
+  so-far states next added = record { old = old.old; states = states; next = next; added = added }
 
-  pairs-later : found_pairs later ≡ more (found_pairs findings) number key value
-  pairs-later = pairs-append findings (found_pair number key value ∷ [])
+  filtered : (is : Bool) → is_new rows key ≡ is → filter (is_new rows) (h.keys ++ key ∷ []) ≡ filter (is_new rows) h.keys ++ cond is (key ∷ []) []
+  filtered is new = filter-append (is_new rows) h.keys (key ∷ []) ∙ ap (λ b. filter (is_new rows) h.keys ++ cond b (key ∷ []) []) new
 
-  abbrev next : (next : List (List ℕ)) × AreFirstOf (pair_keys (more (found_pairs findings) number key value)) next
-      × (((is_member bytes_eq took.keys key ≡ true) × (next ≡ took.keys)) ⊎ ((is_member bytes_eq took.keys key ≡ false) × (next ≡ took.keys ++ key ∷ [])))
-  next = keys-next (found_pairs findings) number key value took.keys took.are
-
-  with-next : (c : Comparison) → c.old ≡ old.old → c.states.items ≡ states_by rows (more (found_pairs findings) number key value) → IsKeyTable c.added
-      → place_keys (table_places c.added) ≡ filter (is_new rows) next.0 → HasCompared first later c
-  with-next c same states added others = record {
-    same = same ∙ took.same;
-    table = subst IsTable (sym same) took.table;
-    apart = subst (λ t. AllPairs (λ k l. k ≢ l) (row_keys (rows_of t))) (sym same) took.apart;
-    states = states ∙ sym (ap₂ (λ t es. states_by (rows_of t) es) same pairs-later);
+  -- A key has a row,
+  pub compared-known : (row n : ℕ) (states : Vec State) → FindsKey key (row_keys rows) (Some row)
+      → states.items ≡ set old.states.items row (state_of (get_or rows row no_row).value (Some value))
+      → HasCompared first (more pairs number key value) (so-far states n old.added)
+  compared-known row n states found sets = let next = keys-next pairs number key value h.keys h.are in record {
+    same = h.same;
+    table = h.table;
+    apart = h.apart;
+    states = sets ∙ ap (λ v. set v row (state_of (get_or rows row no_row).value (Some value))) h.states ∙ states-set rows pairs number key value row h.apart found;
     keys = next.0;
-    are = subst (λ es. AreFirstOf (pair_keys es) next.0) (sym pairs-later) next.1;
-    added = added;
-    others = others ∙ sym (ap (λ t. filter (is_new (rows_of t)) next.0) same);
+    are = next.1;
+    added = h.added;
+    others = h.others ∙ elim next.2 [
+      | inl (there, is) ↦ ap (filter (is_new rows)) (sym is)
+      | inr (absent, is) ↦ sym (ap (filter (is_new rows)) is ∙ filtered false known ∙ append-nil (filter (is_new rows) h.keys))
+    ];
   }
+    where
+      known : is_new rows key ≡ false
+      known = ap not ((member (row_keys rows) key).1 (row, found.0, found.1 key))
 
-  filtered : (is : Bool) → is_new rows key ≡ is → filter (is_new rows) (took.keys ++ key ∷ []) ≡ filter (is_new rows) took.keys ++ cond is (key ∷ []) []
-  filtered is new = filter-append (is_new rows) took.keys (key ∷ []) ∙ ap (λ b. filter (is_new rows) took.keys ++ cond b (key ∷ []) []) new
-
-  -- a key that has a row
-  pub took-known : (c : Comparison) (row : ℕ) → c.old ≡ old.old → c.added ≡ old.added → FindsKey key (row_keys rows) (Some row)
-      → c.states.items ≡ set old.states.items row (state_of (get_or rows row no_row).value (Some value)) → HasCompared first later c
-  took-known c row same added found states =
-      let known : is_new rows key ≡ false = ap not ((member (row_keys rows) key).1 (row, found.0, found.1 key)) in
-      with-next c same
-      (states ∙ ap (λ v. set v row (state_of (get_or rows row no_row).value (Some value))) took.states
-      ∙ states-set rows (found_pairs findings) number key value row took.apart found)
-      (subst IsKeyTable (sym added) took.added)
-      (ap (λ t. place_keys (table_places t)) added ∙ took.others ∙ elim next.2 [
-        | inl (there, is) ↦ ap (filter (is_new rows)) (sym is)
-        | inr (absent, is) ↦ sym (ap (filter (is_new rows)) is ∙ filtered false known ∙ append-nil (filter (is_new rows) took.keys))
-      ])
-
-  -- and one that has none
-  pub took-new : (c : Comparison) (row : ℕ) → c.old ≡ old.old → c.states ≡ old.states → FindsKey key (row_keys rows) None
-      → PutsKey number key (table_places old.added) row (table_places c.added) → IsKeyTable c.added → HasCompared first later c
-  took-new c row same states none puts added =
-      with-next c same (ap (λ v. v.items) states ∙ took.states ∙ states-kept rows (found_pairs findings) number key value none) added (elim puts [
-        | inl (found, is) ↦
-            let there = sym in-keys ∙ (member (place_keys (table_places old.added)) key).1 (row, found.0, found.1 key) in
-            ap place_keys is ∙ took.others ∙ elim next.2 [
-              | inl (t, is) ↦ ap (filter (is_new rows)) (sym is)
-              | inr (f, is) ↦ absurd (cc)
-            ]
-        | inr (absent, at, is) ↦ elim next.2 [
-          | inl (there, is) ↦
-              absurd (no-both key (place_keys (table_places old.added)) absent (contained key _ ((member (place_keys (table_places old.added)) key).0 (in-keys ∙ there))))
-          | inr (f, last) ↦
-              ap place_keys is ∙ map-append (λ p. p.key) (table_places old.added) (record { number = number; key = key } ∷ [])
-              ∙ ap (λ v. v ++ key ∷ []) took.others ∙ sym (ap (filter (is_new rows)) last ∙ filtered true new)
-        ]
-      ])
+  -- or has none.
+  pub compared-new : (row : ℕ) (added : KeyTable) → FindsKey key (row_keys rows) None
+      → PutsKey number key (table_places old.added) row (table_places added) → IsKeyTable added
+      → HasCompared first (more pairs number key value) (so-far old.states old.next added)
+  compared-new row added none puts table = let next = keys-next pairs number key value h.keys h.are in record {
+    same = h.same;
+    table = h.table;
+    apart = h.apart;
+    states = h.states ∙ states-kept rows pairs number key value none;
+    keys = next.0;
+    are = next.1;
+    added = table;
+    others = elim puts [
+      | inl (found, is) ↦
+          let there = sym in-keys ∙ (member (place_keys (table_places old.added)) key).1 (row, found.0, found.1 key) in
+          ap place_keys is ∙ h.others ∙ elim next.2 [
+            | inl (t, is) ↦ ap (filter (is_new rows)) (sym is)
+            | inr (f, is) ↦ absurd (cc)
+          ]
+      | inr (absent, at, is) ↦ elim next.2 [
+        | inl (there, is) ↦
+            absurd (no-both key (place_keys (table_places old.added)) absent (contained key _ ((member (place_keys (table_places old.added)) key).0 (in-keys ∙ there))))
+        | inr (f, last) ↦
+            ap place_keys is ∙ map-append (λ p. p.key) (table_places old.added) (record { number = number; key = key } ∷ [])
+            ∙ ap (λ v. v ++ key ∷ []) h.others ∙ sym (ap (filter (is_new rows)) last ∙ filtered true new)
+      ]
+    ];
+  }
     where
       new : is_new rows key ≡ true
       new = elim (cases_Bool (is_member bytes_eq (row_keys rows) key)) [
@@ -207,27 +203,11 @@ module _ (first old : Comparison) (findings : List Finding) (number : ℕ) (key 
         | inr absent ↦ ap not absent
       ]
 
-      in-keys : is_member bytes_eq (place_keys (table_places old.added)) key ≡ is_member bytes_eq took.keys key
+      in-keys : is_member bytes_eq (place_keys (table_places old.added)) key ≡ is_member bytes_eq h.keys key
       in-keys =
-          ap (λ v. is_member bytes_eq v key) took.others
-          ∙ is_member-filter nat_list_eq_equiv (is_new rows) key (λ x same. ap (is_new rows) ((bytes_eq-Decides key x).0 same)) took.keys
-          ∙ ap (λ b. is_member bytes_eq took.keys key && b) new ∙ and-true (is_member bytes_eq took.keys key)
-
--- a malformed escape
-pub took-escape : (c : Comparison) (escape : MalformedEscape) (x : List ℕ) → Takes HasCompared c (found_escape escape x) c
-took-escape c escape x = λ first findings took.
-    let same : found_pairs (findings ++ found_escape escape x ∷ []) ≡ found_pairs findings =
-        pairs-append findings (found_escape escape x ∷ []) ∙ append-nil (found_pairs findings) in
-    record {
-      same = took.same;
-      table = took.table;
-      apart = took.apart;
-      states = took.states ∙ sym (ap (states_by (rows_of c.old)) same);
-      keys = took.keys;
-      are = subst (λ es. AreFirstOf (pair_keys es) took.keys) (sym same) took.are;
-      added = took.added;
-      others = took.others;
-    }
+          ap (λ v. is_member bytes_eq v key) h.others
+          ∙ is_member-filter nat_list_eq_equiv (is_new rows) key (λ x same. ap (is_new rows) ((bytes_eq-Decides key x).0 same)) h.keys
+          ∙ ap (λ b. is_member bytes_eq h.keys key && b) new ∙ and-true (is_member bytes_eq h.keys key)
 
 -- ---- what is counted
 
@@ -244,21 +224,13 @@ alike p q same [] = refl
 alike p q same (key ∷ keys) =
     sum_by-cons (λ k. cond (p k) 1 0) key keys ∙ ap₂ (λ b n. cond b 1 0 + n) (same key) (alike p q same keys) ∙ sym (sum_by-cons (λ k. cond (q k) 1 0) key keys)
 
-changed-state : (old : List ℕ) (new : Option (List ℕ)) → has_changed (state_of old new) ≡ is_changed (Some old) new
-changed-state old None = refl
-changed-state old (Some new) = of (bytes_eq old new)
+states-tell : (old : List ℕ) (new : Option (List ℕ)) → (has_changed (state_of old new) ≡ is_changed (Some old) new) × (is_gone (state_of old new) ≡ is_none new)
+states-tell old None = (refl, refl)
+states-tell old (Some new) = of (bytes_eq old new)
   where
-    of : (b : Bool) → has_changed (if b then Same else Changed) ≡ not b
-    of true = refl
-    of false = refl
-
-gone-state : (old : List ℕ) (new : Option (List ℕ)) → is_gone (state_of old new) ≡ is_none new
-gone-state old None = refl
-gone-state old (Some new) = of (bytes_eq old new)
-  where
-    of : (b : Bool) → is_gone (if b then Same else Changed) ≡ false
-    of true = refl
-    of false = refl
+    of : (b : Bool) → (has_changed (if b then Same else Changed) ≡ not b) × (is_gone (if b then Same else Changed) ≡ false)
+    of true = (refl, refl)
+    of false = (refl, refl)
 
 -- A key of no row has no value.
 valued : (pairs : List Entry) (rows : List Row) (key : List ℕ) → AreKeys pairs (row_keys rows) → is_new rows key ≡ is_none (value_in pairs key)
@@ -274,8 +246,9 @@ valued pairs rows key are = of (value_in pairs key) (value_in-meets pairs key)
     of (Some value) last = ap not ((member (row_keys rows) key).1 ((are.each key).1 (value, last)))
 
 module _ (e : Encoding) (source bytes : List ℕ) (sound : IsSound e source) (sound' : IsSound e bytes) (first c : Comparison) (findings : List Finding)
-    (had : HasRows e source (rows_of first.old)) (are : AreFindings e bytes findings) (took : HasCompared first findings c) (counts : Counts)
-    (tally : AreCounted c counts) where
+    (had : HasRows e source (rows_of first.old)) (are : AreFindings e bytes findings) (took : HasCompared first (found_pairs findings) c) (counts : Counts)
+    (changed : counts.changed ≡ count_by has_changed c.states.items) (added : counts.added ≡ length (table_places c.added))
+    (removed : counts.removed ≡ count_by is_gone c.states.items) where
   abbrev olds : List Row
   olds = rows_of c.old
 
@@ -318,10 +291,10 @@ module _ (e : Encoding) (source bytes : List ℕ) (sound : IsSound e source) (so
     new = new;
     were = λ key. record { in_comments = sound.in_comments; pairs = held.pairs; are = held.are; is = value_in-meets held.pairs key };
     are = λ key. record { in_comments = sound'.in_comments; pairs = read.0; are = read.1; is = value_in-meets read.0 key };
-    changed = tally.changed ∙ counted-by has_changed (λ key. is_changed (old key) (new key))
-        (λ i d l. changed-state (get_or olds i d).value (new (get_or olds i d).key) ∙ ap (λ v. is_changed v (new (get_or olds i d).key)) (sym (has-value i d l)));
+    changed = changed ∙ counted-by has_changed (λ key. is_changed (old key) (new key))
+        (λ i d l. (states-tell (get_or olds i d).value (new (get_or olds i d).key)).0 ∙ ap (λ v. is_changed v (new (get_or olds i d).key)) (sym (has-value i d l)));
     added =
-        tally.added ∙ sym (length-map (table_places c.added) (λ p. p.key)) ∙ ap length took.others ∙ length-filter (is_new olds) took.keys
+        added ∙ sym (length-map (table_places c.added) (λ p. p.key)) ∙ ap length took.others ∙ length-filter (is_new olds) took.keys
         ∙ alike (is_new olds) (λ key. is_none (old key)) (λ key. valued held.pairs olds key held.have.keys) took.keys;
-    removed = tally.removed ∙ counted-by is_gone (λ key. is_none (new key)) (λ i d l. gone-state (get_or olds i d).value (new (get_or olds i d).key));
+    removed = removed ∙ counted-by is_gone (λ key. is_none (new key)) (λ i d l. (states-tell (get_or olds i d).value (new (get_or olds i d).key)).1);
   }

@@ -1,12 +1,13 @@
 // How many pairs a change of a source changed, added and removed.
 
-ghost use Rattle.std.specs.Prelude.{◌≡◌, Some};
+ghost use Rattle.std.specs.Prelude.{◌≡◌, Some, count_by, length};
 ghost use Rattle.std.specs.Str.{chars};
 ghost use Rattle.properties_text.specs.Encoding.{encoding_of};
-ghost use Rattle.properties_tables.specs.Private.Table.{rows_of, FindsKey, IsTable};
+ghost use Rattle.properties_tables.specs.Private.Fold.{found_pairs};
+ghost use Rattle.properties_tables.specs.Private.Table.{rows_of, table_places, FindsKey, IsTable};
 ghost use Rattle.properties_tables.specs.Table.{row_keys};
 ghost use Rattle.properties_changing.specs.Counts.{pair_words, CountsChanges};
-ghost use Rattle.properties_changing.specs.Private.Counting.{state_of, AreCounted, HasCompared};
+ghost use Rattle.properties_changing.specs.Private.Counting.{has_changed, is_gone, state_of, HasCompared};
 
 use java_properties::{Encoding, MalformedEscape};
 use properties_tables::error::Failure;
@@ -80,7 +81,9 @@ pub(crate) struct Comparison {
 
 impl Comparison {
     fn counts(&self) -> Counts
-        ensures { AreCounted self.now result }
+        ensures changed { result.changed ≡ count_by has_changed self.now.states.items }
+        ensures added { result.added ≡ length (table_places self.now.added) }
+        ensures removed { result.removed ≡ count_by is_gone self.now.states.items }
     {
         let mut changed = 0;
         let mut removed = 0;
@@ -100,7 +103,7 @@ impl Comparison {
 }
 
 impl Taker for Comparison {
-    ghost took = { HasCompared };
+    ghost took = { λ first findings new. HasCompared first (found_pairs findings) new };
 
     #[inline(always)]
     fn pair(
@@ -155,7 +158,8 @@ fn find_near(table: &Table, row: usize, key: &str) -> Option<usize>
 
 impl fmt::Display for Counts {
     ghost use Rattle.std.specs.Prelude.{Some};
-    ghost use Rattle.properties_tables.specs.Private.Table.{rows_of, FindsKey, IsTable};
+    ghost use Rattle.properties_tables.specs.Private.Fold.{found_pairs};
+ghost use Rattle.properties_tables.specs.Private.Table.{rows_of, table_places, FindsKey, IsTable};
     ghost use Rattle.properties_tables.specs.Table.{row_keys};
     ghost use Rattle.properties_changing.specs.Counts.{count_words};
 

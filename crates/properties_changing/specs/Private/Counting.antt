@@ -1,11 +1,11 @@
 -- How the pairs of an old source are compared with those of a new one, as one after another comes.
-use Rattle.std.specs.Prelude.{◌≡◌, ◌≢◌, Bool, true, false, not, if◌then◌else◌, AllPairs, bytes_eq, count_by, List, ℕ, length, map, Option, Some, None}
+use Rattle.std.specs.Prelude.{◌≡◌, ◌≢◌, Bool, true, false, not, if◌then◌else◌, AllPairs, bytes_eq, List, ℕ, map, Option, Some, None}
 use Rattle.std.specs.{List.filter, Set.is_member}
 use Rattle.properties_format.specs.{Computed.Maps.AreFirstOf, Items.Entry}
 use Rattle.properties_format.proofs.{Keys.pair_keys, Maps.value_in}
-use Rattle.properties_tables.specs.{Private.Fold.found_pairs, Private.Fold.Finding, Table.row_keys, Table.Row}
+use Rattle.properties_tables.specs.Table.{row_keys, Row}
 use Rattle.properties_tables.specs.Private.Table.{place_keys, rows_of, table_places, IsKeyTable, IsTable}
-use Rattle.properties_changing.specs.declared.counts.{Comparison.Comparison, Counts.Counts, State.State}
+use Rattle.properties_changing.specs.declared.counts.{Comparison.Comparison, State.State}
 use Rattle.properties_changing.specs.declared.counts.State.TheVariants.{Gone, Same, Changed}
 
 -- what became of a pair with this value, if its key now has that one
@@ -22,13 +22,13 @@ abbrev pub is_new : List Row → List ℕ → Bool
 is_new rows key = not (is_member bytes_eq (row_keys rows) key)
 
 -- The rows are in the states that these pairs make, and the other keys of the pairs are added.
-pub record HasCompared (first : Comparison) (findings : List Finding) (new : Comparison) : Type 0 where
+pub record HasCompared (first : Comparison) (pairs : List Entry) (new : Comparison) : Type 0 where
   pub same : new.old ≡ first.old
   pub table : IsTable new.old
   pub apart : AllPairs (λ k l. k ≢ l) (row_keys (rows_of new.old))
-  pub states : new.states.items ≡ states_by (rows_of new.old) (found_pairs findings)
+  pub states : new.states.items ≡ states_by (rows_of new.old) pairs
   pub keys : List (List ℕ)
-  pub are : AreFirstOf (pair_keys (found_pairs findings)) keys
+  pub are : AreFirstOf (pair_keys pairs) keys
   pub added : IsKeyTable new.added
   pub others : place_keys (table_places new.added) ≡ filter (is_new (rows_of new.old)) keys
 
@@ -39,9 +39,3 @@ has_changed state = false
 abbrev pub is_gone : State → Bool
 is_gone Gone = true
 is_gone state = false
-
--- So many rows are in each state, and so many keys are added.
-pub record AreCounted (c : Comparison) (counts : Counts) : Type 0 where
-  pub changed : counts.changed ≡ count_by has_changed c.states.items
-  pub added : counts.added ≡ length (table_places c.added)
-  pub removed : counts.removed ≡ count_by is_gone c.states.items

@@ -1,6 +1,11 @@
+use Rattle.std.proofs.Common.{[], ◌∷◌, append-nil, subst, sym, ◌∙◌}
 use Rattle.std.specs.Str.{chars}
-use Rattle.properties_changing.proofs.Counting.{took-escape}
+use Rattle.properties_tables.specs.Private.Fold.{found_escape, found_pairs}
+use Rattle.properties_tables.proofs.SourceFindings.{pairs-append}
+use Rattle.properties_changing.specs.Private.Counting.{HasCompared}
 use Rattle.properties_changing.proofs.counts.ComparisonTaker.malformed.Goals as goal
 
 pub returns : goal.returns
-returns c = took-escape c.args.self.now c.args._escape (chars c.args._line.now)
+returns c = λ first findings took.
+    let same = pairs-append findings (found_escape c.args._escape (chars c.args._line.now) ∷ []) ∙ append-nil (found_pairs findings) in
+    subst (λ pairs. HasCompared first pairs c.args.self.now) (sym same) took
