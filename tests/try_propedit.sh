@@ -308,7 +308,7 @@ gives 1 '80\n' ''
 is_refused "the KEY 'app.properties' is the name of a file; '-f app.properties' reads it, and '-f -' standard input" \
     'Usage: propedit get [OPTION ..] KEY ..' -d 8080 get port app.properties
 run -d 8080 get app.properties port
-gives 0 '8080\n80\n' ''
+gives 0 '8080\n80\n' "propedit: no pair has the key 'app.properties'; a file is named by -f\n"
 run -d 8080 get port folder
 gives 0 '80\n8080\n' ''
 run -d 8080 -f - get port app.properties

@@ -80,6 +80,7 @@ pub struct Row {
 }
 
 impl Row {
+    /// Returns a row of which no line was read.
     pub fn new(alloc: Global) -> Row {
         Row {
             alloc,

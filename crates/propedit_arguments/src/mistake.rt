@@ -170,8 +170,8 @@ pub enum Mistake<'a> {
     OptionForKeyOf(&'a str, &'static CommandRow),
     /// This key of `get` is the name of a file, and a default would hide it.
     FileAsKey(&'a str),
-    /// The file of this name was to be merged, and is in this format.
-    OtherFormat(&'a str, OtherFormat),
+    /// The file of this path, or standard input, was to be merged, and is in this format.
+    OtherFormat(Option<&'a str>, OtherFormat),
     /// The key and the value of a setting both look like NAME=TEXT.
     TwoAssignments(&'a str, &'a str),
     /// The key of a setting, which has this value, is empty, or ends in what ends a key in a file.
@@ -344,7 +344,7 @@ impl fmt::Display for Mistake<'_> {
             Mistake::OptionForKey(row) => show_option_for_key(f, row),
             Mistake::OptionForKeyOf(key, row) => show_option_for_key_of(f, key, row),
             Mistake::FileAsKey(name) => show_file_as_key(f, name),
-            Mistake::OtherFormat(name, format) => show_other_format(f, name, format),
+            Mistake::OtherFormat(path, format) => show_other_format(f, path, format),
             Mistake::TwoAssignments(key, value) => show_two_assignments(f, key, value),
             Mistake::OddKey(key, value) => {
                 let setting = |key| Shown("set", key, Some(value));

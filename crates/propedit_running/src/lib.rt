@@ -11,7 +11,7 @@ use crate::notes::{edit, lacks_file};
 use counted_io::{Counted, CountedWrite};
 pub use input::StandardInput;
 use propedit_arguments::mistake::{Mistake, NoRequest};
-use propedit_arguments::other_format::other_format;
+use propedit_arguments::other_format::{other_format, path};
 use propedit_arguments::parse::explain_mistake;
 use propedit_arguments::{asked_for, explain, explain_not_utf_8, marked_words};
 use properties_tools::propedit::answers::name;
@@ -102,11 +102,15 @@ fn file_to_merge<E: CountedWrite>(
     let source = &asked.pairs;
     let mut input = opened_or_explain(rt, standard, source, errors)?;
     let file = read_or_explain(rt, source, asked.encoding, &mut input, errors)?;
-    if asked.is_judged
-        && let Some(format) = other_format(source, &file)
-    {
-        let mistake = Mistake::OtherFormat(name(source), format);
-        return Err(explain_mistake(rt.alloc(), mistake, errors));
+    if asked.is_judged {
+        match other_format(rt.alloc(), source, &file) {
+            Ok(None) => {}
+            Ok(Some(format)) => {
+                let mistake = Mistake::OtherFormat(path(source), format);
+                return Err(explain_mistake(rt.alloc(), mistake, errors));
+            }
+            Err(_error) => return Err(print_out_of_memory(errors)),
+        }
     }
     if asked.edits.latin_1 && asked.form == Form::Properties {
         print_misread(rt.alloc(), errors, name(source), &file);

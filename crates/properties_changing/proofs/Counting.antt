@@ -155,7 +155,8 @@ module _ (first old : Comparison) (pairs : List Entry) (number : ℕ) (key value
     same = h.same;
     table = h.table;
     apart = h.apart;
-    states = sets ∙ ap (λ v. set v row (state_of (get_or rows row no_row).value (Some value))) h.states ∙ states-set rows pairs number key value row h.apart found;
+    states = sets ∙ ap (λ v. set v row (state_of (get_or rows row no_row).value (Some value))) h.states
+        ∙ states-set rows pairs number key value row h.apart found;
     keys = next.0;
     are = next.1;
     added = h.added;
@@ -189,7 +190,8 @@ module _ (first old : Comparison) (pairs : List Entry) (number : ℕ) (key value
           ]
       | inr (absent, at, is) ↦ elim next.2 [
         | inl (there, is) ↦
-            absurd (no-both key (place_keys (table_places old.added)) absent (contained key _ ((member (place_keys (table_places old.added)) key).0 (in-keys ∙ there))))
+            absurd (no-both key (place_keys (table_places old.added)) absent
+            (contained key _ ((member (place_keys (table_places old.added)) key).0 (in-keys ∙ there))))
         | inr (f, last) ↦
             ap place_keys is ∙ map-append (λ p. p.key) (table_places old.added) (record { number = number; key = key } ∷ [])
             ∙ ap (λ v. v ++ key ∷ []) h.others ∙ sym (ap (filter (is_new rows)) last ∙ filtered true new)
@@ -266,7 +268,8 @@ module _ (e : Encoding) (source bytes : List ℕ) (sound : IsSound e source) (so
 
   has-value : All (λ r. old r.key ≡ Some r.value) olds
   has-value = All-weaker (IsRow held.pairs) (λ r. old r.key ≡ Some r.value) (λ r is. sym (value_in-only held.pairs r.key (Some r.value)
-      (record { before = is.last.before; number = r.last; after = is.last.after; division = is.last.division; no_later = is.last.none_after }))) olds held.have.each
+      (record { before = is.last.before; number = r.last; after = is.last.after; division = is.last.division; no_later = is.last.none_after })))
+      olds held.have.each
 
   states : c.states.items ≡ map (λ r. state_of r.value (new r.key)) olds
   states = took.states ∙ ap (states_by olds) read.2
@@ -292,7 +295,8 @@ module _ (e : Encoding) (source bytes : List ℕ) (sound : IsSound e source) (so
     were = λ key. record { in_comments = sound.in_comments; pairs = held.pairs; are = held.are; is = value_in-meets held.pairs key };
     are = λ key. record { in_comments = sound'.in_comments; pairs = read.0; are = read.1; is = value_in-meets read.0 key };
     changed = changed ∙ counted-by has_changed (λ key. is_changed (old key) (new key))
-        (λ i d l. (states-tell (get_or olds i d).value (new (get_or olds i d).key)).0 ∙ ap (λ v. is_changed v (new (get_or olds i d).key)) (sym (has-value i d l)));
+        (λ i d l. (states-tell (get_or olds i d).value (new (get_or olds i d).key)).0
+        ∙ ap (λ v. is_changed v (new (get_or olds i d).key)) (sym (has-value i d l)));
     added =
         added ∙ sym (length-map (table_places c.added) (λ p. p.key)) ∙ ap length took.others ∙ length-filter (is_new olds) took.keys
         ∙ alike (is_new olds) (λ key. is_none (old key)) (λ key. valued held.pairs olds key held.have.keys) took.keys;

@@ -158,9 +158,6 @@ fn find_near(table: &Table, row: usize, key: &str) -> Option<usize>
 
 impl fmt::Display for Counts {
     ghost use Rattle.std.specs.Prelude.{Some};
-    ghost use Rattle.properties_tables.specs.Private.Fold.{found_pairs};
-ghost use Rattle.properties_tables.specs.Private.Table.{rows_of, table_places, FindsKey, IsTable};
-    ghost use Rattle.properties_tables.specs.Table.{row_keys};
     ghost use Rattle.properties_changing.specs.Counts.{count_words};
 
     ghost output = { λ counts. Some (count_words counts) };

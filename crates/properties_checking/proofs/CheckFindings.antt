@@ -14,7 +14,7 @@ use Rattle.properties_checking.specs.{declared.misread.Misread.Misread, declared
 use Rattle.properties_checking.specs.{declared.check.FindingKind.TheVariants.Misread as MisreadKind, declared.request.Allowed.Allowed}
 use Rattle.properties_checking.specs.{declared.request.Allowed.TheVariants.All, declared.request.Allowed.TheVariants.Latin1}
 use Rattle.properties_checking.specs.declared.request.Allowed.TheVariants.{Ascii}
-use Rattle.properties_checking.specs.Misread.{last_number, lines_of_pairs, misread_at, misread_end, misread_mark, AreMisread, AreMisreadEnds}
+use Rattle.properties_checking.specs.Misread.{last_number, lines_of_pairs, misread_at, misread_end, AreMisread, AreMisreadEnds}
 
 abbrev otherwise_said : ℕ → ℕ → SaidFinding
 otherwise_said byte = said (is_read_otherwise byte)
@@ -64,7 +64,7 @@ module _ (P : List KeyPlace) where
   said-bytes Latin1 e source fs h = with-bytes e source (other_bytes 0x80 windows_1252_table) fs h
   said-bytes Ascii e source fs h = ap (map (said_of P)) h
 
-  misread-said-at : (number : ℕ) (misread : Option Misread)
+  pub misread-said-at : (number : ℕ) (misread : Option Misread)
       → map (said_of P) (misread_at misread_finding number misread) ≡ misread_at misread_said number misread
   misread-said-at number None = refl
   misread-said-at number (Some misread) = refl
@@ -90,21 +90,16 @@ module _ (P : List KeyPlace) where
 
   said-misread : (e : Encoding) (source : List ℕ) (fs : List Finding) → AreMisread misread_finding e source fs
       → AreMisread misread_said e source (map (said_of P) fs)
-  said-misread e source fs h =
-      let mark = misread_at misread_finding 1 (misread_mark source) in
-      let inside = map (misread_finding MarkInside) h.inside in
-      record {
-        inside = h.inside;
-        are_inside = h.are_inside;
-        ends = map (said_of P) h.ends;
-        are_ends = said-ends e source h.ends h.are_ends;
-        is =
-            ap (map (said_of P)) h.is
-            ∙ map-append (said_of P) mark (inside ++ h.ends)
-            ∙ ap (λ v. v ++ map (said_of P) (inside ++ h.ends)) (misread-said-at 1 (misread_mark source))
-            ∙ ap (λ v. misread_at misread_said 1 (misread_mark source) ++ v)
-            (map-append (said_of P) inside h.ends ∙ ap (λ v. v ++ map (said_of P) h.ends) (said-all (MisreadKind MarkInside) h.inside));
-      }
+  said-misread e source fs h = record {
+    inside = h.inside;
+    are_inside = h.are_inside;
+    ends = map (said_of P) h.ends;
+    are_ends = said-ends e source h.ends h.are_ends;
+    is =
+        ap (map (said_of P)) h.is
+        ∙ map-append (said_of P) (map (misread_finding MarkInside) h.inside) h.ends
+        ∙ ap (λ v. v ++ map (said_of P) h.ends) (said-all (MisreadKind MarkInside) h.inside);
+  }
 
   pub said-otherwise : (allowed : Allowed) (e : Encoding) (source : List ℕ) (fs : List Finding)
       → AreOtherwise misread_finding otherwise_finding allowed e source fs
@@ -130,17 +125,20 @@ module _ (P : List KeyPlace) where
 
   -- ---- all of them
 
-  pub said-parts : (a b c d e f g : List Finding) (a' b' c' d' e' f' g' : List SaidFinding) → map (said_of P) a ≡ a' → map (said_of P) b ≡ b'
-      → map (said_of P) c ≡ c' → map (said_of P) d ≡ d' → map (said_of P) e ≡ e' → map (said_of P) f ≡ f' → map (said_of P) g ≡ g'
-      → map (said_of P) (a ++ (b ++ (c ++ (d ++ (e ++ (f ++ g)))))) ≡ a' ++ (b' ++ (c' ++ (d' ++ (e' ++ (f' ++ g')))))
-  said-parts a b c d e f g a' b' c' d' e' f' g' ha hb hc hd he hf hg =
+  pub said-parts : (m a b c d e f g : List Finding) (m' a' b' c' d' e' f' g' : List SaidFinding) → map (said_of P) m ≡ m' → map (said_of P) a ≡ a'
+      → map (said_of P) b ≡ b' → map (said_of P) c ≡ c' → map (said_of P) d ≡ d' → map (said_of P) e ≡ e' → map (said_of P) f ≡ f'
+      → map (said_of P) g ≡ g' → map (said_of P) (m ++ (a ++ (b ++ (c ++ (d ++ (e ++ (f ++ g)))))))
+      ≡ m' ++ (a' ++ (b' ++ (c' ++ (d' ++ (e' ++ (f' ++ g'))))))
+  said-parts m a b c d e f g m' a' b' c' d' e' f' g' hm ha hb hc hd he hf hg =
       rw (
+        map-append (said_of P) m (a ++ (b ++ (c ++ (d ++ (e ++ (f ++ g)))))),
         map-append (said_of P) a (b ++ (c ++ (d ++ (e ++ (f ++ g))))),
         map-append (said_of P) b (c ++ (d ++ (e ++ (f ++ g)))),
         map-append (said_of P) c (d ++ (e ++ (f ++ g))),
         map-append (said_of P) d (e ++ (f ++ g)),
         map-append (said_of P) e (f ++ g),
         map-append (said_of P) f g,
+        hm,
         ha,
         hb,
         hc,

@@ -25,7 +25,7 @@ use Rattle.properties_tables.specs.Failures.{ill_formed_words, ill_formed_by_mar
 use Rattle.properties_tables.specs.Lines.{starts_with_bom, AreFlawedLines, IsFirstFlawed, IsFirstUtf8}
 use Rattle.properties_checking.specs.JsonLines.{text_value, IsReportText}
 use Rattle.properties_checking.specs.Kinds.{kind_name, reported}
-use Rattle.properties_checking.specs.Misread.{misread_kind, misread_words, AreMisread}
+use Rattle.properties_checking.specs.Misread.{misread_at, misread_kind, misread_mark, misread_words, AreMisread}
 use Rattle.properties_tables.specs.Sources.{is_in_utf_16}
 use Rattle.properties_checking.specs.declared.check.Words.{Words}
 use Rattle.properties_checking.specs.declared.check.Words.TheVariants.{WithEncoding, WithByteOrderMark, NotUtf8, NotUtf16}
@@ -40,7 +40,7 @@ use Rattle.properties_checking.specs.declared.request.Check.{Check}
 -- ---- what is reported
 
 -- What is wrong: U+0000; an ill-formed line, with these words; UTF-8 that is read as windows-1252; a non-ASCII character; this
--- byte, which ISO 8859-1 reads otherwise; what Java reads otherwise; a malformed escape, perhaps in a comment; this key, which
+-- byte, which ISO 8859-1 reads differently; what Java reads differently; a malformed escape, perhaps in a comment; this key, which
 -- a pair in this line has.
 pub data What : Type 0 where
   holds_zero : What
@@ -135,17 +135,19 @@ repeats_of is_well_formed k =
     if not is_well_formed && has_replacement k.key then [] else
     said (repeats_key k.key k.first) k.number ∷ []
 
--- the findings on this line with U+0000, these ill-formed lines, this line that looks like UTF-8, these lines that
--- aren't ASCII, bytes that are read otherwise, escapes and keys, one kind after another
-abbrev pub all_said : Words → Option ℕ → List ℕ → Option ℕ → List ℕ → List SaidFinding → List MalformedEscape → List KeyEntry → List SaidFinding
-all_said words zero numbers utf_8 refused otherwise escapes keys =
-    first_of (said holds_zero) zero
+-- the findings on this mark at the front, this line with U+0000, these ill-formed lines, this line that looks like
+-- UTF-8, these lines that aren't ASCII, bytes that are read differently, escapes and keys, one kind after another
+abbrev pub all_said : Option Misread → Words → Option ℕ → List ℕ → Option ℕ → List ℕ → List SaidFinding → List MalformedEscape → List KeyEntry
+    → List SaidFinding
+all_said mark words zero numbers utf_8 refused otherwise escapes keys =
+    misread_at (λ m. said (is_misread m)) 1 mark
+    ++ (first_of (said holds_zero) zero
     ++ (ill_formed_of (λ w. said (is_ill_formed w)) words numbers
     ++ (first_of (said looks_like_utf_8) utf_8
     ++ (map (said is_non_ascii) refused
     ++ (otherwise
     ++ (map (λ escape. said (is_malformed escape.kind escape.in_comment) escape.line_number) escapes
-    ++ flat_map (repeats_of (length numbers == 0)) keys)))))
+    ++ flat_map (repeats_of (length numbers == 0)) keys))))))
 
 -- They are in the order of their lines, and those of one line in the order that they have in the others.
 pub record ArrangesByLine (all arranged : List SaidFinding) : Type 0 where
@@ -199,7 +201,7 @@ module _ {X : Type 0} (of : ℕ → ℕ → X) where
   AreOtherBytes Latin1 e source findings = AreWithBytes e source (other_bytes 0x80 windows_1252_table) findings
   AreOtherBytes other e source findings = findings ≡ []
 
--- These are the findings on what Java reads otherwise than people think, and on bytes that aren't allowed.
+-- These are the findings on what Java reads differently than people think, and on bytes that aren't allowed.
 pub record AreOtherwise {X : Type 0} (of : Misread → ℕ → X) (of_byte : ℕ → ℕ → X) (allowed : Allowed) (e : Encoding) (source : List ℕ) (findings : List X)
     : Type 0 where
   pub misread : List X
@@ -208,10 +210,10 @@ pub record AreOtherwise {X : Type 0} (of : Misread → ℕ → X) (of_byte : ℕ
   pub are_bytes : AreOtherBytes of_byte allowed e source bytes
   pub is : findings ≡ misread ++ bytes
 
--- The text has, in the form that is asked for, the first line of a source with U+0000, its ill-formed lines, its first
--- non-ASCII line if it is UTF-8 that is read as windows-1252, its well-formed lines with a character that isn't allowed, what
--- Java reads otherwise, its malformed escapes and its repeated keys, in the order of the lines, but for those of kinds that are
--- ignored.
+-- The text has, in the form that is asked for, the mark at the front of a source that Java reads as text, its first line with
+-- U+0000, its ill-formed lines, its first non-ASCII line if it is UTF-8 that is read as windows-1252, its well-formed lines with
+-- a character that isn't allowed, what else Java reads differently, its malformed escapes and its repeated keys, in the order of
+-- the lines, but for those of kinds that are ignored.
 pub record IsReport (name : List ℕ) (e : Encoding) (check : Check) (source text : List ℕ) : Type 0 where
   pub zero : Option ℕ
   pub is_zero : IsFirstFlawed flaw.Zero e source zero
@@ -229,7 +231,7 @@ pub record IsReport (name : List ℕ) (e : Encoding) (check : Check) (source tex
   pub are_keys : AreKeyLines e source keys
   pub all : List SaidFinding
   pub arranged : ArrangesByLine
-      (all_said (first_words e source (is_some zero)) zero numbers utf_8 refused otherwise (escape_records escapes) keys) all
+      (all_said (misread_mark source) (first_words e source (is_some zero)) zero numbers utf_8 refused otherwise (escape_records escapes) keys) all
   pub is : IsReportText check.report (said_line name) (said_value name) (reported check.ignored (λ s. finding_kind s.what) all) text
 
 -- What reporting returns. It fails only if memory runs out.

@@ -1,4 +1,4 @@
--- What Java reads otherwise than people think.
+-- What Java reads differently than people think.
 -- Source: java.util.Properties of Java SE 7, load; The Unicode Standard, section 23.8 (byte order marks).
 use Rattle.std.specs.Prelude.{◌≡◌, ℕ, ◌==◌, ◌-◌, ◌&&◌, Bool, false, if◌then◌else◌, List, [], ◌∷◌, ◌++◌, reverse, Option, Some, None, codes, map}
 use Rattle.std.specs.List.{flat_map}
@@ -79,11 +79,11 @@ module _ {X : Type 0} (of : Misread → ℕ → X) where
     pub is : findings ≡
         flat_map (λ l. misread_at l.number (misread_end l.text (l.number == last_number (lines_in groups)))) (lines_of_pairs groups)
 
-  -- These are the findings on what Java reads otherwise in a source: on its front, which is in line 1, on the lines
-  -- with U+FEFF, and on the ends of lines.
+  -- These are the findings on what Java reads differently in a source, after a mark at its front: on the lines with
+  -- U+FEFF, and on the ends of lines.
   pub record AreMisread (e : Encoding) (source : List ℕ) (findings : List X) : Type 0 where
     pub inside : List ℕ
     pub are_inside : AreFlawedLines flaw.MarkInside e source inside
     pub ends : List X
     pub are_ends : AreMisreadEnds e source ends
-    pub is : findings ≡ misread_at 1 (misread_mark source) ++ (map (of MarkInside) inside ++ ends)
+    pub is : findings ≡ map (of MarkInside) inside ++ ends

@@ -15,7 +15,7 @@ ghost use Rattle.properties_tables.specs.Private.Table.{table_places, IsKeyTable
 use crate::check_json::push_value;
 use crate::kinds::{Ignored, Kind};
 use crate::line_findings::line_findings;
-use crate::misread::{Misread, find_misread};
+use crate::misread::{Misread, find_misread, misread_mark, push_misread};
 use crate::request::{Allowed, Check, Report};
 use java_properties::{Encoding, MalformedEscape, PropertiesError};
 use properties_tables::error::{HOLDS_ZERO, NOT_UTF_8, NOT_UTF_8_BY_MARK, NOT_UTF_16};
@@ -71,14 +71,14 @@ pub(crate) enum Words {
     NotUtf16,
 }
 
-/// Returns what is wrong in a source, a line or a JSON object for each finding, in the order of the source's lines: the
-/// first line with U+0000, if UTF-8 is in force without a byte order mark; the lines that are ill-formed in the
-/// encoding in force; the first line with a non-ASCII character, if windows-1252 is in force though the source is
-/// well-formed UTF-8; the well-formed lines with a non-ASCII character, if only ASCII is allowed; a byte order mark of
-/// UTF-8 or UTF-32 at the front, and in UTF-8 and UTF-16 each line with U+FEFF; the lines, except comment lines, that
-/// end in a backslash and blanks, and the last line if it ends in a backslash; each byte of a line that ISO 8859-1
-/// reads as another character, if that isn't allowed and windows-1252 is in force; malformed escapes; and pairs that
-/// repeat a key. Omits findings of kinds that are ignored. The text is empty if nothing is left. Fails only if memory
+/// Returns what is wrong in a source, a line or a JSON object for each finding, in the order of the source's lines: a
+/// byte order mark of UTF-8 or UTF-32 at the front; the first line with U+0000, if UTF-8 is in force without a byte
+/// order mark; the lines that are ill-formed in the encoding in force; the first line with a non-ASCII character, if
+/// windows-1252 is in force though the source is well-formed UTF-8; the well-formed lines with a non-ASCII character,
+/// if only ASCII is allowed; in UTF-8 and UTF-16 each line with U+FEFF; the lines, except comment lines, that end in a
+/// backslash and blanks, and the last line if it ends in a backslash; each byte of a line that ISO 8859-1 reads as
+/// another character, if that isn't allowed and windows-1252 is in force; malformed escapes; and pairs that repeat a
+/// key. Omits findings of kinds that are ignored. The text is empty if nothing is left. Fails only if memory
 /// runs out. Whether the check is quiet is the caller's concern.
 ///
 /// If a line is ill-formed, a key with U+FFFD repeats no other, since that character may stand for any bytes.
@@ -133,6 +133,7 @@ pub fn checked(
 {
     let numbers = ill_formed_lines(alloc, source, encoding)?;
     let mut findings = Vec::new(alloc);
+    push_misread(&mut findings, 1, misread_mark(source))?;
     let zero = first_flawed_line(source, encoding, Flaw::Zero);
     push_first(&mut findings, zero, FindingKind::HoldsZero)?;
     let words = words_for(source, encoding, zero.is_some());
@@ -257,7 +258,7 @@ fn refused_lines(
     }
 }
 
-// Returns what Java reads otherwise: than people think, and of bytes that aren't allowed, than windows-1252 has it.
+// Returns what Java reads differently: than people think, and of bytes that aren't allowed, than windows-1252 has it.
 fn read_otherwise(
     alloc: Global,
     source: &[u8],
@@ -272,7 +273,7 @@ fn read_otherwise(
     Ok(findings)
 }
 
-// Returns the lines with bytes that ISO 8859-1 reads otherwise, byte by byte, if these aren't allowed.
+// Returns the lines with bytes that ISO 8859-1 reads differently, byte by byte, if these aren't allowed.
 fn other_bytes(
     alloc: Global,
     source: &[u8],

@@ -1,4 +1,4 @@
-//! What is wrong in a `.properties` source: lines that are ill-formed or read otherwise than people think, malformed
+//! What is wrong in a `.properties` source: lines that are ill-formed or read differently than people think, malformed
 //! escapes, and keys that come twice.
 //!
 //! [`check::report`] returns a line, or a JSON object on a line, for each finding.

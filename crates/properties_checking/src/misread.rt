@@ -1,4 +1,4 @@
-// What Java reads otherwise than people think.
+// What Java reads differently than people think.
 
 ghost use Rattle.std.specs.Prelude.{◌≡◌, ◌++◌, OnOk};
 ghost use Rattle.properties_text.specs.Encoding.{encoding_of};
@@ -13,7 +13,7 @@ use properties_tables::error::UTF_32_MARK;
 use properties_tables::ill_formed::{Flaw, flawed_lines, has_byte_order_mark, has_utf_32_mark};
 use std::alloc::{AllocError, Global};
 
-// What Java reads otherwise than people think.
+// What Java reads differently than people think.
 #[derive(Clone, Copy)]
 pub(crate) enum Misread {
     // The source begins with the byte order mark of UTF-8.
@@ -28,7 +28,7 @@ pub(crate) enum Misread {
     OpenAtEnd,
 }
 
-// Returns what Java reads otherwise than people think, kind by kind.
+// Returns what Java reads differently than people think, after a mark at the front, kind by kind.
 pub(crate) fn find_misread(
     alloc: Global,
     source: &[u8],
@@ -37,7 +37,6 @@ pub(crate) fn find_misread(
     ensures { FindsMisread (encoding_of encoding) source.now result }
 {
     let mut findings = Vec::new(alloc);
-    push_misread(&mut findings, 1, misread_mark(source))?;
     let numbers = flawed_lines(alloc, source, encoding, Flaw::MarkInside)?;
     push_all(
         &mut findings,
@@ -48,7 +47,7 @@ pub(crate) fn find_misread(
     Ok(findings)
 }
 
-// Adds what Java reads otherwise in the line with this number, if there is something.
+// Adds what Java reads differently in the line with this number, if there is something.
 pub(crate) fn push_misread(
     findings: &mut Vec<Finding>,
     line_number: usize,
@@ -65,8 +64,8 @@ pub(crate) fn push_misread(
     })?)
 }
 
-// Returns what Java reads otherwise at the front of a source.
-fn misread_mark(source: &[u8]) -> Option<Misread>
+// Returns what Java reads differently at the front of a source.
+pub(crate) fn misread_mark(source: &[u8]) -> Option<Misread>
     ensures { result ≡ misread_mark source.now }
 {
     if has_byte_order_mark(source) {

@@ -20,7 +20,7 @@ use properties_text::characters::{is_blank, is_comment_sign};
 use properties_text::encoding::byte_order_mark::encoding_in_force;
 use std::alloc::AllocError;
 
-/// Adds what Java reads otherwise than people think at the ends of lines that are no comment lines.
+/// Adds what Java reads differently than people think at the ends of lines that are no comment lines.
 pub(crate) fn push_ends(
     findings: &mut Vec<Finding>,
     source: &[u8],
@@ -61,7 +61,7 @@ fn next_line(scanner: &mut Scanner, body: &[u8]) -> Option<usize>
     }
 }
 
-// Returns what Java reads otherwise at the end of a line, and whether the next line continues it. Only a line that
+// Returns what Java reads differently at the end of a line, and whether the next line continues it. Only a line that
 // continues none can be a comment line. After the last one comes nothing, or an empty line.
 fn said_end(
     encoding: Encoding,

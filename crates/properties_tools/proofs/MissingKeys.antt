@@ -1,6 +1,6 @@
 -- The keys that one table has and another doesn't are those of its pairs that no pair of the other has.
-use Rattle.std.proofs.Common.{◌≡◌, ℕ, zero, suc, Bool, true, false, List, [], ◌∷◌, ◌++◌, refl, ap, sym, ◌∙◌, inl, inr, subst, arith, append_assoc}
-use Rattle.std.specs.Prelude.{◌&&◌, not, AllPairs, Contains, Option, Some, None, bytes_eq, filter, is_some, string_bytes}
+use Rattle.std.proofs.Common.{◌≡◌, ℕ, zero, suc, Bool, true, false, List, [], ◌∷◌, ◌++◌, refl, ap, sym, ◌∙◌, inl, inr, subst, arith, append_assoc, append-nil}
+use Rattle.std.specs.Prelude.{◌&&◌, ◌||◌, not, AllPairs, Contains, Option, Some, None, bytes_eq, filter, is_some, string_bytes}
 use Rattle.std.specs.{Global.Global, declared.string.String.String}
 use Rattle.std.proofs.lemmas.Bool.{cases_Bool, and_parts, not-true, not-false}
 use Rattle.std.proofs.lemmas.List.Elements.{All-contains, All-contains_itself, All-filter, filter_passes}
@@ -9,11 +9,11 @@ use Rattle.properties_format.specs.{Computed.Maps.HasNot, Items.Entry, Encoding.
 use Rattle.properties_format.specs.Maps.{AreKeys, HasNoPair, IsLastValue, PairComesBefore}
 use Rattle.properties_format.proofs.{Maps.value_in-only, Changed.Maps.other-test}
 use Rattle.java_properties.specs.Findings.{KeyPlace}
-use Rattle.properties_checking.specs.{Private.Checking.IsChecked, Private.Objects.AddsReport, Kinds.reported, declared.check.Reported.Reported}
+use Rattle.properties_checking.specs.{Check.IsReport, Private.Checking.IsChecked, Private.Objects.AddsReport, Kinds.reported, declared.check.Reported.Reported}
 use Rattle.properties_checking.specs.{declared.kinds.Kind.TheVariants.MissingKey, declared.kinds.Kind.TheVariants.SurplusKey, declared.request.Check.Check}
 use Rattle.properties_tools.specs.Private.Lacking.{is_among, is_lacking, lacking}
 use Rattle.properties_tables.specs.{Private.Table.table_places, Private.Table.FindsKey, Private.Table.HasPlaces, Table.IsFirstLine}
-use Rattle.properties_tables.specs.{SoundKeys.AreKeyedPairs, declared.key_table.KeyTable.KeyTable}
+use Rattle.properties_tables.specs.{Lines.starts_with_utf_32_mark, SoundKeys.AreKeyedPairs, declared.key_table.KeyTable.KeyTable}
 use Rattle.properties_tools.specs.Propedit.Against.{is_compared, keys_at, missing_line, missing_value, surplus_line, surplus_value, AreKeyPlaces, AreLacking, IsBaseOf, IsReportAgainst, KnownBase, TellsWellFormed}
 use Rattle.properties_tools.proofs.Differences.{no-value}
 
@@ -126,6 +126,18 @@ module _ (w : Bool) (pairs other : List Entry) (places : List KeyPlace) (keys : 
 
 -- ---- reports
 
+-- If one of the two is in UTF-32, nothing is compared.
+pub not-compared : (base : KnownBase) (name : List ℕ) (e : Encoding) (check : Check) (source report : List ℕ) → IsReport name e check source report
+    → (base.is_utf_32 || starts_with_utf_32_mark source) ≡ true → IsReportAgainst base name e check source report
+not-compared base name e check source report is_report unread = record {
+  report = report;
+  is_report = is_report;
+  compared = [];
+  if_read = λ read. let clash : true ≡ false = sym unread ∙ read in absurd (cc);
+  if_not = λ _. refl;
+  is = sym (append-nil report);
+}
+
 module _ (name : List ℕ) (e : Encoding) (check : Check) (source : List ℕ) (r : Reported) (h : IsChecked name e check source r)
     (keys : KeyTable) (places : HasPlaces (AreKeyedPairs e source) (table_places keys)) where
   told : TellsWellFormed e source r.is_well_formed
@@ -136,40 +148,47 @@ module _ (name : List ℕ) (e : Encoding) (check : Check) (source : List ℕ) (r
 
   -- what is kept of a base
   pub base-kept : (base : KnownBase) → base.name ≡ name → base.keys ≡ table_places keys → base.is_well_formed ≡ r.is_well_formed
-      → IsBaseOf name e source base
-  base-kept base named same well = record {
+      → base.is_utf_32 ≡ starts_with_utf_32_mark source → IsBaseOf name e source base
+  base-kept base named same well utf_32 = record {
     named = named;
     pairs = places.pairs;
     are = places.are;
     keys = subst (AreKeyPlaces places.pairs) (sym same) own;
     well_formed = subst (TellsWellFormed e source) (sym well) told;
+    utf_32 = utf_32;
   }
 
   -- the report against a base
-  pub said-against : (base : KnownBase) (w : Bool) (after all : String Global) → w ≡ (base.is_well_formed && r.is_well_formed)
+  pub said-against : (base : KnownBase) (w : Bool) (after all : String Global) → (base.is_utf_32 || starts_with_utf_32_mark source) ≡ false
+      → w ≡ (base.is_well_formed && r.is_well_formed)
       → AddsReport check.report (missing_line name base.name) (missing_value name base.name)
       (reported check.ignored (λ p. MissingKey) (lacking w (keys_at (table_places keys)) base.keys)) r.text after
       → AddsReport check.report (surplus_line name base.name) (surplus_value name base.name)
       (reported check.ignored (λ p. SurplusKey) (lacking w (keys_at base.keys) (table_places keys))) after all
       → IsReportAgainst base name e check source (string_bytes all)
-  said-against base w after all both h1 h2 = record {
+  said-against base w after all read both h1 h2 = record {
     report = string_bytes r.text;
     is_report = h.report;
-    pairs = places.pairs;
-    are = places.are;
-    is_well_formed = r.is_well_formed;
-    well_formed = told;
-    missing = lacking w (keys_at (table_places keys)) base.keys;
-    are_missing = λ base_pairs theirs.
-        subst (λ v. AreLacking v base_pairs places.pairs (lacking w (keys_at (table_places keys)) base.keys)) both
-        (lacking-are w base_pairs places.pairs base.keys (keys_at (table_places keys)) theirs places.keys);
-    surplus = lacking w (keys_at base.keys) (table_places keys);
-    are_surplus = λ base_pairs theirs.
-        subst (λ v. AreLacking v places.pairs base_pairs (lacking w (keys_at base.keys) (table_places keys))) both
-        (lacking-are w places.pairs base_pairs (table_places keys) (keys_at base.keys) own theirs.keys);
-    missing_text = h1.text;
-    tells_missing = h1.is_text;
-    surplus_text = h2.text;
-    tells_surplus = h2.is_text;
+    compared = h1.text ++ h2.text;
+    if_read = λ _. record {
+      pairs = places.pairs;
+      are = places.are;
+      is_well_formed = r.is_well_formed;
+      well_formed = told;
+      missing = lacking w (keys_at (table_places keys)) base.keys;
+      are_missing = λ base_pairs theirs.
+          subst (λ v. AreLacking v base_pairs places.pairs (lacking w (keys_at (table_places keys)) base.keys)) both
+          (lacking-are w base_pairs places.pairs base.keys (keys_at (table_places keys)) theirs places.keys);
+      surplus = lacking w (keys_at base.keys) (table_places keys);
+      are_surplus = λ base_pairs theirs.
+          subst (λ v. AreLacking v places.pairs base_pairs (lacking w (keys_at base.keys) (table_places keys))) both
+          (lacking-are w places.pairs base_pairs (table_places keys) (keys_at base.keys) own theirs.keys);
+      missing_text = h1.text;
+      tells_missing = h1.is_text;
+      surplus_text = h2.text;
+      tells_surplus = h2.is_text;
+      is = refl;
+    };
+    if_not = λ unread. let clash : true ≡ false = sym unread ∙ read in absurd (cc);
     is = h2.is ∙ ap (λ v. v ++ h2.text) h1.is ∙ append_assoc (string_bytes r.text) h1.text h2.text;
   }

@@ -1,8 +1,9 @@
 -- The findings of a check, as the code holds them.
 use Rattle.std.specs.Prelude.{◌≡◌, ◌⊎◌, None, ℕ, ◌==◌, ◌&&◌, not, Bool, if◌then◌else◌, get_or, length, List, [], ◌∷◌, Result, Ok, Err, string_bytes}
 use Rattle.std.specs.{Global.Vec, List.Sorted.IsNonDecreasingBy, List.Sorted.IsStableByKey, Ordering.nat_cmp}
-use Rattle.properties_format.specs.Encoding.{Encoding}
-use Rattle.java_properties.specs.{Findings.KeyPlace, Errors.IsBareError}
+use Rattle.properties_format.specs.{Encoding.Encoding, Found.AreMalformedEscapes}
+use Rattle.properties_format.specs.Found as format
+use Rattle.java_properties.specs.{Findings.escape_records, Findings.KeyPlace, Errors.IsBareError}
 use Rattle.properties_items.specs.{Errors.IsBareError, declared.error.PropertiesError.PropertiesError, declared.findings.MalformedEscape.MalformedEscape}
 use Rattle.properties_items.specs.declared.error.ErrorKind.TheVariants as kind
 use Rattle.properties_tables.specs.{Private.Table.table_places, Private.Table.HasPlaces, Private.Table.IsKeyTable, Lines.AreFlawedLines}
@@ -66,17 +67,20 @@ pub record ArrangesFindings (findings arranged : List Finding) : Type 0 where
   pub in_order : IsNonDecreasingBy (λ f. f.line_number) arranged
   pub stable : IsStableByKey (λ f. f.line_number) nat_cmp findings arranged
 
--- What finding what Java reads otherwise than people think returns. It fails only if memory runs out.
+-- What finding what Java reads differently than people think returns. It fails only if memory runs out.
 abbrev pub FindsMisread : Encoding → List ℕ → Result (Vec Finding) PropertiesError → Type 0
 FindsMisread e source (Ok findings) = AreMisread misread_finding e source findings.items
 FindsMisread e source (Err error) = IsBareError kind.Memory error
 
--- ---- a report, with the keys of the source
+-- ---- a report, with the keys of the source and its malformed escapes
 
 pub record IsChecked (name : List ℕ) (e : Encoding) (check : Check) (source : List ℕ) (c : Reported) : Type 0 where
   pub report : IsReport name e check source (string_bytes c.text)
   pub table : IsKeyTable c.keys
   pub places : first_in_pair c.escapes.items ≡ None → HasPlaces (AreKeyedPairs e source) (table_places c.keys)
+  pub malformed : List format.MalformedEscape
+  pub are_malformed : AreMalformedEscapes e source malformed
+  pub escapes : c.escapes.items ≡ escape_records malformed
   pub ill_formed : List ℕ
   pub are_ill_formed : AreFlawedLines flaw.IllFormed e source ill_formed
   pub well_formed : c.is_well_formed ≡ (length ill_formed == 0)
@@ -107,7 +111,7 @@ abbrev pub FindsOtherBytes : Allowed → Encoding → List ℕ → Result (Vec F
 FindsOtherBytes allowed e source (Ok findings) = AreOtherBytes otherwise_finding allowed e source findings.items
 FindsOtherBytes allowed e source (Err error) = IsBareError kind.Memory error
 
--- What finding all that Java reads otherwise returns, likewise.
+-- What finding all that Java reads differently returns, likewise.
 abbrev pub FindsOtherwise : Allowed → Encoding → List ℕ → Result (Vec Finding) PropertiesError → Type 0
 FindsOtherwise allowed e source (Ok findings) = AreOtherwise misread_finding otherwise_finding allowed e source findings.items
 FindsOtherwise allowed e source (Err error) = IsBareError kind.Memory error

@@ -14,7 +14,7 @@ use Rattle.std.specs.{Global.Global, declared.string.String.String}
 -- ---- a base
 
 abbrev pub known_base : Inside → KnownBase
-known_base b = record { name = string_bytes b.name; keys = table_places b.keys; is_well_formed = b.is_well_formed }
+known_base b = record { name = string_bytes b.name; keys = table_places b.keys; is_well_formed = b.is_well_formed; is_utf_32 = b.is_utf_32 }
 
 abbrev pub IsBase : Inside → Type 0
 IsBase b = IsKeyTable b.keys

@@ -1,6 +1,6 @@
 -- What `check` says of the keys of a source, compared with those of another one, its base: which keys only one of the two has a
 -- pair of. Comments, layout, spelling, order, values, also malformed ones, and pairs that repeat a key don't count.
-use Rattle.std.specs.Prelude.{◌≡◌, ◌↔◌, ℕ, ◌==◌, ◌&&◌, ◌||◌, not, length, Bool, true, List, [], ◌∷◌, ◌++◌, codes, map, All, AllPairs, Contains}
+use Rattle.std.specs.Prelude.{◌≡◌, ◌↔◌, ℕ, ◌==◌, ◌&&◌, ◌||◌, not, length, Bool, true, false, List, [], ◌∷◌, ◌++◌, codes, map, All, AllPairs, Contains}
 use Rattle.std.specs.Fmt.{decimal}
 use Rattle.json.specs.Json.{member, no_members, number, object, string, Json}
 use Rattle.properties_format.specs.Encoding.{Encoding}
@@ -12,7 +12,7 @@ use Rattle.properties_tables.specs.Messages.{all_shown, escaped}
 use Rattle.properties_checking.specs.Check.{has_replacement, IsReport}
 use Rattle.properties_checking.specs.JsonLines.{text_value, IsReportText}
 use Rattle.properties_checking.specs.Kinds.{kind_name, reported}
-use Rattle.properties_tables.specs.Lines.{AreFlawedLines}
+use Rattle.properties_tables.specs.Lines.{starts_with_utf_32_mark, AreFlawedLines}
 use Rattle.properties_tables.specs.SoundKeys.{AreKeyedPairs}
 use Rattle.properties_tables.specs.Table.{IsFirstLine}
 use Rattle.properties_tables.specs.declared.ill_formed.Flaw.TheVariants.{IllFormed}
@@ -43,11 +43,13 @@ pub record AreLacking (are_well_formed : Bool) (pairs other : List Entry) (lacki
 
 -- ---- a base
 
--- what is kept of a base: its name, its keys, each once, with the lines of their first pairs, and whether it is well-formed
+-- what is kept of a base: its name, its keys, each once, with the lines of their first pairs, whether it is well-formed, and
+-- whether it begins with the byte order mark of UTF-32
 pub record KnownBase : Type 0 where
   pub name : List ℕ
   pub keys : List KeyPlace
   pub is_well_formed : Bool
+  pub is_utf_32 : Bool
 
 -- No line of the source is ill-formed, or some line is.
 pub record TellsWellFormed (e : Encoding) (source : List ℕ) (is_well_formed : Bool) : Type 0 where
@@ -62,6 +64,7 @@ pub record IsBaseOf (name : List ℕ) (e : Encoding) (source : List ℕ) (base :
   pub are : AreKeyedPairs e source pairs
   pub keys : AreKeyPlaces pairs base.keys
   pub well_formed : TellsWellFormed e source base.is_well_formed
+  pub utf_32 : base.is_utf_32 ≡ starts_with_utf_32_mark source
 
 -- ---- how they are printed
 
@@ -101,12 +104,9 @@ surplus_value name base p = object (
 
 -- ---- a report
 
--- The text is what a check reports of a source, then a line or an object for each key of the base that the source
--- doesn't have, in the order of the base, and then one for each key of the source that the base doesn't have, in the
--- order of the source, unless these kinds are ignored.
-pub record IsReportAgainst (base : KnownBase) (name : List ℕ) (e : Encoding) (check : Check) (source text : List ℕ) : Type 0 where
-  pub report : List ℕ
-  pub is_report : IsReport name e check source report
+-- The text has a line or an object for each key of the base that a source doesn't have, in the order of the base, and then one
+-- for each key of the source that the base doesn't have, in the order of the source, unless these kinds are ignored.
+pub record ComparesKeys (base : KnownBase) (name : List ℕ) (e : Encoding) (check : Check) (source text : List ℕ) : Type 0 where
   pub pairs : List Entry
   pub are : AreKeyedPairs e source pairs
   pub is_well_formed : Bool
@@ -123,4 +123,14 @@ pub record IsReportAgainst (base : KnownBase) (name : List ℕ) (e : Encoding) (
   pub surplus_text : List ℕ
   pub tells_surplus : IsReportText check.report (surplus_line name base.name) (surplus_value name base.name)
       (reported check.ignored (λ p. SurplusKey) surplus) surplus_text
-  pub is : text ≡ report ++ (missing_text ++ surplus_text)
+  pub is : text ≡ missing_text ++ surplus_text
+
+-- The text is what a check reports of a source, and then what is said of its keys. If the source or its base begins with the
+-- byte order mark of UTF-32, nothing is.
+pub record IsReportAgainst (base : KnownBase) (name : List ℕ) (e : Encoding) (check : Check) (source text : List ℕ) : Type 0 where
+  pub report : List ℕ
+  pub is_report : IsReport name e check source report
+  pub compared : List ℕ
+  pub if_read : (base.is_utf_32 || starts_with_utf_32_mark source) ≡ false → ComparesKeys base name e check source compared
+  pub if_not : (base.is_utf_32 || starts_with_utf_32_mark source) ≡ true → compared ≡ []
+  pub is : text ≡ report ++ compared

@@ -1,10 +1,11 @@
 // The keys of a source, compared with those of a base.
 
-ghost use Rattle.std.specs.Prelude.{◌≡◌, ◌&&◌, ◌∷◌, [], OnOk};
+ghost use Rattle.std.specs.Prelude.{◌≡◌, ◌&&◌, ◌||◌, ◌∷◌, [], OnOk};
 ghost use Rattle.std.specs.Str.{chars};
 ghost use Rattle.properties_text.specs.Encoding.{encoding_of};
 ghost use Rattle.properties_tools.specs.Propedit.{ChecksAgainst, ChecksBase};
 ghost use Rattle.properties_tools.specs.Private.Lacking.{is_lacking, lacking_kind, lacking_places, key_place, AddsLacking, HaveTables};
+ghost use Rattle.properties_tables.specs.Lines.{starts_with_utf_32_mark};
 ghost use Rattle.properties_tables.specs.Private.Table.{place_keys, table_places, IsKeyTable};
 
 use crate::propedit::answer::{Answer, reported};
@@ -16,6 +17,7 @@ use properties_checking::line_findings::may_stand_for_bytes;
 use properties_checking::objects::{Member, push_object};
 use properties_checking::request::{Check, Report};
 use properties_tables::error::Failure;
+use properties_tables::ill_formed::has_utf_32_mark;
 use properties_tables::key_table::KeyTable;
 use properties_tables::messages::Escaped;
 use std::alloc::{AllocError, Global};
@@ -29,6 +31,8 @@ pub struct Base {
     keys: KeyTable,
     // Whether no line is ill-formed.
     is_well_formed: bool,
+    // Whether it begins with the byte order mark of UTF-32.
+    is_utf_32: bool,
 }
 
 impl Model for Base {
@@ -69,6 +73,7 @@ pub fn base_of(
         name: String::from_str(alloc, source.name)?,
         keys,
         is_well_formed,
+        is_utf_32: has_utf_32_mark(source.bytes),
     };
     Ok((reported(alloc, text, asked.quiet), base))
 }
@@ -78,7 +83,8 @@ pub fn base_of(
 /// memory runs out.
 ///
 /// A key whose value is malformed counts. A malformed key doesn't. If a line of either is ill-formed, keys with U+FFFD
-/// aren't compared, since that character may stand for any bytes.
+/// aren't compared, since that character may stand for any bytes. If either begins with the byte order mark of UTF-32,
+/// no key is compared.
 ///
 /// ```text
 /// let source = NamedSource { name: "m_de.properties", bytes: b"b=2\nc=3" };
@@ -101,6 +107,9 @@ pub fn check_against<'a>(
         escapes,
         is_well_formed,
     } = checked(alloc, source.name, source.bytes, encoding, asked)?;
+    if is_utf_32(base, source.bytes) {
+        return Ok(reported(alloc, text, asked.quiet));
+    }
     let keys = sound_keys(alloc, source.bytes, encoding, keys, &escapes)?;
     let surplus = Sides {
         heading: Heading {
@@ -123,6 +132,13 @@ pub fn check_against<'a>(
     push_lacking(alloc, &mut text, &missing)?;
     push_lacking(alloc, &mut text, &surplus)?;
     Ok(reported(alloc, text, asked.quiet))
+}
+
+// Returns whether a base or a source begins with the byte order mark of UTF-32, in which neither is read.
+fn is_utf_32(base: &Base, source: &[u8]) -> bool
+    ensures { result ≡ (base.now.is_utf_32 || starts_with_utf_32_mark source.now) }
+{
+    base.is_utf_32 || has_utf_32_mark(source)
 }
 
 // Returns whether no line of a base is ill-formed, and none of a source.

@@ -25,5 +25,6 @@ returns c =
         text = c.reported.ensures.text;
         status = c.reported.ensures.status;
       },
-      base-kept c.args.source.name.now (encoding_of c.args.encoding) c.args.asked c.args.source.bytes.now r c.in_ok-text.ensures keys sound.1 _ c.in_ok-from_str.ensures.ok refl refl,
+      base-kept c.args.source.name.now (encoding_of c.args.encoding) c.args.asked c.args.source.bytes.now r c.in_ok-text.ensures keys sound.1 _
+          c.in_ok-from_str.ensures.ok refl refl c.has_utf_32_mark.ensures,
     )
