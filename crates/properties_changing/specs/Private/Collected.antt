@@ -2,7 +2,7 @@
 use Rattle.std.specs.Prelude.{◌≡◌, ◌⊎◌, ℕ, List, [], Option, Some, None, Result, Ok, Err, ◌∷◌}
 use Rattle.std.specs.{Global.Vec, Global.Global, declared.string.String.String, Borrow.Bor, Str.chars}
 use Rattle.properties_format.specs.{Encoding.Encoding, Edits.Edit}
-use Rattle.properties_tables.specs.{Sources.IsSound, Sources.IsUnsound, Sources.first_in_pair, Failures.IsMemoryFailure, declared.error.Failure.Failure}
+use Rattle.properties_tables.specs.{Sources.IsSound, Sources.IsUnsound, Sources.first_in_pair, Failures.IsMemoryFailure, Values.SaysMalformed, declared.error.Failure.Failure}
 use Rattle.properties_tables.specs.declared.error.Failure.TheVariants.{Absent}
 use Rattle.java_properties.specs.{Maps.characters, Editing.edits_in, Editing.ArePairsMade}
 use Rattle.properties_editing.specs.declared.edit.Edit as editor
@@ -46,8 +46,8 @@ abbrev pub FindsKnown : Encoding → List ℕ → List Edit → Result (Vec edit
 FindsKnown e source edits (Ok known) = AreKnown e source edits (edits_in known.items)
 FindsKnown e source edits (Err failure) = IsUnsound e source failure
 
--- What looking for the first key that no pair has returns. In a sound source it fails only if memory runs out.
+-- What looking for the first key that no pair has returns.
 abbrev pub FindsAbsent : Encoding → List ℕ → List (List ℕ) → Result (Option (Bor (List ℕ))) Failure → Type 0
 FindsAbsent e source keys (Ok None) = HoldsKeys e source keys
 FindsAbsent e source keys (Ok (Some key)) = IsFirstAbsent e source keys (chars key.now)
-FindsAbsent e source keys (Err failure) = IsSound e source → IsMemoryFailure failure
+FindsAbsent e source keys (Err failure) = SaysMalformed e source failure ⊎ IsMemoryFailure failure

@@ -5,7 +5,7 @@ use Rattle.properties_text.specs.Encoding.{encoding_of}
 use Rattle.java_properties.specs.Maps.{characters}
 use Rattle.properties_changing.specs.Private.Collected.{first_without}
 use Rattle.properties_tables.specs.Values.{value_texts}
-use Rattle.properties_changing.proofs.SoughtKeys.{absent-found, as-many, lost, of-none}
+use Rattle.properties_changing.proofs.SoughtKeys.{absent-found, as-many, of-none}
 use Rattle.properties_changing.proofs.change.first_absent.Goals as goal
 
 pub first_without_value-requires : goal.first_without_value-requires
@@ -27,4 +27,4 @@ returns-then-is_empty c = of-none (encoding_of c.args.encoding) c.args.source.no
 pub returns-in_err-values : goal.returns-in_err-values
 returns-in_err-values c =
     let error = err_from_is_err_and c.from_residual.result c.from_residual.ensures.1 in
-    rw (error.1, error.2) (lost (encoding_of c.args.encoding) c.args.source.now _ c.in_err-values.ensures)
+    rw (error.1, error.2) c.in_err-values.ensures

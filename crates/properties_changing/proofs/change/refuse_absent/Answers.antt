@@ -1,8 +1,9 @@
-use Rattle.std.proofs.Common.{ap, sym, refl, inl, subst}
+use Rattle.std.proofs.{Common.ap, Common.sym, Common.refl, Common.inl, Common.inr, Common.subst, lemmas.Result.err_from_is_err_and}
 use Rattle.std.specs.{Prelude.map, Prelude.Ok, Str.chars}
 use Rattle.properties_text.specs.Encoding.{encoding_of}
 use Rattle.java_properties.specs.Maps.{characters}
 use Rattle.properties_changing.specs.{Keys.IsFirstAbsent, Private.Collected.FindsAbsent}
+use Rattle.properties_changing.proofs.SoughtKeys.{lost}
 use Rattle.properties_changing.proofs.change.refuse_absent.Goals as goal
 
 pub returns-in_ok-from_str-in-Some : goal.returns-in_ok-from_str-in-Some
@@ -17,3 +18,8 @@ returns-in_ok-from_str-in-Some c =
       first = subst (λ k. IsFirstAbsent e source keys k) name one;
       is = refl;
     })
+
+pub returns-in_err-key : goal.returns-in_err-key
+returns-in_err-key c =
+    let error = err_from_is_err_and c.from_residual.result c.from_residual.ensures.1 in
+    rw (error.1, error.2) (inr (lost (encoding_of c.args.encoding) c.args.source.now _ c.in_err-key.ensures))
