@@ -6,8 +6,9 @@
 A hint is in quotes after "did you mean", "use" or "write", or is all that comes after "use:". A shell runs it. If it isn't a
 command, it takes the place of the word that the message names; if it names no file, the row's -f or -i does. Names that
 aren't files of the row are empty files. The hint has to be accepted, and edits have to make of the pairs of its file what
-they say.
+they say. Edits have all texts of the row, or "..", which isn't run, for those that they leave out.
 """
+import collections
 import pathlib
 import re
 import shlex
@@ -17,17 +18,13 @@ import tempfile
 
 from try_rows import ROWS, make_files, rows_in
 
-COMMANDS = ["get", "list", "comment", "check", "diff", "set", "remove", "rename", "set-comment", "merge", "convert", "help"]
+EDITS = ["set", "remove", "rename", "set-comment"]
+COMMANDS = ["get", "list", "comment", "check", "diff", *EDITS, "merge", "convert", "help"]
 HINT = re.compile(r"(?:did you mean|\buse|\bwrite) '([^']+)'")
 OTHER = re.compile(r"; use: (.*)$")
 NAME = re.compile(r"[a-zA-Z][\w.]*")
 FILE_OPTIONS = ["-f", "-i", "--file", "--in-place"]
-# Hints that are refused, by the row's command line, and why.
-KNOWN = {
-    "$ set - -": "the note doesn't name the file to edit, which 'merge -z -' requires",
-    "$ check --ignore malformed_escape": "the message says itself that this kind cannot be ignored",
-    "$ check --ignore ill": "the message says itself that this kind cannot be ignored",
-}
+VALUE_OPTIONS = [*FILE_OPTIONS, "-e", "--encoding"]
 
 
 def run(program, words, folder, data=b""):
@@ -44,7 +41,7 @@ def named(words):
 
 def command_of(hint, message, words):
     """The words of the command that a hint means."""
-    said = shlex.split(hint)
+    said = [word for word in shlex.split(hint) if word != ".."]
     if said[0] not in COMMANDS or len(said) == 1 or said == ["list", "--json"]:
         return replaced(said, message, words)
     return said if named(said) else said[:1] + named(words) + said[1:]
@@ -69,11 +66,28 @@ def pairs_of(program, folder, data):
     return dict(zip(texts[0::2], texts[1::2]))
 
 
+def without_options(words):
+    while words and words[0].startswith("-") and words[0] != "--":
+        words = words[2 if words[0] in VALUE_OPTIONS else 1 :]
+    return words
+
+
+def texts_of(words):
+    return collections.Counter(re.findall(r"\w+", " ".join(words)))
+
+
+def lost(hint, words):
+    """The texts of a row's edits that a hint with edits leaves out."""
+    said, edits = shlex.split(hint), [at for at, word in enumerate(words) if word in EDITS]
+    if said[0] not in EDITS or len(said) == 1 or ".." in said or not edits:
+        return []
+    rest = without_options(words[edits[0] + 1 :])
+    return [*(texts_of(rest) - texts_of(said))]
+
+
 def edited(pairs, words):
     """The pairs after edits, whose options come first."""
-    command, rest = words[0], words[1:]
-    while rest and rest[0].startswith("-") and rest[0] != "--":
-        rest = rest[2 if rest[0] in ("-f", "-i", "-e") else 1 :]
+    command, rest = words[0], without_options(words[1:])
     while command:
         rest = rest[1:] if rest[0] == "--" else rest
         key, text = (word.encode() for word in (rest + [""])[:2])
@@ -91,7 +105,10 @@ def edited(pairs, words):
 def wrong_with(program, row, message, hint):
     """What is wrong with a hint, if anything is."""
     is_other = hint not in HINT.findall(message)
-    words = shlex.split(hint) if is_other else command_of(hint, message, [word.decode() for word in row.words])
+    typed = [word.decode() for word in row.words]
+    if lost(hint, typed):
+        return f"without {', '.join(lost(hint, typed))}"
+    words = shlex.split(hint) if is_other else command_of(hint, message, typed)
     option = named(words)
     path = {"PATH": f"{program.parent}:/bin:/usr/bin"}
     with tempfile.TemporaryDirectory() as name:
@@ -123,18 +140,15 @@ def hints_of(program, row):
 
 def main():
     program = pathlib.Path(sys.argv[1]).resolve()
-    passed = failed = known = 0
+    passed = failed = 0
     for path in [pathlib.Path(name) for name in sys.argv[2:]] or sorted(ROWS.glob("*.txt")):
         for row in rows_in(path):
             for line, hint in hints_of(program, row):
                 wrong = wrong_with(program, row, line, hint)
-                if row.line in KNOWN:
-                    known, wrong = known + 1, None if wrong else "accepted, but in KNOWN"
-                    passed -= wrong is None
                 passed, failed = passed + (wrong is None), failed + (wrong is not None)
                 if wrong is not None:
                     print(f"{row.place}: {row.line}", line, f"{hint}: {wrong}", sep="\n    ")
-    print(f"{passed} passed, {failed} failed, {known} known")
+    print(f"{passed} passed, {failed} failed")
     return min(failed, 1)
 
 

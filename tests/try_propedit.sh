@@ -1216,7 +1216,7 @@ for word in zero ill-formed; do
 done
 required="all other commands but convert refuse such a file; '--pairs' passes over those in comments"
 is_refused "'malformed-escape' cannot be ignored: $required" "$(shape check)" check --ignore u-feff,malformed-escape
-is_refused "unknown kind 'malformed_escape'; did you mean 'malformed-escape'? It cannot be ignored: $required" "$(shape check)" \
+is_refused "unknown kind 'malformed_escape'; 'malformed-escape' cannot be ignored: $required" "$(shape check)" \
     check --ignore malformed_escape
 is_refused "unknown kind 'bom'; use $kinds" "$(shape check)" check --ignore bom
 is_refused "unknown kind ''; use $kinds" "$(shape check)" check --ignore u-feff,

@@ -2,8 +2,9 @@
 
 use crate::command_line::CommandRow;
 use crate::edits::AskedEdit;
+use crate::meant::Shown;
+use crate::options::INPUT;
 use crate::typed::is_option_of;
-use crate::wrong_edits::Shown;
 use java_properties::Edit;
 use properties_tools::messages::Escaped;
 use properties_tools::propedit::request::{Doubt, Note};
@@ -52,7 +53,7 @@ pub(crate) fn note_on_edits(
     for edit in edits {
         let doubted = match edit {
             AskedEdit::Edit(Edit::SetValue(key, value)) => {
-                doubt_of_value(alloc, key, value.as_str())?
+                doubt_of_value(alloc, name, key, value.as_str())?
             }
             AskedEdit::Edit(Edit::Remove(key)) if key.contains(',') => {
                 Some(doubt_of_keys(alloc, key)?)
@@ -82,17 +83,19 @@ fn doubt_of_keys(alloc: Global, key: &String) -> Result<(Doubt, String), AllocEr
     Ok((Doubt::Key(key.clone()?, keys), said))
 }
 
-// Returns what may be meant by the value or the key of a setting, and what is said of it.
+// Returns what may be meant by the value or the key of a setting in a source of this name, and what is said of it.
 fn doubt_of_value(
     alloc: Global,
+    name: &str,
     key: &String,
     value: &str,
 ) -> Result<Option<(Doubt, String)>, AllocError> {
     let shown = Escaped(key.as_str());
     match (value, value.strip_prefix('@')) {
         ("-", _) => {
+            let file = if name == INPUT { "-i FILE " } else { "" };
             let said = format!(in alloc;
-                "the value of '{shown}' is '-'; use 'merge -z -' to read values from standard input"
+                "the value of '{shown}' is '-'; use 'merge -z {file}-' to read values from standard input"
             )?;
             Ok(Some((Doubt::Value(None), said)))
         }

@@ -100,7 +100,7 @@ fn next_set<'a>(words: &'a [String]) -> Result<(BorrowedEdit<'a>, &'a [String]),
     refuse_slips(words)?;
     match after_dashes(words) {
         [key, value, others @ ..] => Ok((BorrowedEdit::Set(key, value), others)),
-        [key] => Err(Mistake::NoValue(key.as_str())),
+        [key] => Err(Mistake::NoValue(key.as_str(), None)),
         [] => Err(Mistake::NoKey("set")),
     }
 }
@@ -122,7 +122,7 @@ fn next_renaming<'a>(words: &'a [String]) -> Result<(BorrowedEdit<'a>, &'a [Stri
     refuse_odd_name(words)?;
     match after_dashes(words) {
         [old, new, others @ ..] => Ok((BorrowedEdit::Rename(old, new), others)),
-        [old] => Err(Mistake::NoNewKey(old.as_str())),
+        [old] => Err(Mistake::NoNewKey(old.as_str(), None)),
         [] => Err(Mistake::NoKey("rename")),
     }
 }
@@ -148,28 +148,28 @@ fn after_dashes(words: &[String]) -> &[String]
     }
 }
 
-// Fails if the arguments begin with a key and a value that both look like NAME=TEXT, or with an odd key.
-fn refuse_slips<'a>(words: &'a [String]) -> Result<(), Mistake<'a>>
+/// Fails if the arguments begin with a key and a value that both look like NAME=TEXT, or with an odd key.
+pub(crate) fn refuse_slips<'a>(words: &'a [String]) -> Result<(), Mistake<'a>>
     ensures { RefusesSlips (map string_bytes words.now) result }
 {
     match words {
         [key, value, ..] if is_assignment(key.as_str()) && is_assignment(value.as_str()) => {
-            Err(Mistake::TwoAssignments(key.as_str(), value.as_str()))
+            Err(Mistake::TwoAssignments(key.as_str(), value.as_str(), None))
         }
         [key, value, ..] if is_odd(key.as_str()) => {
-            Err(Mistake::OddKey(key.as_str(), value.as_str()))
+            Err(Mistake::OddKey(key.as_str(), value.as_str(), None))
         }
         _ => Ok(()),
     }
 }
 
-// Fails if the arguments begin with a key and its new name, which is odd.
-fn refuse_odd_name<'a>(words: &'a [String]) -> Result<(), Mistake<'a>>
+/// Fails if the arguments begin with a key and its new name, which is odd.
+pub(crate) fn refuse_odd_name<'a>(words: &'a [String]) -> Result<(), Mistake<'a>>
     ensures { RefusesOddName (map string_bytes words.now) result }
 {
     match words {
         [old, new, ..] if is_odd_name(old.as_str(), new.as_str()) => {
-            Err(Mistake::OddName(old.as_str(), new.as_str()))
+            Err(Mistake::OddName(old.as_str(), new.as_str(), None))
         }
         _ => Ok(()),
     }
@@ -198,8 +198,8 @@ fn ends_key(byte: u8) -> bool
     is_blank(byte) || byte == b'=' || byte == b':'
 }
 
-// Returns whether a text looks like NAME=TEXT.
-fn is_assignment(text: &str) -> bool
+/// Returns whether a text looks like NAME=TEXT.
+pub(crate) fn is_assignment(text: &str) -> bool
     ensures { MatchBool result (IsAssignment text.now) (IsAssignment text.now → ⊥) }
 {
     match text.split_once('=') {

@@ -74,8 +74,7 @@ pub(crate) fn show_no_kind<W: fmt::Write>(f: &mut fmt::Formatter<W>, name: &str)
     }
     match kind_meant(REQUIRED, name) {
         Some(kind) => {
-            show_meant(f, "", kind.name())?;
-            f.write_str(" It")?;
+            write!(f, "; '{}'", kind.name())?;
             show_required(f, kind)
         }
         None => show_kinds(f),

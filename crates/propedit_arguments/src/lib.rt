@@ -16,6 +16,7 @@ mod doubts;
 mod edits;
 mod kinds;
 mod labels;
+mod meant;
 pub mod mistake;
 mod not_utf_8;
 mod options;

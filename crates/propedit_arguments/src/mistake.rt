@@ -3,12 +3,13 @@
 use crate::command_line::{CommandName, CommandRow, OptionName, TypedOption, Usage, command_named};
 use crate::kinds::show_no_kind;
 use crate::labels::{TARGETS, show_ascii_encoding, show_no_target, show_unknown_encoding};
+use crate::meant::Shown;
 use crate::other_format::{OtherFormat, show_other_format};
 use crate::shell::Quoted;
 use crate::typed::Stray;
 use crate::wrong_edits::{
-    Shown, show_no_edit, show_no_new_key, show_no_text, show_no_value, show_odd,
-    show_option_for_key_of, show_two_assignments, trimmed,
+    show_no_edit, show_odd, show_odd_name, show_one_text, show_option_for_key_of,
+    show_two_assignments,
 };
 use crate::wrong_options::{
     show_not_with, show_option_after, show_option_for_key, show_taken, show_two_files,
@@ -50,9 +51,9 @@ impl<'a> NoRequest<'a> {
     /// Returns the arguments that may be files by mistake, each with the error if it is one.
     pub fn if_files(self) -> [Option<(&'a str, NoRequest<'a>)>; 2] {
         match self {
-            NoRequest::Wrong(Mistake::NoEdit(word, Some(stray))) => [
-                if_file(word, stray, stray.before_last()),
-                if_file(word, stray, stray.after_first()),
+            NoRequest::Wrong(Mistake::NoEdit(word, Some(stray))) if stray.option().is_none() => [
+                if_file(word, stray.with_last_file()),
+                if_file(word, stray.with_first_file()),
             ],
             NoRequest::Wrong(Mistake::UnknownCommand(word, Hint::Alone)) => {
                 let mistake = Mistake::UnknownCommand(word, Hint::ListFile);
@@ -63,19 +64,13 @@ impl<'a> NoRequest<'a> {
     }
 }
 
-// Returns an argument around one that is no edit, and the error if it is a file, given the arguments without it.
-fn if_file<'a>(
-    word: &'a str,
-    stray: Stray<'a>,
-    around: Option<(&'a str, &'a [String])>,
-) -> Option<(&'a str, NoRequest<'a>)> {
-    let (name, words) = around?;
-    let stray = Stray {
-        words,
-        file: Some(name),
-        ..stray
-    };
-    Some((name, NoRequest::Wrong(Mistake::NoEdit(word, Some(stray)))))
+// Returns the argument that is taken for a file around one that is no edit, and the error if it is one.
+fn if_file<'a>(word: &'a str, stray: Option<Stray<'a>>) -> Option<(&'a str, NoRequest<'a>)> {
+    let stray = stray?;
+    Some((
+        stray.file?,
+        NoRequest::Wrong(Mistake::NoEdit(word, Some(stray))),
+    ))
 }
 
 /// What may be meant by an argument that is no command.
@@ -156,10 +151,10 @@ pub enum Mistake<'a> {
     NoEdit(&'a str, Option<Stray<'a>>),
     /// This edit has no key.
     NoKey(&'static str),
-    /// The setting of this key has no value.
-    NoValue(&'a str),
-    /// The renaming of this key has no new key.
-    NoNewKey(&'a str),
+    /// The setting of this key, which stands there, has no value.
+    NoValue(&'a str, Option<Stray<'a>>),
+    /// The renaming of this key, which stands there, has no new key.
+    NoNewKey(&'a str, Option<Stray<'a>>),
     /// The comment of this key has no text.
     NoText(&'a str),
     /// These arguments begin with `set` and `comment`, and one command may be meant.
@@ -172,17 +167,31 @@ pub enum Mistake<'a> {
     FileAsKey(&'a str),
     /// The file of this path, or standard input, was to be merged, and is in this format.
     OtherFormat(Option<&'a str>, OtherFormat),
-    /// The key and the value of a setting both look like NAME=TEXT.
-    TwoAssignments(&'a str, &'a str),
-    /// The key of a setting, which has this value, is empty, or ends in what ends a key in a file.
-    OddKey(&'a str, &'a str),
+    /// The key and the value of a setting, which stands there, both look like NAME=TEXT.
+    TwoAssignments(&'a str, &'a str, Option<Stray<'a>>),
+    /// The key of a setting, which has this value and stands there, is empty, or ends in what ends a key in a file.
+    OddKey(&'a str, &'a str, Option<Stray<'a>>),
     /// The same of the new name of this key.
-    OddName(&'a str, &'a str),
+    OddName(&'a str, &'a str, Option<Stray<'a>>),
     /// Memory ran out.
     Memory,
 }
 
-impl Mistake<'_> {
+impl<'a> Mistake<'a> {
+    /// Returns the mistake with the arguments around it, if it is one of an edit.
+    pub(crate) fn among(self, stray: Stray<'a>) -> Mistake<'a> {
+        let stray = Some(stray);
+        match self {
+            Mistake::NoEdit(word, _) => Mistake::NoEdit(word, stray),
+            Mistake::NoValue(key, _) => Mistake::NoValue(key, stray),
+            Mistake::NoNewKey(key, _) => Mistake::NoNewKey(key, stray),
+            Mistake::TwoAssignments(key, value, _) => Mistake::TwoAssignments(key, value, stray),
+            Mistake::OddKey(key, value, _) => Mistake::OddKey(key, value, stray),
+            Mistake::OddName(old, new, _) => Mistake::OddName(old, new, stray),
+            other => other,
+        }
+    }
+
     /// Returns the usage to print under it: that of the command that was meant, if it tells.
     pub(crate) fn usage(self) -> Usage {
         match self {
@@ -213,10 +222,9 @@ impl Mistake<'_> {
             | Mistake::OptionAfter(_, row)
             | Mistake::Surplus(_, row) => Usage::Of(row),
             Mistake::NoKey(name) => usage_of(name),
-            Mistake::NoValue(_) | Mistake::TwoAssignments(_, _) | Mistake::OddKey(_, _) => {
-                usage_of("set")
-            }
-            Mistake::NoNewKey(_) | Mistake::OddName(_, _) => usage_of("rename"),
+            Mistake::NoValue(_, _) | Mistake::TwoAssignments(_, _, _) | Mistake::OddKey(_, _, _) =>
+                { usage_of("set") }
+            Mistake::NoNewKey(_, _) | Mistake::OddName(_, _, _) => usage_of("rename"),
             Mistake::NoText(_) | Mistake::SetThenComment => usage_of("set-comment"),
             Mistake::FileAsKey(_) => usage_of("get"),
             Mistake::OtherFormat(_, _) => usage_of("merge"),
@@ -337,23 +345,21 @@ impl fmt::Display for Mistake<'_> {
             Mistake::Surplus(word, row) => show_surplus(f, word, row),
             Mistake::NoEdit(word, stray) => show_no_edit(f, word, stray),
             Mistake::NoKey(name) => write!(f, "'{name}' requires a KEY"),
-            Mistake::NoValue(key) => show_no_value(f, key),
-            Mistake::NoNewKey(key) => show_no_new_key(f, key),
-            Mistake::NoText(key) => show_no_text(f, key),
+            Mistake::NoValue(key, stray) => show_one_text(f, "set", key, stray),
+            Mistake::NoNewKey(key, stray) => show_one_text(f, "rename", key, stray),
+            Mistake::NoText(key) => show_one_text(f, "set-comment", key, None),
             Mistake::SetThenComment => f.write_str("'set comment': did you mean 'set-comment'?"),
             Mistake::OptionForKey(row) => show_option_for_key(f, row),
             Mistake::OptionForKeyOf(key, row) => show_option_for_key_of(f, key, row),
             Mistake::FileAsKey(name) => show_file_as_key(f, name),
             Mistake::OtherFormat(path, format) => show_other_format(f, path, format),
-            Mistake::TwoAssignments(key, value) => show_two_assignments(f, key, value),
-            Mistake::OddKey(key, value) => {
-                let setting = |key| Shown("set", key, Some(value));
-                show_odd(f, key, setting(trimmed(key)), setting(key))
+            Mistake::TwoAssignments(key, value, stray) => {
+                show_two_assignments(f, key, value, stray)
             }
-            Mistake::OddName(old, new) => {
-                let renaming = |new| Shown("rename", old, Some(new));
-                show_odd(f, new, renaming(trimmed(new)), renaming(new))
+            Mistake::OddKey(key, value, stray) => {
+                show_odd(f, key, Shown("set", key, Some(value)), stray)
             }
+            Mistake::OddName(old, new, stray) => show_odd_name(f, old, new, stray),
             Mistake::Memory => f.write_str("Out of memory."),
         }
     }

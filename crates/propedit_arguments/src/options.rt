@@ -15,6 +15,9 @@ use std::alloc::{AllocError, Global};
 /// The FILE that is standard input.
 pub const STANDARD_INPUT: &str = "-";
 
+/// What messages call standard input.
+pub(crate) const INPUT: &str = "standard input";
+
 /// The options that are given, each once.
 #[derive(Drop)]
 pub struct Options<'a> {
@@ -346,7 +349,7 @@ impl<'a> Options<'a> {
             .value(OptionName::InPlace)
             .or(self.value(OptionName::File))
         {
-            Some(STANDARD_INPUT) | None => "standard input",
+            Some(STANDARD_INPUT) | None => INPUT,
             Some(path) => path,
         }
     }

@@ -10,10 +10,10 @@ use crate::command_line::{
 use crate::doubts::{note_on_edits, note_on_option, note_on_prefix};
 use crate::edits::{AskedEdit, edits_in};
 use crate::kinds::ignored_in;
+use crate::meant::KEY_ENDS;
 use crate::mistake::{Hint, Mistake, NoRequest};
 use crate::options::{Options, STANDARD_INPUT, options_in, source_named};
 use crate::typed::{Stray, is_option_of};
-use crate::wrong_edits::KEY_ENDS;
 use counted_io::CountedWrite;
 use java_properties::{Edit, NewComment, Rename};
 use properties_tools::propedit::kinds::Ignored;
@@ -69,7 +69,7 @@ pub fn asked_for<'a>(alloc: Global, words: &'a [String]) -> Result<Request, NoRe
 }
 
 // Returns the edits that a command and the arguments after its options ask for. The mistake says what stands around an
-// argument that is no edit.
+// edit that is wrong, or an argument that is no edit.
 fn edits_among<'a>(
     alloc: Global,
     row: &'static CommandRow,
@@ -77,10 +77,7 @@ fn edits_among<'a>(
     words: &'a [String],
 ) -> Result<Vec<AskedEdit>, Mistake<'a>> {
     match edits_in(alloc, row.name, words) {
-        Err(Mistake::NoEdit(word, _)) => {
-            let stray = Stray::of(row, options, words);
-            Err(Mistake::NoEdit(word, Some(stray)))
-        }
+        Err(mistake) => Err(mistake.among(Stray::of(row, options, words))),
         result => result,
     }
 }

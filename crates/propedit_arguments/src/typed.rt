@@ -1,13 +1,18 @@
 // The edits of a command line as they are typed, and what follows them.
 
-use crate::command_line::{CommandRow, OptionName, command_named, option_in};
-use crate::edits::is_odd;
+use crate::command_line::{CommandName, CommandRow, OptionName, command_named, option_in};
+use crate::edits::{refuse_odd_name, refuse_slips};
+use crate::meant::{Meant, Shown, is_sign};
 use crate::options::Options;
+use crate::shell::Quoted;
+use std::fmt;
 
 /// An edit as it is typed.
 #[derive(Clone, Copy, Debug)]
 pub struct TypedEdit<'a> {
     pub row: &'static CommandRow,
+    /// All arguments after its command.
+    pub words: &'a [String],
     /// Whether `--` comes before its texts.
     pub is_literal: bool,
     /// Its texts, as far as they are there.
@@ -17,22 +22,23 @@ pub struct TypedEdit<'a> {
 }
 
 impl<'a> TypedEdit<'a> {
-    // Returns the edit of this command that the arguments after it begin with.
-    fn first(row: &'static CommandRow, words: &'a [String]) -> TypedEdit<'a> {
-        let (is_literal, words) = match words {
+    /// Returns the edit of this command that the arguments after it begin with.
+    pub(crate) fn first(row: &'static CommandRow, words: &'a [String]) -> TypedEdit<'a> {
+        let (is_literal, given) = match words {
             [first, others @ ..] if first.as_str() == "--" => (true, others),
             _ => (false, words),
         };
-        let count = words.len().min(row.texts());
+        let count = given.len().min(row.texts());
         TypedEdit {
             row,
+            words,
             is_literal,
-            texts: words.get(..count).unwrap_or(&[]),
-            after: words.get(count..).unwrap_or(&[]),
+            texts: given.get(..count).unwrap_or(&[]),
+            after: given.get(count..).unwrap_or(&[]),
         }
     }
 
-    // Returns the last of the edits that begin with it.
+    // Returns the last of the edits that begin with it, or the first that is refused.
     fn last(self) -> TypedEdit<'a> {
         let mut edit = self;
         // There are no more edits than arguments.
@@ -40,12 +46,25 @@ impl<'a> TypedEdit<'a> {
             let [word, others @ ..] = edit.after else {
                 break;
             };
+            if edit.is_refused() {
+                break;
+            }
             let Some(row) = edit_named(word.as_str()) else {
                 break;
             };
             edit = TypedEdit::first(row, others);
         }
         edit
+    }
+
+    // Returns whether its texts are refused.
+    fn is_refused(self) -> bool {
+        match self.row.command {
+            _ if self.is_literal => false,
+            CommandName::Set => refuse_slips(self.texts).is_err(),
+            CommandName::Rename => refuse_odd_name(self.texts).is_err(),
+            _ => false,
+        }
     }
 
     /// Returns the arguments after it up to the next edit, or to an option.
@@ -63,13 +82,14 @@ pub(crate) fn edit_named(word: &str) -> Option<&'static CommandRow> {
     command_named(word).filter(|row| row.is_edit())
 }
 
-/// The arguments around one that is no edit.
+/// The arguments around an edit that is wrong, or around one that is no edit.
 #[derive(Clone, Copy, Debug)]
 pub struct Stray<'a> {
-    /// The command, and all arguments after its options, but for the one that is known to be a file.
+    /// The command, and all arguments after its options, but for the one that is known to be a file. There are none
+    /// beside a file if no edits are meant by them.
     pub row: &'static CommandRow,
     pub words: &'a [String],
-    /// The edit before the argument.
+    /// The wrong edit, or the one before the argument.
     pub edit: TypedEdit<'a>,
     /// The file that an option names.
     pub named: Option<&'a str>,
@@ -99,25 +119,51 @@ impl<'a> Stray<'a> {
         self.words.first().map_or("", |word| word.as_str())
     }
 
-    /// Returns the first argument and those after it, if these are only edits.
-    pub(crate) fn after_first(self) -> Option<(&'a str, &'a [String])> {
-        let [first, others @ ..] = self.words else {
-            return None;
-        };
-        let last = TypedEdit::first(self.row, others).last();
-        let is_whole = last.after.is_empty() && last.texts.len() == last.row.texts();
-        let is_meant = |key: &String| !key.starts_with('-') && !is_odd(key.as_str());
-        if is_whole && others.first().is_some_and(is_meant) {
-            return Some((first.as_str(), others));
-        }
-        None
+    /// Returns the edits that all arguments are meant for.
+    pub(crate) fn meant(self) -> Meant<'a> {
+        Meant::by(self.row, self.words)
     }
 
-    /// Returns the last argument and those before it, if these are only edits.
-    pub(crate) fn before_last(self) -> Option<(&'a str, &'a [String])> {
-        match (self.words, self.edit.after) {
-            ([others @ .., last], [_]) => Some((last.as_str(), others)),
-            _ => None,
+    /// Returns the edit that is meant by the wrong one, if it tells, and those after it.
+    pub(crate) fn mended(self) -> Option<(Shown<'a>, Meant<'a>)> {
+        Meant::by(self.edit.row, self.edit.words).first()
+    }
+
+    /// Returns what stands in a hint for the arguments after the edit.
+    pub(crate) fn rest(self) -> &'static str {
+        if self.edit.after.is_empty() {
+            ""
+        } else {
+            " .."
+        }
+    }
+
+    /// Returns the same for a file that is the first argument, unless it is a key with a sign after it.
+    pub(crate) fn with_first_file(self) -> Option<Stray<'a>> {
+        match self.words {
+            [_, sign, ..] if is_sign(sign.as_str()) => None,
+            [file, others @ ..] => Some(self.with_file(file, others)),
+            [] => None,
+        }
+    }
+
+    /// Returns the same for a file that is the last argument, if edits are meant by the others.
+    pub(crate) fn with_last_file(self) -> Option<Stray<'a>> {
+        match self.words {
+            [others @ .., file] => {
+                Some(self.with_file(file, others)).filter(|stray| !stray.words.is_empty())
+            }
+            [] => None,
+        }
+    }
+
+    fn with_file(self, file: &'a String, others: &'a [String]) -> Stray<'a> {
+        let is_option = others.first().is_some_and(|word| word.starts_with('-'));
+        let is_whole = !is_option && Meant::by(self.row, others).is_whole();
+        Stray {
+            words: if is_whole { others } else { &[] },
+            file: Some(file.as_str()),
+            ..self
         }
     }
 
@@ -131,6 +177,42 @@ impl<'a> Stray<'a> {
         let mut words = texts.iter().chain(self.edit.after.first());
         let word = words.find(|word| is_option_of(word.as_str(), self.row))?;
         Some(word.as_str())
+    }
+}
+
+/// The edits that are meant, with the argument that is known to be a file as an option.
+impl fmt::Display for Stray<'_> {
+    fn fmt<W: fmt::Write>(&self, f: &mut fmt::Formatter<W>) -> fmt::Result {
+        f.write_str(self.row.name)?;
+        if let Some(file) = self.file {
+            write!(f, " -i {}", Quoted(file))?;
+        }
+        write!(f, "{}", self.meant())
+    }
+}
+
+/// The edits before a wrong one, as they are typed, with a blank after them.
+#[derive(Clone, Copy)]
+pub(crate) struct Before<'a>(pub Stray<'a>);
+
+impl fmt::Display for Before<'_> {
+    fn fmt<W: fmt::Write>(&self, f: &mut fmt::Formatter<W>) -> fmt::Result {
+        let Stray {
+            row,
+            words,
+            edit,
+            ..
+        } = self.0;
+        let before = words.len().saturating_sub(edit.words.len());
+        // The last is the command of the wrong edit.
+        let [words @ .., _] = words.get(..before).unwrap_or(&[]) else {
+            return Ok(());
+        };
+        write!(f, "{} ", row.name)?;
+        for word in words {
+            write!(f, "{} ", Quoted(word.as_str()))?;
+        }
+        Ok(())
     }
 }
 

@@ -136,6 +136,9 @@ compared-none c table apart added empty states = record {
   others = ap place_keys empty;
 }
 
+pub compared-same : (first new : Comparison) (pairs others : List Entry) → others ≡ pairs → HasCompared first pairs new → HasCompared first others new
+compared-same first new pairs others same h = subst (λ es. HasCompared first es new) (sym same) h
+
 module _ (first old : Comparison) (pairs : List Entry) (number : ℕ) (key value : List ℕ) (h : HasCompared first pairs old) where
   abbrev rows : List Row
   rows = rows_of old.old

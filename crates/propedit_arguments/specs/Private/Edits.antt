@@ -130,17 +130,17 @@ pub data IsMistakeAt (words : List (List ℕ)) (mistake : Mistake) : Type 0 wher
   no_key : (command : Bor (List ℕ)) (edit : Edit) (form : Form) → command.now ≡ command_of edit → words ≡ command_of edit ∷ text_words form []
       → mistake ≡ NoKey command → IsMistakeAt words mistake
   no_value : (key : Bor (List ℕ)) (form : Form) → words ≡ codes "set" ∷ text_words form (key.now ∷ []) → MayBegin form (key.now ∷ [])
-      → mistake ≡ NoValue key → IsMistakeAt words mistake
+      → mistake ≡ NoValue key None → IsMistakeAt words mistake
   no_new_key : (key : Bor (List ℕ)) (form : Form) → words ≡ codes "rename" ∷ text_words form (key.now ∷ []) → MayBegin form (key.now ∷ [])
-      → mistake ≡ NoNewKey key → IsMistakeAt words mistake
+      → mistake ≡ NoNewKey key None → IsMistakeAt words mistake
   no_text : (key : Bor (List ℕ)) (form : Form) → words ≡ codes "set-comment" ∷ text_words form (key.now ∷ []) → MayBegin form (key.now ∷ [])
       → mistake ≡ NoText key → IsMistakeAt words mistake
   assignments : (key value : Bor (List ℕ)) (others : List (List ℕ)) → words ≡ codes "set" ∷ (key.now ∷ (value.now ∷ others))
-      → IsAssignment key.now → IsAssignment value.now → mistake ≡ TwoAssignments key value → IsMistakeAt words mistake
+      → IsAssignment key.now → IsAssignment value.now → mistake ≡ TwoAssignments key value None → IsMistakeAt words mistake
   odd_key : (key value : Bor (List ℕ)) (others : List (List ℕ)) → words ≡ codes "set" ∷ (key.now ∷ (value.now ∷ others)) → is_odd key.now ≡ true
-      → mistake ≡ OddKey key value → IsMistakeAt words mistake
+      → mistake ≡ OddKey key value None → IsMistakeAt words mistake
   odd_name : (old new : Bor (List ℕ)) (others : List (List ℕ)) → words ≡ codes "rename" ∷ (old.now ∷ (new.now ∷ others)) → old.now ≢ codes "--"
-      → is_odd new.now ≡ true → mistake ≡ OddName old new → IsMistakeAt words mistake
+      → is_odd new.now ≡ true → mistake ≡ OddName old new None → IsMistakeAt words mistake
 
 -- The arguments are those of edits up to some that begin with no edit, and this is what is wrong with those.
 pub record AreWrong (words : List (List ℕ)) (mistake : Mistake) : Type 0 where
