@@ -80,7 +80,8 @@ fn format_of(body: &[u8]) -> Option<OtherFormat> {
         [b'{', ..] => Some(OtherFormat::Json),
         [b'<', ..] => Some(OtherFormat::Xml),
         _ if is_yaml(body) => Some(OtherFormat::Yaml),
-        text if is_declaration(text) || has_export(body) => Some(OtherFormat::Shell),
+        // As `export -p` of Bash prints variables.
+        text if text.starts_with(b"declare -x ") || has_export(body) => Some(OtherFormat::Shell),
         _ => None,
     }
 }
@@ -97,11 +98,6 @@ fn is_yaml(body: &[u8]) -> bool {
     }
 }
 
-// Returns whether a text begins with a variable as `export -p` of Bash prints it.
-fn is_declaration(text: &[u8]) -> bool {
-    text.strip_prefix(b"declare -x ").is_some_and(is_assignment)
-}
-
 // Returns whether a line sets a variable of a shell, and continues no other line.
 fn has_export(body: &[u8]) -> bool {
     // Few files have the word, and it is found faster than lines are.
@@ -109,20 +105,17 @@ fn has_export(body: &[u8]) -> bool {
         return false;
     }
     let mut is_joined = false;
-    body.split(|byte| *byte == b'\n')
-        .flat_map(lines_by_cr)
-        .any(|line| {
+    for line in body.split(|byte| *byte == b'\n') {
+        let line = line.strip_suffix(b"\r").unwrap_or(line);
+        for line in line.split(|byte| *byte == b'\r') {
             let text = line.trim_ascii_start();
-            let is_found = !is_joined && is_export(text);
+            if !is_joined && is_export(text) {
+                return true;
+            }
             is_joined = is_open(text) && (is_joined || !matches!(text, [b'#' | b'!', ..]));
-            is_found
-        })
-}
-
-// Returns the lines of a text without LF. CR at its end is a part of its line ending.
-fn lines_by_cr(text: &[u8]) -> impl Iterator<Item = &[u8]> {
-    let text = text.strip_suffix(b"\r").unwrap_or(text);
-    text.split(|byte| *byte == b'\r')
+        }
+    }
+    false
 }
 
 // Returns whether a text ends in an odd number of backslashes.
@@ -142,9 +135,12 @@ fn is_export(text: &[u8]) -> bool {
 fn is_assignment(text: &[u8]) -> bool {
     let is_in_name = |byte: &&u8| byte.is_ascii_alphanumeric() || **byte == b'_';
     let length = text.iter().take_while(is_in_name).count();
-    !text.first().is_some_and(u8::is_ascii_digit)
-        && length > 0
-        && matches!(&text[length..], [b'=' | b'[', ..] | [b'+', b'=', ..])
+    let is_name = text.first().is_some_and(|byte| !byte.is_ascii_digit()) && length > 0;
+    is_name
+        && matches!(
+            text.get(length..),
+            Some([b'=' | b'[', ..] | [b'+', b'=', ..])
+        )
 }
 
 /// Prints that a file, or standard input, is in another format, what makes pairs of it, and how it is taken as it is.
