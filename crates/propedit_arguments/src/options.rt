@@ -1,8 +1,7 @@
 // The options before a command, and those after it.
 
 use crate::command_line::{
-    CommandName, CommandRow, OptionName, TypedOption, allowed, command_named, is_latin_1,
-    option_in, option_of,
+    CommandRow, OptionName, TypedOption, allowed, command_named, is_latin_1, option_in, option_of,
 };
 use crate::labels::means_ascii;
 use crate::mistake::{Mistake, NoRequest};
@@ -365,8 +364,7 @@ impl<'a> Options<'a> {
         let source = self.source(alloc)?;
         Ok(Request::Job(Job {
             encoding: self.encoding(row)?,
-            latin_1: self.is_latin_1()
-                && matches!(row.command, CommandName::Get | CommandName::List),
+            latin_1: self.is_latin_1() && !matches!(command, Command::Check(_)),
             source,
             command,
             note,

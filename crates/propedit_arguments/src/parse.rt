@@ -19,7 +19,8 @@ use java_properties::{Edit, NewComment, Rename};
 use properties_tools::propedit::kinds::Ignored;
 use properties_tools::propedit::request::{
     Allowed, Change, Check, CheckedFiles, Command, Comparison, Conversion, Destination, Edits,
-    FileChange, Job, Merge, NewComments, Note, Removal, Renaming, Request, Source, Step, Steps,
+    FileChange, FileEdit, Job, Merge, NewComments, Note, Removal, Renaming, Request, Source, Step,
+    Steps,
 };
 use properties_tools::propedit::{print_out_of_memory, print_text, print_usage_error};
 use std::alloc::{AllocError, Global};
@@ -602,10 +603,12 @@ fn change<'a>(
     note: Option<Note>,
 ) -> Result<Request, Mistake<'a>> {
     let encoding = options.encoding(row)?;
+    // A conversion mends what would be said.
+    let latin_1 = options.is_latin_1() && !matches!(change, Change::Conversion(_));
     match options.destination(alloc)? {
         Destination::Printed(source) => Ok(Request::Job(Job {
             encoding,
-            latin_1: false,
+            latin_1,
             source,
             command: Command::Change(change),
             note,
@@ -618,7 +621,11 @@ fn change<'a>(
                 missing,
                 verbose,
             };
-            Ok(Request::EditFile(file, note))
+            Ok(Request::EditFile(FileEdit {
+                file,
+                latin_1,
+                note,
+            }))
         }
     }
 }

@@ -5,12 +5,11 @@ use java_properties::{Encoding, read_source};
 use properties_tools::propedit::answers::name;
 use properties_tools::propedit::error::Failure;
 use properties_tools::propedit::exit_status;
-use properties_tools::propedit::hint::print_misread;
 use properties_tools::propedit::request::Source;
 use properties_tools::propedit::same_file::{INPUT, refuse_output};
 use std::alloc::AllocError;
 use std::fs::{self, File};
-use std::io::{self, Cursor, IsTerminal, Read, Stdin};
+use std::io::{self, IsTerminal, Read, Stdin};
 
 /// Where the bytes of standard input come from.
 #[derive(Clone, Copy)]
@@ -36,8 +35,6 @@ pub(crate) enum Input<'a> {
     Standard(Stdin),
     Bytes(&'a [u8]),
     File(File),
-    /// It was read already.
-    Read(Cursor<Vec<u8>>),
 }
 
 impl Read for Input<'_> {
@@ -46,7 +43,6 @@ impl Read for Input<'_> {
             Input::Standard(input) => input.read(buf),
             Input::Bytes(bytes) => bytes.read(buf),
             Input::File(file) => file.read(buf),
-            Input::Read(bytes) => bytes.read(buf),
         }
     }
 }
@@ -85,22 +81,6 @@ pub(crate) fn opened_or_explain<'a, E: CountedWrite>(
             Err(exit_status(rt.alloc(), errors, name(source), failed))
         }
     }
-}
-
-/// Reads a source that Java reads as ISO 8859-1, so that a line says what it reads otherwise.
-pub(crate) fn noted<'a, E: CountedWrite>(
-    rt: &HostRuntime,
-    source: &Source,
-    latin_1: bool,
-    mut input: Counted<Input<'a>>,
-    errors: &mut E,
-) -> Result<Counted<Input<'a>>, u8> {
-    if !latin_1 {
-        return Ok(input);
-    }
-    let bytes = read_or_explain(rt, source, Encoding::WINDOWS_1252, &mut input, errors)?;
-    print_misread(rt.alloc(), errors, name(source), &bytes);
-    Ok(Counted::new(Input::Read(Cursor::new(bytes))))
 }
 
 /// Reads a source to its end. If it can't be read, a line says why, and the error is the status.

@@ -6,7 +6,7 @@ mod input;
 mod notes;
 
 use crate::checking::check_files;
-use crate::input::{Input, files_among, is_file, noted, opened_or_explain, read_or_explain};
+use crate::input::{Input, files_among, is_file, opened_or_explain, read_or_explain};
 use crate::notes::{edit, lacks_file};
 use counted_io::{Counted, CountedWrite};
 pub use input::StandardInput;
@@ -19,9 +19,10 @@ use properties_tools::propedit::diff::run_diff;
 use properties_tools::propedit::hint::{
     possible_files, print_misread, print_reading, refused_files,
 };
-use properties_tools::propedit::in_place::edit_file;
 use properties_tools::propedit::merge::{Merged, read_merge};
-use properties_tools::propedit::request::{Comparison, Form, Job, Merge, Request, Source};
+use properties_tools::propedit::request::{
+    Comparison, FileEdit, Form, Job, Merge, Request, Source,
+};
 use properties_tools::propedit::streams::Sinks;
 use properties_tools::propedit::{print_out_of_memory, run};
 use std::alloc::AllocError;
@@ -37,7 +38,7 @@ pub fn run_words<W: CountedWrite, E: CountedWrite>(
     match asked_for(alloc, words) {
         Ok(Request::Job(mut job)) => do_job(rt, standard, &mut job, sinks),
         Ok(Request::CheckFiles(files)) => check_files(rt, standard, files, sinks),
-        Ok(Request::EditFile(file, note)) => edit(rt, &file, &note, &mut sinks.errors),
+        Ok(Request::EditFile(asked)) => edit(rt, &asked, &mut sinks.errors),
         Ok(Request::Merge(asked)) => merge(rt, standard, asked, sinks),
         Ok(Request::Diff(sources)) => compare(rt, standard, &sources, sinks),
         Err(error) => {
@@ -85,9 +86,17 @@ fn merge<W: CountedWrite, E: CountedWrite>(
         Ok(file) => file,
         Err(status) => return status,
     };
+    let latin_1 = asked.edits.latin_1;
     match read_merge(alloc, asked, &mut file.as_slice(), &mut sinks.errors) {
         Ok(Merged::Printed(mut job)) => do_job(rt, standard, &mut job, sinks),
-        Ok(Merged::InPlace(file)) => edit_file(rt, alloc, &file, &mut sinks.errors),
+        Ok(Merged::InPlace(file)) => {
+            let asked = FileEdit {
+                file,
+                latin_1,
+                note: None,
+            };
+            edit(rt, &asked, &mut sinks.errors)
+        }
         Err(status) => status,
     }
 }
@@ -126,7 +135,7 @@ pub(crate) fn do_job<W: CountedWrite, E: CountedWrite>(
     sinks: &mut Sinks<W, E>,
 ) -> u8 {
     let alloc = rt.alloc();
-    let input = match opened_or_explain(rt, standard, &job.source, &mut sinks.errors) {
+    let mut input = match opened_or_explain(rt, standard, &job.source, &mut sinks.errors) {
         Ok(input) => input,
         Err(status) => return status,
     };
@@ -143,10 +152,6 @@ pub(crate) fn do_job<W: CountedWrite, E: CountedWrite>(
     if standard.is_typed(rt, &job.source) {
         print_reading(&mut sinks.errors);
     }
-    let mut input = match noted(rt, &job.source, job.latin_1, input, &mut sinks.errors) {
-        Ok(input) => input,
-        Err(status) => return status,
-    };
     // If an option names a file, the hint on another file comes before a note.
     let is_second = matches!(job.source, Source::File(_)) && !files.is_empty();
     if is_second || lacks_file(rt, &job.note) {
@@ -176,7 +181,5 @@ fn opened_both<'a, E: CountedWrite>(
 ) -> Result<(Counted<Input<'a>>, Counted<Input<'a>>), u8> {
     let old = opened_or_explain(rt, standard, &sources.old, errors)?;
     let new = opened_or_explain(rt, standard, &sources.new, errors)?;
-    let old = noted(rt, &sources.old, sources.latin_1, old, errors)?;
-    let new = noted(rt, &sources.new, sources.latin_1, new, errors)?;
     Ok((old, new))
 }

@@ -5,6 +5,7 @@ pub mod Differences
 pub mod TableDifferences
 pub mod FilterErrors
 pub mod Filtering
+pub mod Hinting
 pub mod MissingKeys
 pub mod ListedKeys
 pub mod Merging

@@ -22,7 +22,7 @@ use Rattle.properties_checking.specs.Check.{IsReport}
 use Rattle.properties_tools.specs.Propedit.Comment.{ShowsComment}
 use Rattle.properties_tables.specs.Failures.{IsMemoryFailure, failure_status, standard_output, Reports}
 use Rattle.properties_tools.specs.Propedit.Get.{Gets}
-use Rattle.properties_tools.specs.Propedit.Hints.{hint_bytes, IsHint, PrintsHint}
+use Rattle.properties_tools.specs.Propedit.Hints.{hint_bytes, IsHint, NotesMisread, PrintsHint}
 use Rattle.properties_tools.specs.Propedit.Json.{ListsJson}
 use Rattle.properties_tools.specs.Propedit.Listing.{Lists, ListsValues}
 use Rattle.properties_tools.specs.declared.propedit.answer.Answer.{Answer}
@@ -116,56 +116,61 @@ EndsRun error_sink name errors (Err failure) status errors' = (status ≡ failur
 
 -- ---- a command
 
--- What the source gave to its end was answered, and printing the answer returned this.
-pub record PrintsAnswer {R W : Type 0} (reader : Reader R) (sink : Sink W) (job : Job) (input : R) (output : W)
-    (answer : Answer) (printed : Result Unit PropertiesError) (input' : R) (output' : W) : Type 0 where
-  pub source : List ℕ
-  pub read : GivesWhole reader input source input'
+-- The source was answered, and printing the answer returned this.
+pub record PrintsAnswer {W : Type 0} (sink : Sink W) (job : Job) (source : List ℕ) (output : W) (answer : Answer)
+    (printed : Result Unit PropertiesError) (output' : W) : Type 0 where
   pub answers : Answers job source (Ok answer)
   pub writes : WritesSource sink output answer.text.items printed output'
 
--- What the source gave to its end has no answer, and nothing was printed.
-pub record HasNoAnswer {R W : Type 0} (reader : Reader R) (job : Job) (input : R) (output : W) (failure : Failure) (input' : R) (output' : W) : Type 0 where
-  pub source : List ℕ
-  pub read : GivesWhole reader input source input'
+-- The source has no answer, and nothing was printed.
+pub record HasNoAnswer {W : Type 0} (job : Job) (source : List ℕ) (output : W) (failure : Failure) (output' : W) : Type 0 where
   pub fails : Answers job source (Err failure)
   pub unwritten : output' ≡ output
 
--- The source couldn't be read to its end, and nothing was printed. The error is that of a failed read, as reading a whole
--- source gives it, or Memory where no read failed.
-pub record FailsInSource {R W : Type 0} (reader : Reader R) (job : Job) (input : R) (output : W) (failure : Failure) (input' : R) (output' : W) : Type 0 where
-  pub error : PropertiesError
-  pub fails : ReadsSource reader (encoding_of job.encoding) input (Err error) input'
-  pub is : failure ≡ Input error
-  pub unwritten : output' ≡ output
-
 -- Printing the answer failed.
-pub record FailsInOutput {R W : Type 0} (reader : Reader R) (sink : Sink W) (job : Job) (input : R) (output : W) (failure : Failure) (input' : R) (output' : W) : Type 0 where
+pub record FailsInOutput {W : Type 0} (sink : Sink W) (job : Job) (source : List ℕ) (output : W) (failure : Failure) (output' : W) : Type 0 where
   pub answer : Answer
   pub error : PropertiesError
-  pub prints : PrintsAnswer reader sink job input output answer (Err error) input' output'
+  pub prints : PrintsAnswer sink job source output answer (Err error) output'
   pub is : failure ≡ Output error
 
 -- What printing the answer to a command returns: the answer's status and the hint on it, if any; or why it failed.
-abbrev pub PrintsResult : {R W : Type 0} → Reader R → Sink W → Job → List (List ℕ) → R → W → Result (ℕ × Option (String Global)) Failure → R → W → Type 0
-PrintsResult reader sink job files input output (Ok said) input' output' =
-    (answer : Answer) × (printed : PrintsAnswer reader sink job input output answer (Ok tt) input' output') × (said.0 ≡ answer.status)
-    × IsHint job files printed.source answer.status (hint_bytes said.1)
-PrintsResult reader sink job files input output (Err failure) input' output' =
-    FailsInSource reader job input output failure input' output'
-    ⊎ (HasNoAnswer reader job input output failure input' output' ⊎ FailsInOutput reader sink job input output failure input' output')
+abbrev pub PrintsResult : {W : Type 0} → Sink W → Job → List (List ℕ) → List ℕ → W → Result (ℕ × Option (String Global)) Failure → W → Type 0
+PrintsResult sink job files source output (Ok said) output' =
+    (answer : Answer) × PrintsAnswer sink job source output answer (Ok tt) output' × (said.0 ≡ answer.status)
+    × IsHint job files source answer.status (hint_bytes said.1)
+PrintsResult sink job files source output (Err failure) output' =
+    HasNoAnswer job source output failure output' ⊎ FailsInOutput sink job source output failure output'
 
 -- The status is that of the answer, and the hint on it is printed, if there is one; or it ends as at any failure.
 abbrev pub EndsSaying : {E : Type 0} → Sink E → List ℕ → E → Result (ℕ × Option (String Global)) Failure → ℕ → E → Type 0
 EndsSaying error_sink name errors (Ok said) status errors' = (status ≡ said.0) × PrintsHint error_sink errors (hint_bytes said.1) errors'
 EndsSaying error_sink name errors (Err failure) status errors' = EndsRun error_sink name errors (Err failure) status errors'
 
--- What the program does for a command: it reads the source, prints the answer, and ends so. These files are there.
-pub record Runs {R W E : Type 0} (reader : Reader R) (sink : Sink W) (error_sink : Sink E) (job : Job) (files : List (List ℕ)) (input : R) (output : W)
-    (errors : E) (status : ℕ) (input' : R) (output' : W) (errors' : E) : Type 0 where
-  pub result : Result (ℕ × Option (String Global)) Failure
-  pub prints : PrintsResult reader sink job files input output result input' output'
-  pub ends : EndsSaying error_sink (source_name job.source) errors result status errors'
+module _ {R W E : Type 0} (reader : Reader R) (sink : Sink W) (error_sink : Sink E) (job : Job) where
+  -- The source was read to its end, a line tells where Java reads it differently, and the answer was printed. These
+  -- files are there.
+  pub record RunsOnSource (files : List (List ℕ)) (input : R) (output : W) (errors : E) (status : ℕ) (input' : R) (output' : W) (errors' : E) : Type 0 where
+    pub source : List ℕ
+    pub read : GivesWhole reader input source input'
+    pub noted : E
+    pub notes : NotesMisread error_sink job.latin_1 (source_name job.source) source errors noted
+    pub result : Result (ℕ × Option (String Global)) Failure
+    pub prints : PrintsResult sink job files source output result output'
+    pub ends : EndsSaying error_sink (source_name job.source) noted result status errors'
+
+  -- The source couldn't be read to its end, and nothing was printed. The error is that of a failed read, as reading a
+  -- whole source gives it, or Memory where no read failed.
+  pub record FailsInSource (input : R) (output : W) (errors : E) (status : ℕ) (input' : R) (output' : W) (errors' : E) : Type 0 where
+    pub error : PropertiesError
+    pub fails : ReadsSource reader (encoding_of job.encoding) input (Err error) input'
+    pub unwritten : output' ≡ output
+    pub ends : EndsRun error_sink (source_name job.source) errors (Err (Input error)) status errors'
+
+  -- What the program does for a command.
+  abbrev pub Runs : List (List ℕ) → R → W → E → ℕ → R → W → E → Type 0
+  Runs files input output errors status input' output' errors' =
+      RunsOnSource files input output errors status input' output' errors' ⊎ FailsInSource input output errors status input' output' errors'
 
 -- ---- a text
 

@@ -70,7 +70,7 @@ ghost use Rattle.properties_tools.specs.Propedit.{EndsRun, PrintsResult, Runs, P
 ghost use Rattle.properties_tables.specs.Failures.{memory_words};
 
 use crate::propedit::answers::{answer_to, name};
-use crate::propedit::hint::{hint, print_hint};
+use crate::propedit::hint::{hint, note_misread, print_hint};
 use crate::propedit::request::Job;
 use crate::propedit::streams::Sinks;
 use counted_io::{CountedRead, CountedWrite};
@@ -111,31 +111,34 @@ pub fn run<R: CountedRead, W: CountedWrite, E: CountedWrite>(
     ensures same_error_sink { IsSameSink E.CountedWrite sinks.old.errors sinks.new.errors }
 {
     let (output, errors) = (&mut sinks.output, &mut sinks.errors);
-    match print_answer(alloc, job, files, input, output) {
+    let name = name(&job.source);
+    let source = match read_source(alloc, input, job.encoding) {
+        Ok(source) => source,
+        Err(error) => return exit_status(alloc, errors, name, Err(Failure::Input(error))),
+    };
+    note_misread(alloc, errors, job.latin_1, name, &source);
+    match print_answer(alloc, job, files, &source, output) {
         Ok((status, hint)) => {
             print_hint(errors, &hint);
             status
         }
-        Err(failure) => exit_status(alloc, errors, name(&job.source), Err(failure)),
+        Err(failure) => exit_status(alloc, errors, name, Err(failure)),
     }
 }
 
 // Prints what the command gives for the source, and returns the status of the answer, and the hint on it, if any.
-fn print_answer<R: CountedRead, W: CountedWrite>(
+fn print_answer<W: CountedWrite>(
     alloc: Global,
     job: &Job,
     files: &[String],
-    input: &mut R,
+    source: &[u8],
     output: &mut W,
 ) -> Result<(u8, Option<String>), Failure>
-    ensures prints { PrintsResult R.CountedRead W.CountedWrite job.now (map characters files.now)
-        input.old output.old result input.new output.new }
-    ensures same_reader { IsSameReader R.CountedRead input.old input.new }
+    ensures prints { PrintsResult W.CountedWrite job.now (map characters files.now) source.now output.old result output.new }
     ensures same_sink { IsSameSink W.CountedWrite output.old output.new }
 {
-    let source = read_source(alloc, input, job.encoding)?;
-    let answer = answer_to(alloc, job, &source)?;
-    let hint = hint(alloc, job, files, &source, answer.status)?;
+    let answer = answer_to(alloc, job, source)?;
+    let hint = hint(alloc, job, files, source, answer.status)?;
     match write_source(output, &answer.text) {
         Ok(()) => Ok((answer.status, hint)),
         Err(error) => Err(Failure::Output(error)),

@@ -4,13 +4,13 @@ use Rattle.std.specs.{Global.Global, declared.string.String.String}
 use Rattle.properties_format.specs.Encoding.{Encoding}
 use Rattle.properties_tools.specs.{Propedit.Answers, declared.propedit.answer.Answer.Answer, declared.propedit.request.Doubt.Doubt}
 use Rattle.properties_tools.specs.declared.propedit.request.Job.{Job}
-use Rattle.properties_tables.specs.{Failures.IsMemoryFailure, Sources.IsSound, Sources.IsUnsound, declared.error.Failure.Failure}
-use Rattle.properties_tools.specs.Propedit.Hints.{hint_bytes, HasPrefix, IsFileHint, IsHint, Tells}
+use Rattle.properties_tables.specs.{Failures.IsMemoryFailure, Sources.IsUnsound, Values.SaysMalformed, declared.error.Failure.Failure}
+use Rattle.properties_tools.specs.Propedit.Hints.{hint_bytes, FailsToTell, HasPrefix, IsFileHint, IsHint, Tells}
 
--- The same of the line for that key.
+-- What looking for that file returns.
 abbrev pub FindsFileHint : Encoding → List ℕ → List (List ℕ) → Result (Option (String Global)) Failure → Type 0
 FindsFileHint e source files (Ok hint) = IsFileHint e source files (hint_bytes hint)
-FindsFileHint e source files (Err failure) = IsSound e source → IsMemoryFailure failure
+FindsFileHint e source files (Err failure) = SaysMalformed e source failure ⊎ IsMemoryFailure failure
 
 -- The hint on an answer. Finding it fails only as the command might have failed itself.
 abbrev pub FindsHint : Job → List (List ℕ) → List ℕ → ℕ → Result (Option (String Global)) Failure → Type 0
@@ -20,7 +20,7 @@ FindsHint job files source status (Err failure) = (answer : Answer) → Answers 
 -- Whether the source bears out that an argument may mean something else; or it is refused, or memory ran out.
 abbrev pub TellsDoubt : Encoding → List ℕ → Doubt → Result Bool Failure → Type 0
 TellsDoubt e source doubt (Ok told) = Tells e source doubt told
-TellsDoubt e source doubt (Err failure) = IsUnsound e source failure ⊎ (IsSound e source → IsMemoryFailure failure)
+TellsDoubt e source doubt (Err failure) = FailsToTell e source failure
 
 -- Whether a key begins with a prefix.
 abbrev pub FindsPrefix : Encoding → List ℕ → List ℕ → Result Bool Failure → Type 0

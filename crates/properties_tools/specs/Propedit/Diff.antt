@@ -7,6 +7,7 @@ use Rattle.properties_format.specs.Encoding.{Encoding}
 use Rattle.properties_items.specs.declared.error.PropertiesError.{PropertiesError}
 use Rattle.properties_text.specs.Encoding.{encoding_of}
 use Rattle.properties_tools.specs.Propedit.{source_name, EndsRun}
+use Rattle.properties_tools.specs.Propedit.Hints.{NotesMisread}
 use Rattle.properties_tools.specs.Propedit.Differences.{difference_lines, difference_status, AreDifferencesOf, Difference}
 use Rattle.properties_tables.specs.Failures.{standard_output}
 use Rattle.properties_tools.specs.Propedit.Json.{difference_value}
@@ -63,53 +64,13 @@ Compares sources old new result =
 
 -- ---- over streams
 
-module _ {R S W : Type 0} (old_reader : Reader R) (new_reader : Reader S) (sink : Sink W) (sources : Comparison) where
-  -- What the sources gave to their ends was compared, and printing the answer returned this.
-  pub record PrintsDifferences (old : R) (new : S) (output : W) (answer : Answer) (printed : Result Unit PropertiesError) (old' : R) (new' : S) (output' : W) :
-      Type 0 where
-    pub old_source : List ℕ
-    pub new_source : List ℕ
-    pub old_read : GivesWhole old_reader old old_source old'
-    pub new_read : GivesWhole new_reader new new_source new'
-    pub compares : Compares sources old_source new_source (Ok answer)
-    pub writes : WritesSource sink output answer.text.items printed output'
-
-  -- What the sources gave to their ends was refused, and nothing was printed.
-  pub record HasNoDifferences (old : R) (new : S) (output : W) (why : DiffFailure) (old' : R) (new' : S) (output' : W) : Type 0 where
-    pub old_source : List ℕ
-    pub new_source : List ℕ
-    pub old_read : GivesWhole old_reader old old_source old'
-    pub new_read : GivesWhole new_reader new new_source new'
-    pub fails : Compares sources old_source new_source (Err why)
-    pub unwritten : output' ≡ output
-
-  -- The old source couldn't be read to its end, nothing was read of the new one, and nothing was printed.
-  pub record FailsInOld (old : R) (new : S) (output : W) (why : Failure) (old' : R) (new' : S) (output' : W) : Type 0 where
-    pub error : PropertiesError
-    pub fails : ReadsSource old_reader (encoding_of sources.encoding) old (Err error) old'
-    pub is : why ≡ failure.Input error
-    pub unread : new' ≡ new
-    pub unwritten : output' ≡ output
-
-  -- The new source couldn't be read to its end, and nothing was printed.
-  pub record FailsInNew (old : R) (new : S) (output : W) (why : Failure) (old' : R) (new' : S) (output' : W) : Type 0 where
-    pub old_source : List ℕ
-    pub old_read : GivesWhole old_reader old old_source old'
-    pub error : PropertiesError
-    pub fails : ReadsSource new_reader (encoding_of sources.encoding) new (Err error) new'
-    pub is : why ≡ failure.Input error
-    pub unwritten : output' ≡ output
-
-  -- What printing the differences returns: the status of the answer, or why it failed.
-  abbrev pub PrintsDiff : R → S → W → Result ℕ DiffFailure → R → S → W → Type 0
-  PrintsDiff old new output (Ok status) old' new' output' =
-      (answer : Answer) × PrintsDifferences old new output answer (Ok tt) old' new' output' × (status ≡ answer.status)
-  PrintsDiff old new output (Err (Old why)) old' new' output' =
-      FailsInOld old new output why old' new' output' ⊎ HasNoDifferences old new output (Old why) old' new' output'
-  PrintsDiff old new output (Err (New why)) old' new' output' =
-      FailsInNew old new output why old' new' output' ⊎ HasNoDifferences old new output (New why) old' new' output'
-  PrintsDiff old new output (Err (Output error)) old' new' output' =
-      (answer : Answer) × PrintsDifferences old new output answer (Err error) old' new' output'
+-- What printing the differences of two sources returns: the status of the answer, or why nothing or not all was printed.
+abbrev pub PrintsDiff : {W : Type 0} → Sink W → Comparison → List ℕ → List ℕ → W → Result ℕ DiffFailure → W → Type 0
+PrintsDiff sink sources old new output (Ok status) output' =
+    (answer : Answer) × Compares sources old new (Ok answer) × WritesSource sink output answer.text.items (Ok tt) output' × (status ≡ answer.status)
+PrintsDiff sink sources old new output (Err (Output error)) output' =
+    (answer : Answer) × Compares sources old new (Ok answer) × WritesSource sink output answer.text.items (Err error) output'
+PrintsDiff sink sources old new output (Err why) output' = Compares sources old new (Err why) × (output' ≡ output)
 
 -- The status is that of the answer, or of a failure, whose message names the source or the output.
 abbrev pub EndsDiff : {E : Type 0} → Sink E → Comparison → E → Result ℕ DiffFailure → ℕ → E → Type 0
@@ -119,9 +80,40 @@ EndsDiff error_sink sources errors (Err (New why)) status errors' = EndsRun erro
 EndsDiff error_sink sources errors (Err (Output error)) status errors' =
     EndsRun error_sink standard_output errors (Err (failure.Output error)) status errors'
 
--- What the program does for two sources: it reads them, prints what differs, and ends so.
-pub record RunsDiff {R S W E : Type 0} (old_reader : Reader R) (new_reader : Reader S) (sink : Sink W) (error_sink : Sink E) (sources : Comparison)
-    (old : R) (new : S) (output : W) (errors : E) (status : ℕ) (old' : R) (new' : S) (output' : W) (errors' : E) : Type 0 where
-  pub result : Result ℕ DiffFailure
-  pub prints : PrintsDiff old_reader new_reader sink sources old new output result old' new' output'
-  pub ends : EndsDiff error_sink sources errors result status errors'
+module _ {R S W E : Type 0} (old_reader : Reader R) (new_reader : Reader S) (sink : Sink W) (error_sink : Sink E) (sources : Comparison) where
+  -- Both sources were read to their ends, lines tell where Java reads each differently, and what differs was printed.
+  pub record ComparesBoth (old : R) (new : S) (output : W) (errors : E) (status : ℕ) (old' : R) (new' : S) (output' : W) (errors' : E) : Type 0 where
+    pub old_source : List ℕ
+    pub new_source : List ℕ
+    pub old_read : GivesWhole old_reader old old_source old'
+    pub new_read : GivesWhole new_reader new new_source new'
+    pub noted_old : E
+    pub notes_old : NotesMisread error_sink sources.latin_1 (source_name sources.old) old_source errors noted_old
+    pub noted : E
+    pub notes : NotesMisread error_sink sources.latin_1 (source_name sources.new) new_source noted_old noted
+    pub result : Result ℕ DiffFailure
+    pub prints : PrintsDiff sink sources old_source new_source output result output'
+    pub ends : EndsDiff error_sink sources noted result status errors'
+
+  -- The old source couldn't be read to its end, nothing was read of the new one, and nothing was printed.
+  pub record FailsInOld (old : R) (new : S) (output : W) (errors : E) (status : ℕ) (old' : R) (new' : S) (output' : W) (errors' : E) : Type 0 where
+    pub error : PropertiesError
+    pub fails : ReadsSource old_reader (encoding_of sources.encoding) old (Err error) old'
+    pub unread : new' ≡ new
+    pub unwritten : output' ≡ output
+    pub ends : EndsDiff error_sink sources errors (Err (Old (failure.Input error))) status errors'
+
+  -- The new source couldn't be read to its end, and nothing was printed.
+  pub record FailsInNew (old : R) (new : S) (output : W) (errors : E) (status : ℕ) (old' : R) (new' : S) (output' : W) (errors' : E) : Type 0 where
+    pub old_source : List ℕ
+    pub old_read : GivesWhole old_reader old old_source old'
+    pub error : PropertiesError
+    pub fails : ReadsSource new_reader (encoding_of sources.encoding) new (Err error) new'
+    pub unwritten : output' ≡ output
+    pub ends : EndsDiff error_sink sources errors (Err (New (failure.Input error))) status errors'
+
+  -- What the program does for two sources.
+  abbrev pub RunsDiff : R → S → W → E → ℕ → R → S → W → E → Type 0
+  RunsDiff old new output errors status old' new' output' errors' =
+      ComparesBoth old new output errors status old' new' output' errors'
+      ⊎ (FailsInOld old new output errors status old' new' output' errors' ⊎ FailsInNew old new output errors status old' new' output' errors')

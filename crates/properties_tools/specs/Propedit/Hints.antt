@@ -1,5 +1,5 @@
 -- Hints on arguments that may mean something else.
-use Rattle.std.specs.Prelude.{◌≡◌, ◌==◌, ◌⊎◌, ℕ, Bool, true, false, not, List, [], ◌∷◌, ◌++◌, length, Option, Some, None, codes, map, string_bytes}
+use Rattle.std.specs.Prelude.{◌≡◌, ◌==◌, ◌⊎◌, ℕ, Bool, true, false, not, List, [], ◌∷◌, ◌++◌, length, Option, Some, None, Result, Ok, Err, codes, map, string_bytes}
 use Rattle.std.specs.Fmt.{decimal}
 use Rattle.std.specs.Global.{Global}
 use Rattle.std.specs.Option.{option_map}
@@ -11,7 +11,8 @@ use Rattle.properties_text.specs.Encoding.{encoding_of}
 use Rattle.properties_tables.specs.Messages.{escaped, printed_line, HasPrintedLine}
 use Rattle.java_properties.specs.Maps.{characters}
 use Rattle.properties_changing.specs.Keys.{HoldsKey, HoldsKeys, HoldsNoKey, IsFirstAbsent}
-use Rattle.properties_tables.specs.Lines.{IsFirstFlawed}
+use Rattle.properties_tables.specs.{Failures.IsMemoryFailure, Lines.IsFirstFlawed, Sources.IsUnsound, Values.SaysMalformed}
+use Rattle.properties_tables.specs.declared.error.Failure.{Failure}
 use Rattle.properties_tables.specs.declared.ill_formed.Flaw.TheVariants.{Misread}
 use Rattle.properties_tools.specs.Propedit.Listing.{listed_keys, AreKeysOf}
 use Rattle.properties_tools.specs.declared.propedit.request.Command.{Command}
@@ -33,7 +34,7 @@ reading_line = printed_line (codes "propedit: reading standard input; '-f FILE' 
 -- the line on the first line of a source with a byte that Java reads otherwise, if it reads ISO 8859-1
 abbrev pub misread_line : List ℕ → ℕ → List ℕ
 misread_line name number = codes "propedit: " ++ (escaped name ++ (codes ":" ++ (decimal number ++ (codes ": " ++ printed_line
-    (codes "has a byte that Java reads as a control character; 'propedit check -e iso-8859-1' names each")))))
+    (codes "has a byte that Java reads as a control character; 'propedit check -e iso-8859-1 FILE' lists all")))))
 
 abbrev pub PrintsMisreadIn : {W : Type 0} → Sink W → List ℕ → Option ℕ → W → W → Type 0
 PrintsMisreadIn sink name None old new = new ≡ old
@@ -42,6 +43,11 @@ PrintsMisreadIn sink name (Some number) old new = HasPrintedLine sink old (misre
 -- It is printed if there is such a line, and memory for it.
 abbrev pub PrintsMisread : {W : Type 0} → Sink W → List ℕ → List ℕ → W → W → Type 0
 PrintsMisread sink name source old new = (first : Option ℕ) × IsFirstFlawed Misread windows_1252 source first × PrintsMisreadIn sink name first old new
+
+-- The line is told where Java reads the source so.
+abbrev pub NotesMisread : {W : Type 0} → Sink W → Bool → List ℕ → List ℕ → W → W → Type 0
+NotesMisread sink true name source old new = PrintsMisread sink name source old new
+NotesMisread sink false name source old new = new ≡ old
 
 abbrev pub without_first : {X : Type 0} → List X → List X
 without_first [] = []
@@ -132,13 +138,26 @@ Tells e source (Prefix prefix front) true = HasPrefix e source (characters prefi
 Tells e source (Prefix prefix front) false = HasPrefix e source (characters prefix) true ⊎ HasPrefix e source (characters front) false
 Tells e source (Value file) told = told ≡ true
 
--- The line is that of this note, which the source bears out.
-abbrev pub IsNoteOf : Encoding → List ℕ → Option Note → List ℕ → Type 0
-IsNoteOf e source None line = ⊥
-IsNoteOf e source (Some note) line = Tells e source note.doubt true × (line ≡ string_bytes note.line)
+-- Why it isn't known: an escape in a pair is malformed, or the source is refused, or memory ran out.
+abbrev pub FailsToTell : Encoding → List ℕ → Failure → Type 0
+FailsToTell e source failure = (SaysMalformed e source failure ⊎ IsMemoryFailure failure) ⊎ IsUnsound e source failure
+
+-- What telling a note returns: its line if the source bears it out, and no line if it doesn't, or if there is no note.
+abbrev pub TellsNote : Encoding → List ℕ → Option Note → Result (Option (String Global)) Failure → Type 0
+TellsNote e source None result = result ≡ Ok None
+TellsNote e source (Some note) (Ok (Some line)) = Tells e source note.doubt true × (string_bytes line ≡ string_bytes note.line)
+TellsNote e source (Some note) (Ok None) = Tells e source note.doubt false
+TellsNote e source (Some note) (Err failure) = FailsToTell e source failure
+
+-- What telling the job's note returned, and so what is printed with an answer: the line, or else the hint on the answer. A
+-- source that is refused bears nothing out. If memory runs out, nothing is printed so.
+abbrev pub IsHintAfter : Result (Option (String Global)) Failure → (Option (List ℕ) → Type 0) → Option (List ℕ) → Type 0
+IsHintAfter (Ok (Some line)) IsOther hint = hint ≡ Some (string_bytes line)
+IsHintAfter (Ok None) IsOther hint = IsOther hint
+IsHintAfter (Err failure) IsOther hint = (¬ IsMemoryFailure failure) × IsOther hint
 
 -- What is printed with an answer of this status: the job's note, if the source bears it out, or else a hint.
 abbrev pub IsHint : Job → List (List ℕ) → List ℕ → ℕ → Option (List ℕ) → Type 0
 IsHint job files source status hint =
-    ((line : List ℕ) × IsNoteOf (encoding_of job.encoding) source job.note line × (hint ≡ Some line))
-    ⊎ IsHintOf job.source (encoding_of job.encoding) job.command files source status hint
+    (told : Result (Option (String Global)) Failure) × TellsNote (encoding_of job.encoding) source job.note told
+    × IsHintAfter told (IsHintOf job.source (encoding_of job.encoding) job.command files source status) hint

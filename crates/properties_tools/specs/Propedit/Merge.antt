@@ -125,14 +125,14 @@ abbrev pub change_by : Edits → Vec editor.Edit → Change
 change_by asked list = change.Edits (record { list = list; ascii_only = asked.ascii_only; latin_1 = asked.latin_1; absent = asked.absent })
 
 -- a change that goes there
-abbrev pub sent_to : Destination → Asked → Change → Merged
-sent_to (destination.Printed source) e change = outcome.Printed (record { encoding = e; latin_1 = false; source = source; command = command.Change change; note = None })
-sent_to (destination.InPlace path missing verbose) e change =
+abbrev pub sent_to : Destination → Asked → Bool → Change → Merged
+sent_to (destination.Printed source) e latin_1 change = outcome.Printed (record { encoding = e; latin_1 = latin_1; source = source; command = command.Change change; note = None })
+sent_to (destination.InPlace path missing verbose) e latin_1 change =
     outcome.InPlace (record { path = path; encoding = e; change = change; missing = missing; verbose = verbose })
 
 -- what a merge comes to, where these edits set its pairs
 abbrev pub merged : Merge → Vec editor.Edit → Merged
-merged asked list = sent_to asked.destination asked.encoding (change_by asked.edits list)
+merged asked list = sent_to asked.destination asked.encoding asked.edits.latin_1 (change_by asked.edits list)
 
 -- ---- over streams
 

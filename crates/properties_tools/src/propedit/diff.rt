@@ -16,6 +16,7 @@ use crate::propedit::answer::Answer;
 use crate::propedit::answers::name;
 use crate::propedit::diff_json::diff_json;
 use crate::propedit::exit_status;
+use crate::propedit::hint::note_misread;
 use crate::propedit::named::NamedSource;
 use crate::propedit::request::Comparison;
 use crate::propedit::streams::Sinks;
@@ -71,14 +72,21 @@ pub fn run_diff<R: CountedRead, S: CountedRead, W: CountedWrite, E: CountedWrite
     ensures same_error_sink { IsSameSink E.CountedWrite sinks.old.errors sinks.new.errors }
 {
     let (output, errors) = (&mut sinks.output, &mut sinks.errors);
-    match print_diff(alloc, sources, old, new, output) {
+    let (old_name, new_name) = (name(&sources.old), name(&sources.new));
+    let old = match read_source(alloc, old, sources.encoding) {
+        Ok(bytes) => bytes,
+        Err(error) => return exit_status(alloc, errors, old_name, Err(Failure::Input(error))),
+    };
+    let new = match read_source(alloc, new, sources.encoding) {
+        Ok(bytes) => bytes,
+        Err(error) => return exit_status(alloc, errors, new_name, Err(Failure::Input(error))),
+    };
+    note_misread(alloc, errors, sources.latin_1, old_name, &old);
+    note_misread(alloc, errors, sources.latin_1, new_name, &new);
+    match print_diff(alloc, sources, &old, &new, output) {
         Ok(status) => status,
-        Err(DiffFailure::Old(failure)) => {
-            exit_status(alloc, errors, name(&sources.old), Err(failure))
-        }
-        Err(DiffFailure::New(failure)) => {
-            exit_status(alloc, errors, name(&sources.new), Err(failure))
-        }
+        Err(DiffFailure::Old(failure)) => exit_status(alloc, errors, old_name, Err(failure)),
+        Err(DiffFailure::New(failure)) => exit_status(alloc, errors, new_name, Err(failure)),
         Err(DiffFailure::Output(error)) => {
             exit_status(alloc, errors, STANDARD_OUTPUT, Err(Failure::Output(error)))
         }
@@ -86,29 +94,17 @@ pub fn run_diff<R: CountedRead, S: CountedRead, W: CountedWrite, E: CountedWrite
 }
 
 // Prints what differs between two sources, and returns the status.
-fn print_diff<R: CountedRead, S: CountedRead, W: CountedWrite>(
+fn print_diff<W: CountedWrite>(
     alloc: Global,
     sources: &Comparison,
-    old: &mut R,
-    new: &mut S,
+    old: &[u8],
+    new: &[u8],
     output: &mut W,
 ) -> Result<u8, DiffFailure>
-    ensures prints { PrintsDiff R.CountedRead S.CountedRead W.CountedWrite sources.now
-        old.old new.old output.old result old.new new.new output.new }
-    ensures same_old { IsSameReader R.CountedRead old.old old.new }
-    ensures same_new { IsSameReader S.CountedRead new.old new.new }
+    ensures prints { PrintsDiff W.CountedWrite sources.now old.now new.now output.old result output.new }
     ensures same_sink { IsSameSink W.CountedWrite output.old output.new }
 {
-    let encoding = sources.encoding;
-    let old = match read_source(alloc, old, encoding) {
-        Ok(bytes) => bytes,
-        Err(error) => return Err(DiffFailure::Old(Failure::from(error))),
-    };
-    let new = match read_source(alloc, new, encoding) {
-        Ok(bytes) => bytes,
-        Err(error) => return Err(DiffFailure::New(Failure::from(error))),
-    };
-    let answer = compared(alloc, sources, &old, &new)?;
+    let answer = compared(alloc, sources, old, new)?;
     match write_source(output, &answer.text) {
         Ok(()) => Ok(answer.status),
         Err(error) => Err(DiffFailure::Output(error)),

@@ -1,13 +1,13 @@
 // Hints on arguments that may mean something else.
 
-ghost use Rattle.std.specs.Prelude.{◌≡◌, map, IfOk, IfSome, string_bytes};
+ghost use Rattle.std.specs.Prelude.{◌≡◌, map, IfOk, string_bytes};
 ghost use Rattle.std.specs.Str.{chars};
 ghost use Rattle.counted_io.specs.Streams.{IsSameSink};
 ghost use Rattle.java_properties.specs.Maps.{characters};
 ghost use Rattle.properties_text.specs.Encoding.{encoding_of};
 ghost use Rattle.properties_tables.specs.Messages.{HasPrintedLine};
 ghost use Rattle.properties_tools.specs.Private.Hinting.{FindsFileHint, FindsHint, FindsPrefix, TellsDoubt};
-ghost use Rattle.properties_tools.specs.Propedit.Hints.{hint_bytes, key_line, misread_line, possible_files, prefix_hint, prefix_line, prefix_of, reading_line, refused_files, without_first, IsNoteOf, PrintsHint, PrintsMisread};
+ghost use Rattle.properties_tools.specs.Propedit.Hints.{hint_bytes, key_line, misread_line, possible_files, prefix_hint, prefix_line, prefix_of, reading_line, refused_files, without_first, NotesMisread, PrintsHint, PrintsMisread, TellsNote};
 
 use crate::propedit::list::list;
 use crate::propedit::request::{Command, Doubt, Job, Note, Source, Terminator};
@@ -23,7 +23,7 @@ use std::slice;
 const IS_A_FILE: &str = "a file is named by -f";
 
 const IS_MISREAD: &str =
-    "has a byte that Java reads as a control character; 'propedit check -e iso-8859-1' names each";
+    "has a byte that Java reads as a control character; 'propedit check -e iso-8859-1 FILE' lists all";
 
 const READING: &str = "propedit: reading standard input; '-f FILE' reads a file\n";
 
@@ -113,6 +113,22 @@ pub fn print_misread<E: CountedWrite>(alloc: Global, errors: &mut E, name: &str,
     }
 }
 
+/// Does this if Java reads the source as ISO 8859-1.
+pub(crate) fn note_misread<E: CountedWrite>(
+    alloc: Global,
+    errors: &mut E,
+    latin_1: bool,
+    name: &str,
+    source: &[u8],
+)
+    ensures prints { NotesMisread E.CountedWrite latin_1 name.now source.now errors.old errors.new }
+    ensures same_sink { IsSameSink E.CountedWrite errors.old errors.new }
+{
+    if latin_1 {
+        print_misread(alloc, errors, name, source);
+    }
+}
+
 fn misread_line(alloc: Global, name: &str, number: usize) -> Result<String, AllocError>
     ensures { IfOk result (λ line. string_bytes line ≡ misread_line name.now number) }
 {
@@ -132,8 +148,12 @@ pub(crate) fn hint(
 ) -> Result<Option<String>, Failure>
     ensures { FindsHint job.now (map characters files.now) source.now status result }
 {
-    if let Some(line) = told(alloc, source, job.encoding, &job.note) {
-        return Ok(Some(line));
+    match told(alloc, source, job.encoding, &job.note) {
+        Ok(Some(line)) => return Ok(Some(line)),
+        Ok(None) => {}
+        // Memory ran out. Otherwise the source is refused, which the command has allowed.
+        Err(Failure::Input(error)) => return Err(Failure::Input(error)),
+        Err(_refusal) => {}
     }
     match &job.command {
         Command::Get(_, _, _) | Command::Comment(_) => file_hint(
@@ -208,21 +228,27 @@ fn prefix_line(alloc: Global, prefix: &str) -> Result<String, AllocError>
     format!(in alloc; "propedit: no key begins with '{prefix}'; {IS_A_FILE}\n")
 }
 
-/// Returns the line of a note, if the source bears it out, and there is memory to tell.
+/// Returns the line of a note, if the source bears it out. Fails if the source is refused, or memory runs out.
 ///
 /// ```text
 /// // If the note is on the PREFIX `server.*`, which may mean `server.`:
-/// let line = told(alloc, b"server.port = 80\n", Encoding::UTF_8, &note); // its line
+/// let line = told(alloc, b"server.port = 80\n", Encoding::UTF_8, &note)?; // its line
 /// ```
-pub fn told(alloc: Global, source: &[u8], encoding: Encoding, note: &Option<Note>) -> Option<String>
-    ensures { IfSome result (λ line. IsNoteOf (encoding_of encoding) source.now note.now (string_bytes line)) }
+pub fn told(
+    alloc: Global,
+    source: &[u8],
+    encoding: Encoding,
+    note: &Option<Note>,
+) -> Result<Option<String>, Failure>
+    ensures { TellsNote (encoding_of encoding) source.now note.now result }
 {
-    match note {
-        Some(note) => match bears_out(alloc, source, encoding, &note.doubt) {
-            Ok(true) => note.line.clone().ok(),
-            _ => None,
-        },
-        None => None,
+    let Some(note) = note else {
+        return Ok(None);
+    };
+    if bears_out(alloc, source, encoding, &note.doubt)? {
+        Ok(Some(note.line.clone()?))
+    } else {
+        Ok(None)
     }
 }
 

@@ -81,12 +81,13 @@ fn with_edits(asked: Merge, list: Vec<Edit>) -> Merged
         destination,
         ..
     } = asked;
+    let latin_1 = edits.latin_1;
     edits.list = list;
     let change = Change::Edits(edits);
     match destination {
         Destination::Printed(source) => Merged::Printed(Job {
             encoding,
-            latin_1: false,
+            latin_1,
             source,
             command: Command::Change(change),
             note: None,

@@ -15,8 +15,8 @@ pub enum Request {
     Job(Job),
     /// A check of each of these files.
     CheckFiles(CheckedFiles),
-    /// A change of a file in place, and a note on it.
-    EditFile(FileChange, Option<Note>),
+    /// A change of a file in place.
+    EditFile(FileEdit),
     /// A change by the pairs of another file.
     Merge(Merge),
     /// A comparison of two sources.
@@ -28,13 +28,23 @@ pub enum Request {
 pub struct Job {
     /// The encoding of the source. A byte order mark overrides it.
     pub encoding: Encoding,
-    /// Whether pairs are printed of a source that Java reads as ISO 8859-1.
+    /// Whether Java reads the source as ISO 8859-1, and a line says where it reads it differently.
     pub latin_1: bool,
     /// Where its source is read from.
     pub source: Source,
     /// What is to be done.
     pub command: Command,
     /// What is printed with the answer, if the source bears it out.
+    pub note: Option<Note>,
+}
+
+/// A change of a file in place, and what is said of the file as it was.
+#[derive(Drop)]
+pub struct FileEdit {
+    pub file: FileChange,
+    /// Whether Java reads it as ISO 8859-1, and a line says where it reads it differently.
+    pub latin_1: bool,
+    /// What is printed after the change, if the file bears it out.
     pub note: Option<Note>,
 }
 
