@@ -119,7 +119,8 @@ def wrong_with(program, row, message, hint):
         source = (folder / option[1]).read_bytes() if option and option[1] != "-" else row.input
         line = hint if is_other else f"propedit {shlex.join(words)}"
         done = subprocess.run(line, shell=True, cwd=folder, input=row.input, env=path, capture_output=True, check=False)
-        if done.returncode not in (0, 1):
+        # A command alone may lack what wasn't typed.
+        if done.returncode not in (0, 1) and len(words) > 1:
             return f"status {done.returncode}: {done.stderr!r:.200}"
         if words[0] not in ("set", "remove", "rename") or done.returncode:
             return None

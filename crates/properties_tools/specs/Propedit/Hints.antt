@@ -149,15 +149,18 @@ TellsNote e source (Some note) (Ok (Some line)) = Tells e source note.doubt true
 TellsNote e source (Some note) (Ok None) = Tells e source note.doubt false
 TellsNote e source (Some note) (Err failure) = FailsToTell e source failure
 
--- What telling the job's note returned, and so what is printed with an answer: the line, or else the hint on the answer. A
--- source that is refused bears nothing out. If memory runs out, nothing is printed so.
-abbrev pub IsHintAfter : Result (Option (String Global)) Failure → (Option (List ℕ) → Type 0) → Option (List ℕ) → Type 0
-IsHintAfter (Ok (Some line)) IsOther hint = hint ≡ Some (string_bytes line)
-IsHintAfter (Ok None) IsOther hint = IsOther hint
-IsHintAfter (Err failure) IsOther hint = (¬ IsMemoryFailure failure) × IsOther hint
+-- The line is that of this note, which the source bears out.
+abbrev pub IsNoteOf : Encoding → List ℕ → Option Note → List ℕ → Type 0
+IsNoteOf e source None line = ⊥
+IsNoteOf e source (Some note) line = Tells e source note.doubt true × (line ≡ string_bytes note.line)
+
+-- There is no note, or the source doesn't bear it out, or is refused.
+abbrev pub IsUntold : Encoding → List ℕ → Option Note → Type 0
+IsUntold e source None = Unit {0}
+IsUntold e source (Some note) = Tells e source note.doubt false ⊎ ((failure : Failure) × FailsToTell e source failure × (¬ IsMemoryFailure failure))
 
 -- What is printed with an answer of this status: the job's note, if the source bears it out, or else a hint.
 abbrev pub IsHint : Job → List (List ℕ) → List ℕ → ℕ → Option (List ℕ) → Type 0
 IsHint job files source status hint =
-    (told : Result (Option (String Global)) Failure) × TellsNote (encoding_of job.encoding) source job.note told
-    × IsHintAfter told (IsHintOf job.source (encoding_of job.encoding) job.command files source status) hint
+    ((line : List ℕ) × IsNoteOf (encoding_of job.encoding) source job.note line × (hint ≡ Some line))
+    ⊎ (IsUntold (encoding_of job.encoding) source job.note × IsHintOf job.source (encoding_of job.encoding) job.command files source status hint)

@@ -6,7 +6,7 @@ ghost use Rattle.counted_io.specs.Streams.{IsSameSink};
 ghost use Rattle.java_properties.specs.Maps.{characters};
 ghost use Rattle.properties_text.specs.Encoding.{encoding_of};
 ghost use Rattle.properties_tables.specs.Messages.{HasPrintedLine};
-ghost use Rattle.properties_tools.specs.Private.Hinting.{FindsFileHint, FindsHint, FindsPrefix, TellsDoubt};
+ghost use Rattle.properties_tools.specs.Private.Hinting.{is_input, FindsFileHint, FindsHint, FindsNote, FindsPrefix, TellsDoubt};
 ghost use Rattle.properties_tools.specs.Propedit.Hints.{hint_bytes, key_line, misread_line, possible_files, prefix_hint, prefix_line, prefix_of, reading_line, refused_files, without_first, NotesMisread, PrintsHint, PrintsMisread, TellsNote};
 
 use crate::propedit::list::list;
@@ -148,12 +148,8 @@ pub(crate) fn hint(
 ) -> Result<Option<String>, Failure>
     ensures { FindsHint job.now (map characters files.now) source.now status result }
 {
-    match told(alloc, source, job.encoding, &job.note) {
-        Ok(Some(line)) => return Ok(Some(line)),
-        Ok(None) => {}
-        // Memory ran out. Otherwise the source is refused, which the command has allowed.
-        Err(Failure::Input(error)) => return Err(Failure::Input(error)),
-        Err(_refusal) => {}
+    if let Some(line) = note_line(alloc, source, job.encoding, &job.note)? {
+        return Ok(Some(line));
     }
     match &job.command {
         Command::Get(_, _, _) | Command::Comment(_) => file_hint(
@@ -169,6 +165,33 @@ pub(crate) fn hint(
             _ => Ok(None),
         },
     }
+}
+
+// Returns the line of a note that the source bears out. A source that is refused bears out none.
+fn note_line(
+    alloc: Global,
+    source: &[u8],
+    encoding: Encoding,
+    note: &Option<Note>,
+) -> Result<Option<String>, Failure>
+    ensures { FindsNote (encoding_of encoding) source.now note.now result }
+{
+    let failure = match told(alloc, source, encoding, note) {
+        Ok(line) => return Ok(line),
+        Err(failure) => failure,
+    };
+    if is_memory(&failure) {
+        Err(failure)
+    } else {
+        Ok(None)
+    }
+}
+
+// Returns whether memory ran out, if nothing was read.
+fn is_memory(failure: &Failure) -> bool
+    ensures { result ≡ is_input failure.now }
+{
+    matches!(failure, Failure::Input(_))
 }
 
 /// Prints a hint, if there is one.

@@ -1,19 +1,17 @@
-use Rattle.std.proofs.Common.{refl, inr, rules}
+use Rattle.std.proofs.Common.{refl, inr}
 use Rattle.properties_tools.proofs.propedit.print_answer.Goals as goal
 
 pub returns-in-Ok-clause-prints : goal.returns-in-Ok-clause-prints
 returns-in-Ok-clause-prints g c =
-    let answers = rw c.deref.ensures.value at c.in_ok-answer.ensures in
-    let hints = rw c.deref-2.ensures.value at c.in_ok-hint.ensures in
-    let writes = rw c.deref-3.ensures.value at c.in-Ok.ensures.writes in (
-      c.in_ok-answer.answer,
-      record { source = c.in_ok-source.source.items; read = search rules; answers = answers; writes = writes },
-      refl,
-      hints,
-    )
+    let writes = rw c.deref.ensures.value at c.in-Ok.ensures.writes in
+    (c.in_ok-answer.answer, record { answers = c.in_ok-answer.ensures; writes = writes }, refl, c.in_ok-hint.ensures)
 
 pub returns-clause-prints : goal.returns-clause-prints
 returns-clause-prints g c =
-    let answers = rw c.deref.ensures.value at c.in_ok-answer.ensures in
-    let writes = rw c.deref-3.ensures.value at c.in-Err.ensures.writes in
-    inr (inr (record { answer = c.in_ok-answer.answer; error = c.in-Err.error; prints = search rules; is = refl }))
+    let writes = rw c.deref.ensures.value at c.in-Err.ensures.writes in
+    inr (record {
+      answer = c.in_ok-answer.answer;
+      error = c.in-Err.error;
+      prints = record { answers = c.in_ok-answer.ensures; writes = writes };
+      is = refl;
+    })

@@ -34,6 +34,6 @@ returns c =
       is_report = rw (← c.base.view_is) (said-against c.args.source.name.now (encoding_of c.args.encoding) c.args.asked c.args.source.bytes.now r
           c.in_ok-text.ensures keys sound.1 (known_base c.base.inside) c.are_well_formed.result c.push_lacking.new.text c.push_lacking-2.new.text read both
           missing surplus);
-      text = c.reported.ensures.text;
-      status = c.reported.ensures.status;
+      text = c.reported-2.ensures.text;
+      status = c.reported-2.ensures.status;
     }
