@@ -1,7 +1,7 @@
 #!/usr/bin/env python3
 """Counts the instructions a byte on each input of bench/inputs.py: counts.py PROPFILTER PROPEDIT CALLS [NAME ..]
 
-The three are built programs; bench/build_calls builds CALLS. It prints the table of instructions as docs/BENCHMARKS.md has it, or
+The three are built programs; bench/build_calls builds CALLS. It prints the table of instructions as bench/RESULTS.md has it, or
 the rows of the inputs that are named. `pairs` and `shipped` are read in UTF-8 too, which propedit takes if nothing is said. Calls of
 the library are counted without reading the input, beside bench/by_hand.rs, which rustc builds; both know windows-1252 alone here. It
 needs valgrind, and takes some ten minutes.

@@ -1,5 +1,5 @@
 #!/usr/bin/env python3
-"""Runs what docs/PROPEDIT.md shows for Git, in repositories of its own: the hook, and the setting of textconv.
+"""Runs what docs/RECIPES.md shows for Git, in repositories of its own: the hook, and the setting of textconv.
 
     tests/try_git.py PROPEDIT
 """
@@ -10,7 +10,7 @@ import subprocess
 import sys
 import tempfile
 
-PAGE = pathlib.Path(__file__).resolve().parent.parent / "docs/PROPEDIT.md"
+PAGE = pathlib.Path(__file__).resolve().parent.parent / "docs/RECIPES.md"
 GOOD, BROKEN = b"a = 1\n", b"a = \\u12\n"
 
 
@@ -75,8 +75,8 @@ def compared(repository):
 def main():
     page = PAGE.read_text()
     program = pathlib.Path(sys.argv[1]).resolve()
-    hook = re.search(r"As `\.git/hooks/pre-commit`(?:.+\n)+\n((?:    .*\n)+)", page)[1]
-    setting = re.search(r"^    (git config diff\.properties\.textconv .*)$", page, re.M)[1]
+    hook = re.search(r"^    \$ cat \.git/hooks/pre-commit\n((?:    [^$\n].*\n)+)", page, re.M)[1]
+    setting = re.search(r"^    \$ (git config diff\.properties\.textconv .*)$", page, re.M)[1]
     faults, count = [], 0
     for cases in (commits, compared):
         with tempfile.TemporaryDirectory() as folder:

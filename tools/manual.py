@@ -13,8 +13,11 @@ import sys
 
 TOP = pathlib.Path(__file__).resolve().parent.parent
 PAGES = {"PROPEDIT.md": "propedit", "PROPFILTER.md": "propfilter"}
-PLACEHOLDER = re.compile(r"\b(FILE|KEY|VALUE|NAME|PREFIX|ENCODING|OPTION|COMMAND)\b")
-CODE = re.compile("(`[^`]+`)")
+PLACEHOLDER = re.compile(
+    r"\b((?:ARGUMENT|COMMAND|EDIT|ENCODING|FILE|KEY|KIND|LINE|NAME|NEW|OLD|OPTION|PAIR|PREFIX|REASON|TEXT|VALUE)s?)\b"
+)
+# What is typed, or printed in bold.
+CODE = re.compile(r"(`[^`]+`|\*\*[^*`]+\*\*)")
 TERM = re.compile("- ((?:`[^`]+`)(?:, `[^`]+`)*): (.*)")
 SENTENCE_END = re.compile(r"(?<=[\w)`]\.) (?=[A-Z`])")
 SHORT = 40
@@ -36,7 +39,9 @@ def inline(text):
     """Prose: code is bold, and what stands for a word of the caller's is italic."""
     out = ""
     for part in CODE.split(text):
-        if CODE.fullmatch(part):
+        if part.startswith("**"):
+            out += r"\fB" + with_placeholders(part[2:-2], "B", False) + r"\fR"
+        elif CODE.fullmatch(part):
             typed = with_placeholders(part[1:-1], "B", True)
             # A blank of short code neither ends a line nor is stretched.
             out += r"\fB" + (typed.replace(" ", r"\ ") if len(part) <= SHORT else typed) + r"\fR"
