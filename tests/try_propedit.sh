@@ -1106,7 +1106,7 @@ given '\xef\xbb\xbfa=\xe9'
 run -e windows-1252 get a
 gives 2 '' 'propedit: standard input:1: not UTF-8, though a byte order mark says so\n'
 run check
-gives 1 'standard input:1: not UTF-8, though a byte order mark says so\nstandard input:1: begins with a byte order mark, which Java reads as part of a key\n' ''
+gives 1 'standard input:1: begins with a byte order mark, which Java reads as part of a key\nstandard input:1: not UTF-8, though a byte order mark says so\n' ''
 
 # UTF-16 whose byte order mark is missing, taken as UTF-8
 
@@ -1343,9 +1343,13 @@ is_refused "'merge -' reads standard input; '-f FILE' or '-i FILE' names the fil
 is_refused "the option '-x' cannot be used with '--known'" 'Usage: propedit merge [OPTION ..] FILE' merge -x --known a
 
 # KEY and VALUE that both look like NAME=TEXT are refused, unless -- comes before them.
-for words in 'a=1 b=2' 'a=1 b=2 c=3' 'a=1 b=2 set c 3' 'a=x b==x'; do
+for words in 'a=1 b=2' 'a=x b==x'; do
     set -- $words
     is_refused "'set $1 $2': did you mean 'set ${1/=/ } set ${2/=/ }'? For the key '$1', write 'set -- $1 $2'" "$(shape set)" \
+        -i app.properties set $words
+done
+for words in 'a=1 b=2 c=3' 'a=1 b=2 set c 3'; do
+    is_refused "'set a=1 b=2': did you mean 'set a 1 set b 2 set c 3'? For the key 'a=1', write 'set -- a=1 b=2 ..'" "$(shape set)" \
         -i app.properties set $words
 done
 is_refused "'set a= b=1 2': did you mean 'set a \"\" set b \"1 2\"'? For the key 'a=', write 'set -- a= \"b=1 2\"'" "$(shape set)" set a= 'b=1 2'
