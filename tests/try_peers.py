@@ -4,7 +4,7 @@
     tests/try_peers.py [JARS]    the directory of Debian's jars, /usr/share/java if omitted
 
 Packages of Debian that it uses: crudini, python3-javaproperties, jq, yq, ant, libtomcat9-java, liblog4j2-java,
-libmaven-filtering-java and a JDK. It skips, and names, what isn't there.
+libmaven-filtering-java, libspring-core-java and a JDK. It skips, and names, what isn't there.
 """
 import os
 import pathlib
@@ -28,6 +28,10 @@ SHOWN = 'System.out.write((%s + "\\n").getBytes("utf-8")); System.out.flush();'
 LOAD = 'var p = new java.util.Properties(); p.load(new java.io.FileInputStream("f.properties"));'
 BUNDLE = 'java.util.ResourceBundle.getBundle("f").getString("k")'
 FILTER = 'org.apache.maven.shared.filtering.PropertyUtils.loadPropertyFile(new java.io.File("f.properties"), null).getProperty("k")'
+SPRING = (
+    "org.springframework.core.io.support.PropertiesLoaderUtils.loadProperties("
+    'new org.springframework.core.io.FileSystemResource("f.properties")).getProperty("k")'
+)
 TOMCAT = 'org.apache.catalina.startup.CatalinaProperties.getProperty("k")'
 LOG4J = 'org.apache.logging.log4j.LogManager.getLogger("a").error("x");'
 LOG4J_FILE = b"""
@@ -95,6 +99,8 @@ def claims():
     yield "Tomcat", ["java", *catalina], lambda: reads_latin_1(tomcat)
     filters = [*jar_files("maven-filtering", "maven-shared-utils", "slf4j-api", "slf4j-nop", "plexus-utils2"), *JARS.glob("commons-io.jar")]
     yield "Maven filters", ["java", *filters], lambda: reads_latin_1(lambda k: java(SHOWN % FILTER, b"k=" + k, filters)[0])
+    spring = jar_files("spring3-core", "jcl-over-slf4j", "slf4j-api", "slf4j-nop")
+    yield "Spring's PropertiesLoaderUtils", ["java", *spring], lambda: reads_latin_1(lambda k: java(SHOWN % SPRING, b"k=" + k, spring)[0])
     log4j = jar_files("log4j-api", "log4j-core")
     logged = lambda k: java(LOG4J, jars=log4j, words=["-Dlog4j2.configurationFile=f.properties"], data=LOG4J_FILE % k)[0]
     yield "Log4j 2", ["java", *log4j], lambda: reads_latin_1(logged)
