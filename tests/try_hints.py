@@ -6,7 +6,8 @@
 A hint is in quotes after "did you mean", "use" or "write", or is all that comes after "use:". A shell runs it. If it isn't a
 command, it takes the place of the word that the message names; if it names no file, the row's -f or -i does. Names that
 aren't files of the row are empty files. The hint has to be accepted, and edits have to make of the pairs of its file what
-they say. Edits have all texts of the row, or "..", which isn't run, for those that they leave out.
+they say. Edits have all texts of the row, or "..", which isn't run, for those that they leave out. With "put quotes
+around", the row has no unknown edit any more, and neither its key nor a word after the first is a setting or an edit.
 """
 import collections
 import pathlib
@@ -20,7 +21,7 @@ from try_rows import ROWS, make_files, rows_in
 
 EDITS = ["set", "remove", "rename", "set-comment"]
 COMMANDS = ["get", "list", "comment", "check", "diff", *EDITS, "merge", "convert", "help"]
-HINT = re.compile(r"(?:did you mean|\buse|\bwrite) '([^']+)'")
+HINT = re.compile(r"(?:did you mean|\buse|\bwrite|\bput quotes around) '([^']+)'")
 OTHER = re.compile(r"; use: (.*)$")
 NAME = re.compile(r"[a-zA-Z][\w.]*")
 FILE_OPTIONS = ["-f", "-i", "--file", "--in-place"]
@@ -102,10 +103,25 @@ def edited(pairs, words):
     return pairs
 
 
+def wrong_quotes(program, row, typed, text):
+    """What is wrong with quotes around words of a row, if anything is."""
+    ends = range(len(typed) + 1)
+    at, end = next((at, end) for at in ends for end in ends if " ".join(typed[at:end]) == text)
+    key = [] if typed[at - 2] == "--" else [typed[at - 1]]
+    if any(word in EDITS or re.search("[=: ]", word) for word in key + typed[at + 1 : end]):
+        return "with a setting or an edit"
+    with tempfile.TemporaryDirectory() as name:
+        make_files(pathlib.Path(name), row)
+        done = run(program, [*typed[:at], text, *typed[end:]], name, row.input)
+    return f"{done.stderr!r:.200}" if done.stderr.startswith(b"propedit: unknown edit") else None
+
+
 def wrong_with(program, row, message, hint):
     """What is wrong with a hint, if anything is."""
     is_other = hint not in HINT.findall(message)
     typed = [word.decode() for word in row.words]
+    if f"put quotes around '{hint}'" in message:
+        return wrong_quotes(program, row, typed, hint)
     if lost(hint, typed):
         return f"without {', '.join(lost(hint, typed))}"
     words = shlex.split(hint) if is_other else command_of(hint, message, typed)

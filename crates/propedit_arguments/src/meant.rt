@@ -78,8 +78,11 @@ impl<'a> Meant<'a> {
         self.is_implied && self.words.is_empty()
     }
 
-    /// Returns whether each argument is one of an edit.
+    /// Returns whether each argument is one of an edit, and may be shown.
     pub(crate) fn is_whole(self) -> bool {
+        if self.words.iter().any(has_control) {
+            return false;
+        }
         let mut meant = self;
         // There are no more edits than arguments.
         for _ in self.words {
@@ -175,6 +178,11 @@ pub(crate) fn is_text(word: &String) -> bool {
     !word.is_empty() && !word.starts_with('-') && edit_named(word.as_str()).is_none()
 }
 
+/// Returns whether an argument has a control character, which no hint can show.
+pub(crate) fn has_control(word: &String) -> bool {
+    word.chars().any(|character| character.is_control())
+}
+
 /// Returns whether a text is what stands between a key and its value in a file.
 pub(crate) fn is_sign(text: &str) -> bool {
     matches!(text, "=" | ":")
@@ -184,19 +192,24 @@ pub(crate) fn is_sign(text: &str) -> bool {
 fn mended<'a>(name: &'static str, key: &'a str, text: &'a str) -> Option<Shown<'a>> {
     match name {
         "set" if is_odd(key) && is_sign(text) => None,
-        "set" => Some(Shown(name, key_before(key)?, Some(text))),
-        "rename" => Some(Shown(name, key, Some(key_before(text)?))),
+        "set" => Some(Shown(name, key_of(key)?, Some(text))),
+        "rename" => Some(Shown(name, key, Some(key_of(text)?))),
         _ => Some(Shown(name, key, Some(text))),
     }
 }
 
-// Returns a key without what ends it, unless it is empty then, or ends in a backslash.
-fn key_before(key: &str) -> Option<&str> {
-    let key = if is_odd(key) {
-        key.trim_end_matches(KEY_ENDS)
+// Returns the key that is meant by one that may end in what ends it in a file.
+fn key_of(key: &str) -> Option<&str> {
+    if is_odd(key) {
+        key_before(key)
     } else {
-        key
-    };
+        Some(key)
+    }
+}
+
+// Returns a key without what ends it, unless it is empty then, or ends in a backslash, to which that may belong.
+fn key_before(key: &str) -> Option<&str> {
+    let key = key.trim_end_matches(KEY_ENDS);
     if key.is_empty() || key.ends_with('\\') {
         return None;
     }

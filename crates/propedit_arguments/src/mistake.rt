@@ -141,7 +141,7 @@ pub enum Mistake<'a> {
     FewFiles(&'static CommandRow),
     /// Both files of this command are standard input.
     OneInput(&'static CommandRow),
-    /// This command has a base, and no file to check beside it.
+    /// This command has a base, and no file to check with it.
     NothingToCheck(&'static CommandRow),
     /// After the argument of this command comes what looks like an option.
     OptionAfter(&'a str, &'static CommandRow),
@@ -410,7 +410,7 @@ fn show_input_twice<W: fmt::Write>(
     )
 }
 
-// Prints that a base needs a file beside it.
+// Prints that a base needs a file to check with it.
 fn show_nothing_to_check<W: fmt::Write>(
     f: &mut fmt::Formatter<W>,
     row: &'static CommandRow,

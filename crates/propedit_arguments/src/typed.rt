@@ -2,7 +2,7 @@
 
 use crate::command_line::{CommandName, CommandRow, OptionName, command_named, option_in};
 use crate::edits::{refuse_odd_name, refuse_slips};
-use crate::meant::{Meant, Shown, is_sign};
+use crate::meant::{Meant, Shown, has_control, is_sign};
 use crate::options::Options;
 use crate::shell::Quoted;
 use std::fmt;
@@ -85,9 +85,10 @@ pub(crate) fn edit_named(word: &str) -> Option<&'static CommandRow> {
 /// The arguments around an edit that is wrong, or around one that is no edit.
 #[derive(Clone, Copy, Debug)]
 pub struct Stray<'a> {
-    /// The command, and all arguments after its options, but for the one that is known to be a file. There are none
-    /// beside a file if no edits are meant by them.
+    /// The command.
     pub row: &'static CommandRow,
+    /// All arguments after its options, except the one that is known to be a file. It is empty if no edits are meant by
+    /// them.
     pub words: &'a [String],
     /// The wrong edit, or the one before the argument.
     pub edit: TypedEdit<'a>,
@@ -119,6 +120,11 @@ impl<'a> Stray<'a> {
         self.words.first().map_or("", |word| word.as_str())
     }
 
+    /// Returns whether an argument has a control character.
+    pub(crate) fn has_control(self) -> bool {
+        self.words.iter().any(has_control)
+    }
+
     /// Returns the edits that all arguments are meant for.
     pub(crate) fn meant(self) -> Meant<'a> {
         Meant::by(self.row, self.words)
@@ -127,6 +133,13 @@ impl<'a> Stray<'a> {
     /// Returns the edit that is meant by the wrong one, if it tells, and those after it.
     pub(crate) fn mended(self) -> Option<(Shown<'a>, Meant<'a>)> {
         Meant::by(self.edit.row, self.edit.words).first()
+    }
+
+    /// Returns whether the wrong edit and the arguments up to the next one are edits by themselves.
+    pub(crate) fn is_run_meant(self) -> bool {
+        let left = self.edit.after.len().saturating_sub(self.edit.run().len());
+        let count = self.edit.words.len().saturating_sub(left);
+        Meant::by(self.edit.row, self.edit.words.get(..count).unwrap_or(&[])).is_whole()
     }
 
     /// Returns what stands in a hint for the arguments after the edit.

@@ -2,7 +2,7 @@
 
 use crate::command_line::{CommandName, CommandRow, command_meant};
 use crate::edits::is_odd;
-use crate::meant::{Shown, is_sign, is_text};
+use crate::meant::{KEY_ENDS, Shown, is_sign, is_text};
 use crate::mistake::show_meant;
 use crate::shell::Quoted;
 use crate::typed::{Before, Stray, TypedEdit};
@@ -47,6 +47,9 @@ fn show_stray<'a, W: fmt::Write>(
     if let Some(file) = stray.file {
         return show_file(f, word, file, stray);
     }
+    if stray.has_control() {
+        return show_any(f, word);
+    }
     if let Some(key) = key_before_dashes(edit) {
         let (before, key, text) = (Before(stray), Quoted(key), Quoted(word));
         let meant = "'--' goes before the KEY; did you mean";
@@ -83,12 +86,14 @@ fn key_before_dashes<'a>(edit: TypedEdit<'a>) -> Option<&'a str> {
     }
 }
 
-// Returns whether the text of an edit, or an argument after it, is hardly one. A key that ends in a comma is one of a
-// list.
+// Returns whether the text of an edit, or an argument after it, is hardly one, or its key. A key that ends in a comma is
+// one of a list.
 fn has_no_text(edit: TypedEdit<'_>) -> bool {
-    let is_listed = |key: &String| key.ends_with(',');
+    let is_no_key = |key: &String| {
+        key.ends_with(',') || !edit.is_literal && (key.contains(KEY_ENDS) || !is_text(key))
+    };
     let mut texts = edit.texts.iter().skip(1).chain(edit.run());
-    !texts.all(is_text) || edit.texts.iter().take(1).any(is_listed)
+    !texts.all(is_text) || edit.texts.iter().take(1).any(is_no_key)
 }
 
 // Prints how the file is named that an argument is.
@@ -122,11 +127,12 @@ fn show_quotes<'a, W: fmt::Write>(
     let words = stray.edit.run();
     let is_set = stray.edit.row.command == CommandName::Set;
     let put = match words {
-        [other, ..] if is_set && words.len() % 2 == 0 && is_plain(other) => {
+        [other, ..] if is_set && stray.is_run_meant() => {
             let other = Escaped(other.as_str());
             write!(f, "unknown edit '{other}'; did you mean '{stray}', or ")?;
             "?"
         }
+        [other, ..] if is_set && !words.iter().all(is_plain) => return show_any(f, other.as_str()),
         [other, ..] => {
             write!(f, "unknown edit '{}'; put ", Escaped(other.as_str()))?;
             ""
@@ -140,9 +146,9 @@ fn show_quotes<'a, W: fmt::Write>(
     write!(f, "'{put}")
 }
 
-// Returns whether a key is written without `--`.
-fn is_plain(key: &str) -> bool {
-    !key.contains('=') && !is_odd(key)
+// Returns whether an argument has no sign of a setting.
+fn is_plain(word: &String) -> bool {
+    !word.contains('=') && !is_odd(word.as_str())
 }
 
 /// Prints that an edit of a key has no second text, and how to write a key that was taken for an option.
@@ -182,7 +188,7 @@ pub(crate) fn show_odd<W: fmt::Write>(
     stray: Option<Stray<'_>>,
 ) -> fmt::Result {
     show_end(f, key)?;
-    let Some(stray) = stray else {
+    let Some(stray) = stray.filter(|stray| !stray.has_control()) else {
         return Ok(());
     };
     let is_mended = stray.mended().is_some();
@@ -220,7 +226,7 @@ pub(crate) fn show_odd_name<W: fmt::Write>(
     stray: Option<Stray<'_>>,
 ) -> fmt::Result {
     match stray {
-        Some(stray) if is_sign(new) && stray.mended().is_some() => {
+        Some(stray) if is_sign(new) && stray.mended().is_some() && !stray.has_control() => {
             let old = Escaped(old);
             write!(
                 f,
@@ -239,8 +245,8 @@ pub(crate) fn show_two_assignments<W: fmt::Write>(
     stray: Option<Stray<'_>>,
 ) -> fmt::Result {
     write!(f, "'set {} {}'", Escaped(key), Escaped(value))?;
-    let Some(stray) = stray else {
-        return Ok(());
+    let Some(stray) = stray.filter(|stray| !stray.has_control()) else {
+        return f.write_str(": each key is set by 'set KEY VALUE'");
     };
     let itself = Shown("set", key, Some(value));
     let (key, before, rest) = (Escaped(key), Before(stray), stray.rest());
